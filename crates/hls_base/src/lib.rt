@@ -1,0 +1,11 @@
+//! What every crate of the compiler speaks of: texts, places, points, settings, and the outside.
+#![tactic(auto)]
+
+pub mod inputs;
+pub mod number;
+pub mod place;
+pub mod point;
+pub mod refusal;
+pub mod settings;
+pub mod text;
+pub mod words;

@@ -1,0 +1,60 @@
+ghost use Rattle.std.specs.Prelude.{◌≡◌};
+
+use std::alloc::Global;
+use std::marker::Model;
+
+/// A list of numbers, as bit patterns of values or numbers of nodes.
+#[derive(Debug, Drop)]
+pub struct Words {
+    words: Vec<u64>,
+}
+
+impl Model for Words {
+    ghost use Rattle.std.specs.Prelude.{List, ℕ};
+
+    ghost Value = { List ℕ };
+
+    ghost view = { λ w. w.words.items };
+}
+
+impl Words {
+    pub fn new(items: Vec<u64>) -> Words
+        ensures { result ≡ items.items }
+    {
+        Words { words: items }
+    }
+
+    pub fn items(&self) -> &[u64]
+        ensures { result.now ≡ self.now }
+    {
+        self.words.as_slice()
+    }
+}
+
+/// The elements of several arrays, each row by row.
+#[derive(Debug, Drop)]
+pub struct Arrays {
+    arrays: Vec<Words>,
+}
+
+impl Model for Arrays {
+    ghost use Rattle.std.specs.Prelude.{List, ℕ};
+
+    ghost Value = { List (List ℕ) };
+
+    ghost view = { λ a. a.arrays.items };
+}
+
+impl Arrays {
+    pub fn new(items: Vec<Words>) -> Arrays
+        ensures { result ≡ items.items }
+    {
+        Arrays { arrays: items }
+    }
+
+    pub fn items(&self) -> &[Words]
+        ensures { result.now ≡ self.now }
+    {
+        self.arrays.as_slice()
+    }
+}
