@@ -1,5 +1,5 @@
 -- How often each point was passed.
-use Rattle.std.specs.Prelude.{◌≡◌, ℕ, ◌<◌, List, length, slice_get, Some, map}
+use Rattle.std.specs.Prelude.{◌≡◌, ℕ, List, slice_get, Some}
 use Rattle.hls_base.specs.declared.point.Point.{Point}
 
 -- no point stands twice
