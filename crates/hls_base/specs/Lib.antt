@@ -1,2 +1,4 @@
 pub mod Tallies
 pub mod PlaceText
+pub mod FileScope
+pub mod ArrayAddress
