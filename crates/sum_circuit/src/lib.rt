@@ -1,0 +1,4 @@
+//! The circuit of a sum.
+#![tactic(auto)]
+
+pub mod circuit;
