@@ -1,2 +1,4 @@
 pub mod Tallies
 pub mod PlaceText
+pub mod Outside
+pub mod Memory

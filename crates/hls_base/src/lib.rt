@@ -2,7 +2,9 @@
 #![tactic(auto)]
 
 pub mod inputs;
+pub mod memory;
 pub mod number;
+pub mod outside;
 pub mod place;
 pub mod point;
 pub mod refusal;

@@ -1,0 +1,12 @@
+use Rattle.std.proofs.Common.{◌/◌, length, arith, rules}
+use Rattle.std.proofs.lemmas.Grind.{common_steps}
+use Rattle.hls_base.proofs.FileLists.{is_written, is_cut_short}
+use Rattle.hls_base.proofs.memory.MemoryShelfShelf.write.Goals as goal
+
+pub returns-then-fault-2-clause-cut_short : goal.returns-then-fault-2-clause-cut_short
+returns-then-fault-2-clause-cut_short c =
+    is_cut_short c.args.self.now.files c.set_file.new.files.items c.args.name.now c.args.bytes.now (length c.args.bytes.now / 2) (search rules)
+
+pub returns-clause-written : goal.returns-clause-written
+returns-clause-written c =
+    is_written c.args.self.now.files c.set_file.new.files.items c.args.name.now c.args.bytes.now (search rules)
