@@ -1,5 +1,5 @@
 -- Lists of files by name: the place of a name, and what stands under each name after one is written.
-use Rattle.std.proofs.Common.{◌≡◌, ◌⊎◌, ◌<◌, ◌+◌, ℕ, zero, suc, Bool, true, false, cond, List, [], ◌∷◌, ◌++◌, length, get_or, set, take, Option, Some, None, sym, ◌∙◌, ap, refl, inl, inr, arith, ltb}
+use Rattle.std.proofs.Common.{◌≡◌, ◌⊎◌, ◌<◌, ◌+◌, ℕ, zero, suc, Bool, true, false, cond, List, [], ◌∷◌, ◌++◌, length, get_or, set, take, drop, drop-cons, Option, Some, None, sym, ◌∙◌, ap, refl, inl, inr, arith, ltb}
 use Rattle.std.specs.Prelude.{position}
 use Rattle.std.specs.List.{position_or_len, position_from}
 use Rattle.std.specs.Str.{bytes_eq}
@@ -7,7 +7,7 @@ use Rattle.std.proofs.lemmas.Bool.{cases_Bool}
 use Rattle.std.proofs.lemmas.List.Quantifiers.{position-Some}
 use Rattle.std.proofs.lemmas.Iterator.Adapters.{position_from-zero}
 use Rattle.std.proofs.lemmas.Slice.Eq.{bytes_eq-Decides}
-use Rattle.hls_base.specs.Memory.{file_named, with_file}
+use Rattle.hls_base.specs.Memory.{file_named, with_file, HasDistinctNames}
 use Rattle.hls_base.specs.Outside.{IsWritten, IsCutShort}
 
 abbrev pub Files : Type 0
@@ -107,3 +107,10 @@ is_cut_short old new name bytes n e =
       file = inr (n, with_file_has_it old name (take n bytes));
       others = with_file_keeps_others old name (take n bytes);
     })
+
+-- from the later files on to this one
+pub distinct_from_rest : (files : Files) (i : ℕ) (d : List ℕ × List ℕ) → i < length files → file_named (drop (suc i) files) (get_or files i d).0 ≡ None → HasDistinctNames (drop (suc i) files) → HasDistinctNames (drop i files)
+distinct_from_rest files i d within alone rest = rw (drop-cons files i d) (alone, rest)
+
+pub rest_from_distinct : (files : Files) (i : ℕ) (d : List ℕ × List ℕ) → i < length files → HasDistinctNames (drop i files) → (file_named (drop (suc i) files) (get_or files i d).0 ≡ None) × HasDistinctNames (drop (suc i) files)
+rest_from_distinct files i d within all = let both = rw (drop-cons files i d) at all in (both.0, both.1)

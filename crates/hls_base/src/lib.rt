@@ -7,6 +7,7 @@ pub mod number;
 pub mod outside;
 pub mod place;
 pub mod point;
+pub mod real;
 pub mod refusal;
 pub mod settings;
 pub mod text;

@@ -2,7 +2,7 @@
 ghost use Rattle.std.specs.Prelude.{◌≡◌, ◌≤◌, ◌∷◌, ◌++◌, ◌/◌, ◌⊎◌, ◌↔◌, [], Option, List, ℕ, Bool, true, false, IsTrue, IfOk, OnOk, OnErr, IsErrOf, MatchOption, length, take, position, vec_len, is_some, ◌&&◌, Some, None};
 ghost use Rattle.std.specs.Option.{option_copied};
 ghost use Rattle.std.specs.Str.{bytes_eq};
-ghost use Rattle.hls_base.specs.Memory.{file_named, with_file, HasDistinctNames, is_due, one_more, count_after, read_fails, after_read, after_write};
+ghost use Rattle.hls_base.specs.Memory.{file_named, with_file, HasDistinctNames, is_due, one_more, count_after, read_fails, after_read, after_write, after_put};
 ghost use Rattle.hls_base.specs.Outside.{HasRisen, NeverFalls, WhereTold, AreFirstBytes, IsAbsent, IsWritten, IsCutShort, PutsAll, PutsPrefix};
 
 use crate::outside::{Shelf, ShelfError, Sink, SinkError};
@@ -53,6 +53,19 @@ fn find_file<'a>(files: &'a [(Text, Text)], name: &[u8]) -> Option<&'a [u8]>
         }
         None => None,
     }
+}
+
+/// Whether no two of these files have one name.
+pub fn names_differ(files: &[(Text, Text)]) -> bool
+    ensures { IsTrue result ↔ HasDistinctNames files.now }
+{
+    for i in 0..files.len() {
+        let file = &files[i];
+        if find_file(&files[i + 1..], file.0.items()).is_some() {
+            return false;
+        }
+    }
+    true
 }
 
 // Makes these bytes the file of this name.
@@ -179,6 +192,86 @@ impl Shelf for MemoryShelf {
         set_file(self.alloc, &mut self.files, name.as_bytes(), kept)?;
         if fault {
             return Err(ShelfError::Failed);
+        }
+        Ok(())
+    }
+}
+
+/// Bytes that are put into memory. Its calls are numbered from 0.
+#[derive(Debug, Drop)]
+pub struct MemorySink {
+    bytes: Vec<u8>,
+    fails: Words,
+    calls: u64,
+    faults: u64,
+}
+
+impl Model for MemorySink {
+    ghost use Rattle.hls_base.specs.Memory.{HeldBytes};
+
+    ghost Value = { HeldBytes };
+
+    ghost view = { λ s. record { written = s.bytes.items; fails = s.fails; calls = s.calls; faults = s.faults } };
+}
+
+impl MemorySink {
+    ghost use Rattle.std.specs.Prelude.{◌≡◌, []};
+
+    /// Takes no memory.
+    pub fn new(alloc: Global, fails: Words) -> MemorySink
+        ensures { result ≡ record { written = []; fails = fails; calls = 0; faults = 0 } }
+    {
+        MemorySink {
+            bytes: Vec::new(alloc),
+            fails,
+            calls: 0,
+            faults: 0,
+        }
+    }
+
+    /// The bytes put so far. Takes no memory.
+    pub fn written(&self) -> &[u8]
+        ensures { result.now ≡ self.now.written }
+    {
+        self.bytes.as_slice()
+    }
+
+    /// How often a call failed because its number is among `fails`.
+    pub fn faults(&self) -> u64
+        ensures { result ≡ self.now.faults }
+    {
+        self.faults
+    }
+}
+
+impl Sink for MemorySink {
+    ghost written = { λ s. Some s.written };
+
+    ghost faults = { λ s. s.faults };
+
+    fn put(&mut self, bytes: &[u8]) -> Result<(), SinkError>
+        ensures all { OnOk result (WhereTold (PutsAll bytes.now) (Some self.old.written) (Some self.new.written)) }
+        ensures prefix { OnErr result (WhereTold (PutsPrefix bytes.now) (Some self.old.written) (Some self.new.written)) }
+        ensures failed { IsErrOf result SinkError.Failed → HasRisen self.old.faults self.new.faults }
+        ensures count { NeverFalls self.old.faults self.new.faults }
+
+        ensures ok { OnOk result (is_due self.old.fails self.old.calls ≡ false) }
+        ensures due { IsErrOf result SinkError.Failed → is_due self.old.fails self.old.calls ≡ true }
+        ensures whole { OnOk result (self.new ≡ after_put self.old bytes.now) }
+        ensures half { IsErrOf result SinkError.Failed → self.new ≡ after_put self.old (take (length bytes.now / 2) bytes.now) }
+        ensures memory { IsErrOf result SinkError.Memory → self.new ≡ after_put self.old [] }
+    {
+        let fault = fails_at(&self.fails, self.calls);
+        self.calls = count_after_call(true, self.calls);
+        self.faults = count_after_call(fault, self.faults);
+        let kept = if fault {
+            &bytes[..bytes.len() / 2]
+        } else {
+            bytes
+        };
+        self.bytes.extend_from_slice(kept)?;
+        if fault {
+            return Err(SinkError::Failed);
         }
         Ok(())
     }
