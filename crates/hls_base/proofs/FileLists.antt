@@ -114,3 +114,18 @@ distinct_from_rest files i d within alone rest = rw (drop-cons files i d) (alone
 
 pub rest_from_distinct : (files : Files) (i : ℕ) (d : List ℕ × List ℕ) → i < length files → HasDistinctNames (drop i files) → (file_named (drop (suc i) files) (get_or files i d).0 ≡ None) × HasDistinctNames (drop (suc i) files)
 rest_from_distinct files i d within all = let both = rw (drop-cons files i d) at all in (both.0, both.1)
+
+-- no name comes twice by a write
+pub distinct_with_file : (files : Files) (name bytes : List ℕ) → HasDistinctNames files → HasDistinctNames (with_file files name bytes)
+distinct_with_file [] name bytes distinct = (refl, tt)
+distinct_with_file (file ∷ files) name bytes distinct =
+    elim (cases_Bool (bytes_eq file.0 name)) [
+      inl same ↦
+        let is_name : file.0 ≡ name = (bytes_eq-Decides file.0 name).0 same in
+        let alone : file_named files name ≡ None = rw (← is_name) distinct.0 in
+        rw same (alone, distinct.1)
+    | inr unlike ↦
+        let differs : (file.0 ≡ name → ⊥) = λ e. let same = (bytes_eq-Decides file.0 name).1 e in let clash = rw unlike at same in cc in
+        let alone : file_named (with_file files name bytes) file.0 ≡ None = rw (with_file_keeps_others files name bytes file.0 differs) distinct.0 in
+        rw unlike (alone, distinct_with_file files name bytes distinct.1)
+    ]

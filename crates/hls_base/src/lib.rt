@@ -12,3 +12,6 @@ pub mod refusal;
 pub mod settings;
 pub mod text;
 pub mod words;
+
+#[cfg(test)]
+mod tests;

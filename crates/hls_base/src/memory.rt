@@ -22,11 +22,13 @@ pub struct MemoryShelf {
 }
 
 impl Model for MemoryShelf {
-    ghost use Rattle.hls_base.specs.Memory.{HeldFiles};
+    ghost use Rattle.hls_base.specs.Memory.{HeldFiles, HasDistinctNames};
 
     ghost Value = { HeldFiles };
 
     ghost view = { λ s. record { files = s.files.items; fails = s.fails; calls = s.calls; faults = s.faults } };
+
+    ghost invariant = { λ s. HasDistinctNames s.files.items };
 }
 
 fn is_named(file: &(Text, Text), name: &[u8]) -> bool
