@@ -2,3 +2,5 @@ pub mod Tallies
 pub mod PlaceText
 pub mod FileScope
 pub mod ArrayAddress
+pub mod Outside
+pub mod Memory

@@ -1,6 +1,7 @@
-ghost use Rattle.std.specs.Prelude.{◌≡◌};
+ghost use Rattle.std.specs.Prelude.{◌≡◌, IfOk};
 
-use std::alloc::Global;
+use std::alloc::{AllocError, Global};
+use std::fmt;
 use std::marker::Model;
 
 /// Where a token stands: its line and column count from 1, and a column counts bytes. The part is 0 for a token of the source, and k for the k-th token that a macro name at this line and column was replaced by.
@@ -9,6 +10,24 @@ pub struct Place {
     pub line: u32,
     pub column: u32,
     pub part: u32,
+}
+
+impl fmt::Display for Place {
+    ghost use Rattle.std.specs.Prelude.{Some};
+    ghost use Rattle.hls_base.specs.PlaceText.{place_text};
+
+    ghost output = { λ p. Some (place_text p) };
+
+    fn fmt<W: fmt::Write>(&self, f: &mut fmt::Formatter<W>) -> fmt::Result {
+        let line = self.line;
+        let column = self.column;
+        let part = self.part;
+        if part == 0 {
+            write!(f, "{line}:{column}")
+        } else {
+            write!(f, "{line}:{column}.{part}")
+        }
+    }
 }
 
 /// The places of the calls that lead from the top function to a point, the outermost first.
@@ -37,5 +56,13 @@ impl Path {
         ensures { result.now ≡ self.now }
     {
         self.places.as_slice()
+    }
+
+    /// Another owner of the same places.
+    pub fn copy(&self, alloc: Global) -> Result<Path, AllocError>
+        ensures { IfOk result (λ p. p ≡ self.now) }
+    {
+        let places = Vec::from_slice(alloc, self.items())?;
+        Ok(Path { places })
     }
 }

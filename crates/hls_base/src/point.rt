@@ -1,7 +1,7 @@
-ghost use Rattle.std.specs.Prelude.{◌≡◌, map};
+ghost use Rattle.std.specs.Prelude.{◌≡◌, IfOk};
 
 use crate::place::{Path, Place};
-use std::alloc::Global;
+use std::alloc::{AllocError, Global};
 use std::marker::Model;
 
 /// What begins at a point, or that something ends there.
@@ -21,6 +21,20 @@ pub struct Point {
     pub path: Path,
     pub at: Place,
     pub kind: PointKind,
+}
+
+impl Point {
+    /// Another owner of the same point.
+    pub fn copy(&self, alloc: Global) -> Result<Point, AllocError>
+        ensures { IfOk result (λ p. p ≡ self.now) }
+    {
+        let path = self.path.copy(alloc)?;
+        Ok(Point {
+            path,
+            at: self.at,
+            kind: self.kind,
+        })
+    }
 }
 
 /// How often each point was passed. The points differ.

@@ -1,4 +1,4 @@
-ghost use Rattle.std.specs.Prelude.{◌≡◌};
+ghost use Rattle.std.specs.Prelude.{◌≡◌, alloc_error};
 
 use crate::place::Place;
 use std::alloc::{AllocError, AllocFailed};
@@ -54,6 +54,8 @@ impl<T: Drop> From<AllocFailed<T>> for Fail {
 }
 
 /// Stands where a case cannot come and its proof waits for another crate. It says that there is no memory.
-pub fn impossible() -> AllocError {
+pub fn impossible() -> AllocError
+    ensures { result ≡ alloc_error }
+{
     AllocError
 }

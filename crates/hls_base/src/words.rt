@@ -1,6 +1,6 @@
-ghost use Rattle.std.specs.Prelude.{◌≡◌};
+ghost use Rattle.std.specs.Prelude.{◌≡◌, IfOk};
 
-use std::alloc::Global;
+use std::alloc::{AllocError, Global};
 use std::marker::Model;
 
 /// A list of numbers, as bit patterns of values or numbers of nodes.
@@ -29,6 +29,14 @@ impl Words {
     {
         self.words.as_slice()
     }
+
+    /// Another owner of the same numbers.
+    pub fn copy(&self, alloc: Global) -> Result<Words, AllocError>
+        ensures { IfOk result (λ w. w ≡ self.now) }
+    {
+        let words = Vec::from_slice(alloc, self.items())?;
+        Ok(Words { words })
+    }
 }
 
 /// The elements of several arrays, each row by row.
@@ -56,5 +64,17 @@ impl Arrays {
         ensures { result.now ≡ self.now }
     {
         self.arrays.as_slice()
+    }
+
+    /// Another owner of the same elements.
+    pub fn copy(&self, alloc: Global) -> Result<Arrays, AllocError>
+        ensures { IfOk result (λ a. a ≡ self.now) }
+    {
+        let rows = self.items();
+        let mut arrays = Vec::with_capacity(alloc, rows.len())?;
+        for row in rows {
+            arrays.push(row.copy(alloc)?)?;
+        }
+        Ok(Arrays { arrays })
     }
 }
