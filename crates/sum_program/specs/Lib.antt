@@ -1,0 +1,3 @@
+pub mod SourceRow
+pub mod SumSource
+pub mod SumMeaning
