@@ -1,5 +1,5 @@
 -- The row of a sum, token by token.
-use Rattle.std.proofs.Common.{◌≡◌, ◌≢◌, refl, sym, ap, subst, ℕ, ◌<◌, List, [], ◌∷◌, length, take, drop, map, get_or, arith, ◌∙◌, codes}
+use Rattle.std.proofs.Common.{◌≡◌, ◌≢◌, refl, sym, ap, subst, ℕ, ◌<◌, List, [], ◌∷◌, length, take, drop, map, get_or, arith, ◌∙◌}
 use Rattle.std.proofs.lemmas.List.{length-map}
 use Rattle.std.proofs.Math.ListN.{get_or-map}
 use Rattle.hls_base.specs.declared.place.Place.{Place}
@@ -8,7 +8,7 @@ use Rattle.sum_program.specs.declared.program.Operand.{Operand}
 use Rattle.sum_program.specs.declared.program.Operand.TheVariants.{First, Second}
 use Rattle.sum_program.specs.declared.program.Sum.{Sum}
 use Rattle.sum_program.specs.SourceRow.{Spelled}
-use Rattle.sum_program.specs.SumSource.{IsSumRow, IsIdentifier, chosen, sum_texts}
+use Rattle.sum_program.specs.SumSource.{IsSumRow, IsIdentifier, chosen, form, sum_texts}
 use Rattle.sum_program.specs.Reading.{spelled}
 
 pub chosen_same : (first second : List ℕ) (o u : Operand) → first ≢ second → chosen first second o ≡ chosen first second u → o ≡ u
@@ -30,12 +30,6 @@ same_sum a b n p l r =
 -- what a read past the tokens would give
 abbrev pub nothing : Token
 nothing = record { text = record { ref_ptr = (0, 0); now = [] }; at = record { line = 0; column = 0; part = 0 } }
-
--- the 16 texts
-abbrev pub form : List ℕ → List ℕ → List ℕ → List ℕ → List ℕ → List (List ℕ)
-form name first second left right =
-    codes "unsigned" ∷ name ∷ codes "(" ∷ codes "unsigned" ∷ first ∷ codes "," ∷ codes "unsigned" ∷ second ∷ codes ")" ∷ codes "{" ∷ codes "return"
-    ∷ left ∷ codes "+" ∷ right ∷ codes ";" ∷ codes "}" ∷ []
 
 abbrev pub text_at : List Token → ℕ → Token → List ℕ
 text_at tokens k d = (get_or tokens k d).text.now

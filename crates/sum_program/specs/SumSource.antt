@@ -25,11 +25,14 @@ abbrev pub chosen : List ℕ → List ℕ → Operand → List ℕ
 chosen first second First = first
 chosen first second Second = second
 
--- the texts of its tokens
+-- the texts of the tokens
+abbrev pub form : List ℕ → List ℕ → List ℕ → List ℕ → List ℕ → List (List ℕ)
+form name first second left right =
+    codes "unsigned" ∷ name ∷ codes "(" ∷ codes "unsigned" ∷ first ∷ codes "," ∷ codes "unsigned" ∷ second ∷ codes ")" ∷ codes "{" ∷ codes "return"
+    ∷ left ∷ codes "+" ∷ right ∷ codes ";" ∷ codes "}" ∷ []
+
 abbrev pub sum_texts : Sum → List ℕ → List ℕ → List (List ℕ)
-sum_texts s first second =
-    codes "unsigned" ∷ s.name ∷ codes "(" ∷ codes "unsigned" ∷ first ∷ codes "," ∷ codes "unsigned" ∷ second ∷ codes ")" ∷ codes "{" ∷ codes "return"
-    ∷ chosen first second s.left ∷ codes "+" ∷ chosen first second s.right ∷ codes ";" ∷ codes "}" ∷ []
+sum_texts s first second = form s.name first second (chosen first second s.left) (chosen first second s.right)
 
 -- the tokens are those of this sum
 pub record IsSumRow (tokens : List Spelled) (s : Sum) : Type 0 where

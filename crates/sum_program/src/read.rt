@@ -1,6 +1,7 @@
 ghost use Rattle.std.specs.Prelude.{◌≡◌, ◌↔◌, ◌≢◌, ◌≤◌, List, ℕ, map, length, IsTrue, IfOk, IfSome, IfNone, MatchOption};
 ghost use Rattle.sum_program.specs.SourceRow.{Row, Spelled, IsWord, beginning};
 ghost use Rattle.sum_program.specs.SumSource.{IsSumSource, IsSumRow, IsIdentifier, chosen};
+ghost use Rattle.sum_program.specs.SumSource as spec;
 ghost use Rattle.std.specs.Borrow.{Bor};
 ghost use Rattle.sum_program.specs.Reading.{spelled};
 ghost use Rattle.sum_program.specs.declared.program.Sum.{Sum};
@@ -63,28 +64,9 @@ fn sum_of(alloc: Global, tokens: &[Token<'_>]) -> Result<Option<Sum>, AllocError
         return Ok(None);
     }
     let name = tokens[1];
-    let first = tokens[4].text;
-    let second = tokens[7].text;
-    let left_text = tokens[11].text;
-    let right_text = tokens[13].text;
-    let texts: [&[u8]; SUM_TOKENS] = [
-        b"unsigned",
-        name.text,
-        b"(",
-        b"unsigned",
-        first,
-        b",",
-        b"unsigned",
-        second,
-        b")",
-        b"{",
-        b"return",
-        left_text,
-        b"+",
-        right_text,
-        b";",
-        b"}",
-    ];
+    let (first, second) = (tokens[4].text, tokens[7].text);
+    let (left_text, right_text) = (tokens[11].text, tokens[13].text);
+    let texts = form(name.text, first, second, left_text, right_text);
     if !are_names(name.text, first, second) || !are_texts(tokens, &texts) {
         return Ok(None);
     }
@@ -101,6 +83,36 @@ fn sum_of(alloc: Global, tokens: &[Token<'_>]) -> Result<Option<Sum>, AllocError
         left,
         right,
     }))
+}
+
+/// The texts of a sum with these names.
+fn form<'a>(
+    name: &'a [u8],
+    first: &'a [u8],
+    second: &'a [u8],
+    left: &'a [u8],
+    right: &'a [u8],
+) -> [&'a [u8]; SUM_TOKENS]
+    ensures { map (λ (t : Bor (List ℕ)). t.now) result ≡ spec.form name.now first.now second.now left.now right.now }
+{
+    [
+        b"unsigned",
+        name,
+        b"(",
+        b"unsigned",
+        first,
+        b",",
+        b"unsigned",
+        second,
+        b")",
+        b"{",
+        b"return",
+        left,
+        b"+",
+        right,
+        b";",
+        b"}",
+    ]
 }
 
 /// Whether the tokens have these texts.

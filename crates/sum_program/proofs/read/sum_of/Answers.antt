@@ -9,7 +9,7 @@ pub returns-then-not-are_names-clause-refused : goal.returns-then-not-are_names-
 returns-then-not-are_names-clause-refused c = λ s r. let p = parts_of_row c.args.tokens.now nothing s r in
     elim c.then-not-are_names.branch [
       | then-not-are_names-via-then-not-are_names w ↦ false≢true (sym w.if-not-are_names.true ∙ c.are_names.ensures.1 p.named)
-      | then-not-are_names-via-else-not-are_names+then-not-are_texts w ↦ false≢true (sym w.if-not-are_texts.true ∙ w.are_texts.ensures.1 p.texts)
+      | then-not-are_names-via-else-not-are_names+then-not-are_texts w ↦ false≢true (sym w.if-not-are_texts.true ∙ w.are_texts.ensures.1 (p.texts ∙ sym c.form-texts.ensures))
     ]
 
 pub returns-in_default-clause-refused : goal.returns-in_default-clause-refused
@@ -28,7 +28,7 @@ parts c = record {
   left = c.in-Some.ensures;
   right = c.in-Some-operand.ensures;
   named = c.are_names.ensures.0 c.if-not-are_names.false;
-  texts = c.are_texts.ensures.0 c.if-not-are_texts.false;
+  texts = c.are_texts.ensures.0 c.if-not-are_texts.false ∙ c.form-texts.ensures;
 }
 
 pub returns-clause-found : goal.returns-clause-found
