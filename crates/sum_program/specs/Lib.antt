@@ -1,3 +1,4 @@
 pub mod SourceRow
 pub mod SumSource
 pub mod SumMeaning
+pub mod Reading

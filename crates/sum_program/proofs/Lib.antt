@@ -1,0 +1,6 @@
+pub mod Spans
+pub mod Rows
+pub mod Words
+pub mod Sums
+pub mod Sources
+pub mod Examples
