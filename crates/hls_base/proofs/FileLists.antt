@@ -1,7 +1,7 @@
 -- Lists of files by name: the place of a name, and what stands under each name after one is written.
-use Rattle.std.proofs.Common.{◌≡◌, ◌⊎◌, ◌<◌, ◌+◌, ℕ, zero, suc, Bool, true, false, cond, List, [], ◌∷◌, ◌++◌, length, get_or, set, take, drop, drop-cons, Option, Some, None, sym, ◌∙◌, ap, refl, inl, inr, arith, ltb}
+use Rattle.std.proofs.Common.{◌≡◌, ◌<◌, ◌+◌, ℕ, zero, suc, true, false, cond, List, [], ◌∷◌, ◌++◌, length, get_or, set, take, drop, drop-cons, Option, Some, None, sym, ◌∙◌, ap, refl, inl, inr, arith}
 use Rattle.std.specs.Prelude.{position}
-use Rattle.std.specs.List.{position_or_len, position_from}
+use Rattle.std.specs.List.{position_from}
 use Rattle.std.specs.Str.{bytes_eq}
 use Rattle.std.proofs.lemmas.Bool.{cases_Bool}
 use Rattle.std.proofs.lemmas.List.Quantifiers.{position-Some}
@@ -51,8 +51,8 @@ none_from_position_from : (files : Files) (name : List ℕ) (k : ℕ) → positi
 none_from_position_from [] name k e = refl
 none_from_position_from (file ∷ files) name k e =
     elim (cases_Bool (bytes_eq file.0 name)) [
-      inl same ↦ let clash = rw same at e in cc
-    | inr other ↦ rw other (none_from_position_from files name (k + 1) (rw other at e))
+      | inl same ↦ let clash = rw same at e in cc
+      | inr other ↦ rw other (none_from_position_from files name (k + 1) (rw other at e))
     ]
 
 pub none_from_position : (files : Files) (name : List ℕ) → place_named name files ≡ None → file_named files name ≡ None
@@ -63,8 +63,8 @@ pub push_is_with_file : (files : Files) (name bytes : List ℕ) → file_named f
 push_is_with_file [] name bytes e = refl
 push_is_with_file (file ∷ files) name bytes e =
     elim (cases_Bool (bytes_eq file.0 name)) [
-      inl same ↦ let clash = rw same at e in cc
-    | inr other ↦ rw other (ap (λ rest. file ∷ rest) (push_is_with_file files name bytes (rw other at e)))
+      | inl same ↦ let clash = rw same at e in cc
+      | inr other ↦ rw other (ap (λ rest. file ∷ rest) (push_is_with_file files name bytes (rw other at e)))
     ]
 
 bytes_eq_self : (name : List ℕ) → bytes_eq name name ≡ true
@@ -74,27 +74,27 @@ pub with_file_has_it : (files : Files) (name bytes : List ℕ) → file_named (w
 with_file_has_it [] name bytes = rw (bytes_eq_self name) refl
 with_file_has_it (file ∷ files) name bytes =
     elim (cases_Bool (bytes_eq file.0 name)) [
-      inl same ↦ rw (same, bytes_eq_self name) refl
-    | inr other ↦ simp other (with_file_has_it files name bytes)
+      | inl same ↦ rw (same, bytes_eq_self name) refl
+      | inr other ↦ simp other (with_file_has_it files name bytes)
     ]
 
 bytes_eq_other : (name other : List ℕ) → (other ≡ name → ⊥) → bytes_eq name other ≡ false
 bytes_eq_other name other differ =
     elim (cases_Bool (bytes_eq name other)) [
-      inl same ↦ absurd (differ (sym ((bytes_eq-Decides name other).0 same)))
-    | inr e ↦ e
+      | inl same ↦ absurd (differ (sym ((bytes_eq-Decides name other).0 same)))
+      | inr e ↦ e
     ]
 
 pub with_file_keeps_others : (files : Files) (name bytes other : List ℕ) → (other ≡ name → ⊥) → file_named (with_file files name bytes) other ≡ file_named files other
 with_file_keeps_others [] name bytes other differ = rw (bytes_eq_other name other differ) refl
 with_file_keeps_others (file ∷ files) name bytes other differ =
     elim (cases_Bool (bytes_eq file.0 name)) [
-      inl same ↦
-        let is_name : file.0 ≡ name = (bytes_eq-Decides file.0 name).0 same in
-        rw (same, bytes_eq_other name other differ, is_name, bytes_eq_other name other differ) refl
-    | inr unlike ↦
-        let later = with_file_keeps_others files name bytes other differ in
-        rw unlike (ap (λ rest. cond (bytes_eq file.0 other) (Some file.1) rest) later)
+      | inl same ↦
+          let is_name : file.0 ≡ name = (bytes_eq-Decides file.0 name).0 same in
+          rw (same, bytes_eq_other name other differ, is_name, bytes_eq_other name other differ) refl
+      | inr unlike ↦
+          let later = with_file_keeps_others files name bytes other differ in
+          rw unlike (ap (λ rest. cond (bytes_eq file.0 other) (Some file.1) rest) later)
     ]
 
 pub is_written : (old new : Files) (name bytes : List ℕ) → new ≡ with_file old name bytes → IsWritten name bytes (file_named old) (file_named new)
@@ -120,12 +120,12 @@ pub distinct_with_file : (files : Files) (name bytes : List ℕ) → HasDistinct
 distinct_with_file [] name bytes distinct = (refl, tt)
 distinct_with_file (file ∷ files) name bytes distinct =
     elim (cases_Bool (bytes_eq file.0 name)) [
-      inl same ↦
-        let is_name : file.0 ≡ name = (bytes_eq-Decides file.0 name).0 same in
-        let alone : file_named files name ≡ None = rw (← is_name) distinct.0 in
-        rw same (alone, distinct.1)
-    | inr unlike ↦
-        let differs : (file.0 ≡ name → ⊥) = λ e. let same = (bytes_eq-Decides file.0 name).1 e in let clash = rw unlike at same in cc in
-        let alone : file_named (with_file files name bytes) file.0 ≡ None = rw (with_file_keeps_others files name bytes file.0 differs) distinct.0 in
-        rw unlike (alone, distinct_with_file files name bytes distinct.1)
+      | inl same ↦
+          let is_name : file.0 ≡ name = (bytes_eq-Decides file.0 name).0 same in
+          let alone : file_named files name ≡ None = rw (← is_name) distinct.0 in
+          rw same (alone, distinct.1)
+      | inr unlike ↦
+          let differs : (file.0 ≡ name → ⊥) = λ e. let same = (bytes_eq-Decides file.0 name).1 e in let clash = rw unlike at same in cc in
+          let alone : file_named (with_file files name bytes) file.0 ≡ None = rw (with_file_keeps_others files name bytes file.0 differs) distinct.0 in
+          rw unlike (alone, distinct_with_file files name bytes distinct.1)
     ]

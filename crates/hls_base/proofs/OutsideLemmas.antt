@@ -1,7 +1,7 @@
 -- How the facts of one call after another are joined.
-use Rattle.std.proofs.Common.{◌≡◌, ◌⊎◌, ◌<◌, ◌≤◌, ◌+◌, ◌-◌, ◌^◌, ℕ, List, ◌++◌, length, take, Option, Some, None, refl, sym, inl, inr, arith}
+use Rattle.std.proofs.Common.{◌≡◌, ◌<◌, ◌≤◌, ◌^◌, ℕ, List, length, Option, Some, None, inl, inr, arith}
 use Rattle.std.proofs.Math.Seq.{take-length}
-use Rattle.hls_base.specs.Outside.{Files, HasRisen, NeverFalls, WhereTold, OthersStay, IsWritten, IsCutShort, PutsAll, PutsPrefix}
+use Rattle.hls_base.specs.Outside.{Files, HasRisen, NeverFalls, WhereTold, IsWritten, IsCutShort, PutsAll, PutsPrefix}
 
 pub NeverFalls-then : (a b c : ℕ) → NeverFalls a b → NeverFalls b c → NeverFalls a c
 NeverFalls-then a b c first second = record { never_falls = omega arith; fits = second.fits }

@@ -10,8 +10,7 @@ pub mod point;
 pub mod real;
 pub mod refusal;
 pub mod settings;
-pub mod text;
-pub mod words;
-
 #[cfg(test)]
 mod tests;
+pub mod text;
+pub mod words;

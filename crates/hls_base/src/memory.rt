@@ -80,7 +80,10 @@ fn set_file(
     ensures ok { OnOk result (files.new.items ≡ with_file files.old.items name.now bytes.now) }
     ensures err { OnErr result (files.new.items ≡ files.old.items) }
 {
-    let file = (Text::from_slice(alloc, name)?, Text::from_slice(alloc, bytes)?);
+    let file = (
+        Text::from_slice(alloc, name)?,
+        Text::from_slice(alloc, bytes)?,
+    );
     match place_of(files.as_slice(), name) {
         Some(i) => files[i] = file,
         None => files.push(file)?,
@@ -92,7 +95,11 @@ fn set_file(
 fn count_after_call(fault: bool, count: u64) -> u64
     ensures { result ≡ count_after fault count }
 {
-    if fault { count.saturating_add(1) } else { count }
+    if fault {
+        count.saturating_add(1)
+    } else {
+        count
+    }
 }
 
 fn fails_at(fails: &Words, call: u64) -> bool
@@ -148,12 +155,14 @@ impl Shelf for MemoryShelf {
     ghost faults = { λ s. s.faults };
 
     fn read(&mut self, alloc: Global, name: &str, most: u32) -> Result<Vec<u8>, ShelfError>
-        ensures bytes { IfOk result (λ v. AreFirstBytes (Some (file_named self.old.files)) name.now most v.items) }
+        ensures bytes { IfOk result
+            (λ v. AreFirstBytes (Some (file_named self.old.files)) name.now most v.items) }
         ensures bound { IfOk result (λ v. vec_len v ≤ most) }
         ensures files { Some (file_named self.new.files) ≡ Some (file_named self.old.files) }
         ensures failed { IsErrOf result ShelfError.Failed →
             HasRisen self.old.faults self.new.faults ⊎ IsAbsent (Some (file_named self.old.files)) name.now }
-        ensures absent { IsAbsent (Some (file_named self.old.files)) name.now → self.new.faults ≡ self.old.faults }
+        ensures absent { IsAbsent (Some (file_named self.old.files)) name.now →
+            self.new.faults ≡ self.old.faults }
         ensures count { NeverFalls self.old.faults self.new.faults }
 
         ensures fails { IsErrOf result ShelfError.Failed ↔ IsTrue (read_fails self.old name.now) }
@@ -171,17 +180,21 @@ impl Shelf for MemoryShelf {
     }
 
     fn write(&mut self, name: &str, bytes: &[u8]) -> Result<(), ShelfError>
-        ensures written { OnOk result (WhereTold (IsWritten name.now bytes.now) (Some (file_named self.old.files)) (Some (file_named self.new.files))) }
-        ensures cut_short { OnErr result (WhereTold (IsCutShort name.now bytes.now) (Some (file_named self.old.files)) (Some (file_named self.new.files))) }
+        ensures written { OnOk result (WhereTold (IsWritten name.now bytes.now)
+            (Some (file_named self.old.files)) (Some (file_named self.new.files))) }
+        ensures cut_short { OnErr result (WhereTold (IsCutShort name.now bytes.now)
+            (Some (file_named self.old.files)) (Some (file_named self.new.files))) }
         ensures failed { IsErrOf result ShelfError.Failed → HasRisen self.old.faults self.new.faults }
         ensures count { NeverFalls self.old.faults self.new.faults }
 
         ensures ok { OnOk result (is_due self.old.fails self.old.calls ≡ false) }
         ensures due { IsErrOf result ShelfError.Failed → is_due self.old.fails self.old.calls ≡ true }
-        ensures whole { OnOk result (self.new ≡ after_write self.old (with_file self.old.files name.now bytes.now)) }
-        ensures half { IsErrOf result ShelfError.Failed → self.new
-            ≡ after_write self.old (with_file self.old.files name.now (take (length bytes.now / 2) bytes.now)) }
-        ensures memory { IsErrOf result ShelfError.Memory → self.new ≡ after_write self.old self.old.files }
+        ensures whole { OnOk result
+            (self.new ≡ after_write self.old (with_file self.old.files name.now bytes.now)) }
+        ensures half { IsErrOf result ShelfError.Failed → self.new ≡ after_write self.old
+            (with_file self.old.files name.now (take (length bytes.now / 2) bytes.now)) }
+        ensures memory { IsErrOf result ShelfError.Memory →
+            self.new ≡ after_write self.old self.old.files }
     {
         let fault = fails_at(&self.fails, self.calls);
         self.calls = count_after_call(true, self.calls);
@@ -252,15 +265,18 @@ impl Sink for MemorySink {
     ghost faults = { λ s. s.faults };
 
     fn put(&mut self, bytes: &[u8]) -> Result<(), SinkError>
-        ensures all { OnOk result (WhereTold (PutsAll bytes.now) (Some self.old.written) (Some self.new.written)) }
-        ensures prefix { OnErr result (WhereTold (PutsPrefix bytes.now) (Some self.old.written) (Some self.new.written)) }
+        ensures all { OnOk result
+            (WhereTold (PutsAll bytes.now) (Some self.old.written) (Some self.new.written)) }
+        ensures prefix { OnErr result
+            (WhereTold (PutsPrefix bytes.now) (Some self.old.written) (Some self.new.written)) }
         ensures failed { IsErrOf result SinkError.Failed → HasRisen self.old.faults self.new.faults }
         ensures count { NeverFalls self.old.faults self.new.faults }
 
         ensures ok { OnOk result (is_due self.old.fails self.old.calls ≡ false) }
         ensures due { IsErrOf result SinkError.Failed → is_due self.old.fails self.old.calls ≡ true }
         ensures whole { OnOk result (self.new ≡ after_put self.old bytes.now) }
-        ensures half { IsErrOf result SinkError.Failed → self.new ≡ after_put self.old (take (length bytes.now / 2) bytes.now) }
+        ensures half { IsErrOf result SinkError.Failed →
+            self.new ≡ after_put self.old (take (length bytes.now / 2) bytes.now) }
         ensures memory { IsErrOf result SinkError.Memory → self.new ≡ after_put self.old [] }
     {
         let fault = fails_at(&self.fails, self.calls);

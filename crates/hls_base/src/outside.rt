@@ -82,8 +82,10 @@ pub trait Shelf {
 
     /// Makes these bytes the file of this name.
     fn write(&mut self, name: &str, bytes: &[u8]) -> Result<(), ShelfError>
-        ensures written { OnOk result (WhereTold (IsWritten name.now bytes.now) (files self.old) (files self.new)) }
-        ensures cut_short { OnErr result (WhereTold (IsCutShort name.now bytes.now) (files self.old) (files self.new)) }
+        ensures written { OnOk result
+            (WhereTold (IsWritten name.now bytes.now) (files self.old) (files self.new)) }
+        ensures cut_short { OnErr result
+            (WhereTold (IsCutShort name.now bytes.now) (files self.old) (files self.new)) }
         ensures failed { IsErrOf result ShelfError.Failed → HasRisen (faults self.old) (faults self.new) }
         ensures count { NeverFalls (faults self.old) (faults self.new) };
 }
@@ -98,8 +100,10 @@ pub trait Sink {
 
     /// Puts these bytes after those that were put before.
     fn put(&mut self, bytes: &[u8]) -> Result<(), SinkError>
-        ensures all { OnOk result (WhereTold (PutsAll bytes.now) (written self.old) (written self.new)) }
-        ensures prefix { OnErr result (WhereTold (PutsPrefix bytes.now) (written self.old) (written self.new)) }
+        ensures all { OnOk result
+            (WhereTold (PutsAll bytes.now) (written self.old) (written self.new)) }
+        ensures prefix { OnErr result
+            (WhereTold (PutsPrefix bytes.now) (written self.old) (written self.new)) }
         ensures failed { IsErrOf result SinkError.Failed → HasRisen (faults self.old) (faults self.new) }
         ensures count { NeverFalls (faults self.old) (faults self.new) };
 }

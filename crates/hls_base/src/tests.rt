@@ -83,7 +83,11 @@ fn one_fault(alloc: Global, call: u64) -> Result<Option<MemoryShelf>, ShelfError
 
 #[test]
 fn failing_write_leaves_half(rt: HostRuntime) {
-    for (call, new, old) in [(0, "third", "other"), (1, "th", "other"), (2, "third", "ot")] {
+    for (call, new, old) in [
+        (0, "third", "other"),
+        (1, "th", "other"),
+        (2, "third", "ot"),
+    ] {
         let made = one_fault(rt.alloc(), call).expect(&rt, "memory");
         let shelf = made.expect(&rt, "one call fails");
         assert!(rt; holds(&shelf, "a", "first"), "{call}");
@@ -108,9 +112,13 @@ fn failing_put_adds_half(rt: HostRuntime) {
 fn real_file_is_read_back(rt: HostRuntime) {
     let mut shelf = RealShelf::new(&rt);
     assert!(rt; shelf.write("shelf_test.txt", b"some bytes").is_ok());
-    let front = shelf.read(rt.alloc(), "shelf_test.txt", 4).expect(&rt, "it is there");
+    let front = shelf
+        .read(rt.alloc(), "shelf_test.txt", 4)
+        .expect(&rt, "it is there");
     assert!(rt; is(front.as_slice(), "some"));
-    let whole = shelf.read(rt.alloc(), "shelf_test.txt", 100).expect(&rt, "it is there");
+    let whole = shelf
+        .read(rt.alloc(), "shelf_test.txt", 100)
+        .expect(&rt, "it is there");
     assert!(rt; is(whole.as_slice(), "some bytes"));
     assert!(rt; fs::remove_file(&rt, "shelf_test.txt").is_ok());
     let gone = shelf.read(rt.alloc(), "shelf_test.txt", 100);
@@ -149,9 +157,12 @@ fn copies_are_made(rt: HostRuntime) {
     let copy = point.copy(alloc).expect(&rt, "memory");
     assert_eq!(rt; copy.path.items().len(), 1);
     let mut rows = Vec::new(alloc);
-    rows.push(words(alloc, &[5, 9]).expect(&rt, "memory")).expect(&rt, "memory");
+    rows.push(words(alloc, &[5, 9]).expect(&rt, "memory"))
+        .expect(&rt, "memory");
     let copy = Arrays::new(rows).copy(alloc).expect(&rt, "memory");
     assert!(rt; copy.items().iter().all(|row| row.items().len() == 2));
-    let copy = text(alloc, "f").and_then(|name| name.copy(alloc)).expect(&rt, "memory");
+    let copy = text(alloc, "f")
+        .and_then(|name| name.copy(alloc))
+        .expect(&rt, "memory");
     assert!(rt; copy.is_same(b"f"));
 }

@@ -1,5 +1,4 @@
-use Rattle.std.proofs.Common.{◌/◌, length, arith, rules}
-use Rattle.std.proofs.lemmas.Grind.{common_steps}
+use Rattle.std.proofs.Common.{◌/◌, length, rules}
 use Rattle.hls_base.proofs.FileLists.{is_written, is_cut_short, distinct_with_file}
 use Rattle.hls_base.proofs.memory.MemoryShelfShelf.write.Goals as goal
 
