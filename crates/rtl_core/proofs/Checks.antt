@@ -82,9 +82,10 @@ All-right P (x ∷ xs) ys all = All-right P xs ys (All-tail P x (xs ++ ys) all)
 
 pub free_when : (b : Bool) (words : List (Bor (List ℕ))) (text : List ℕ) → IsTrue b ↔ All (λ (w : Bor (List ℕ)). w.now ≢ text) words
     → map (λ (w : Bor (List ℕ)). w.now) words ≡ reserved_words → IsTrue b ↔ All (λ word. word ≢ text) reserved_words
-free_when b words text iff e =
-    (λ t. subst (All (λ word. word ≢ text)) e (All-map (λ word. word ≢ text) (λ (w : Bor (List ℕ)). w.now) words (iff.0 t)),
-     λ all. iff.1 (All-map_back (λ word. word ≢ text) (λ (w : Bor (List ℕ)). w.now) words (subst (All (λ word. word ≢ text)) (sym e) all)))
+free_when b words text iff e = (
+  λ t. subst (All (λ word. word ≢ text)) e (All-map (λ word. word ≢ text) (λ (w : Bor (List ℕ)). w.now) words (iff.0 t)),
+  λ all. iff.1 (All-map_back (λ word. word ≢ text) (λ (w : Bor (List ℕ)). w.now) words (subst (All (λ word. word ≢ text)) (sym e) all)),
+)
 
 -- a name that differs from those behind it
 pub distinct_more : (x : List ℕ) (whole here rest : List (List ℕ)) → here ≡ x ∷ rest → All (λ y. x ≢ y) rest → AreDistinct whole ↔ AreDistinct here
@@ -125,10 +126,11 @@ valid_when d name p q = record {
 pub pins_of_valid : (d : Netlist) → IsValid d → PinsFit d
 pins_of_valid d v =
     let of_inputs = map (λ (p : Pin). p.name) d.inputs in
-    let of_outputs = map (λ (o : OutPin). o.name) d.outputs in
-    (λ k e h. (All-map_back IsName (λ (p : Pin). p.name) d.inputs (All-left IsName of_inputs of_outputs v.names) k e h, v.inputs k e h),
-     λ k e h. (All-map_back IsName (λ (o : OutPin). o.name) d.outputs (All-right IsName of_inputs of_outputs v.names) k e h, v.outputs k e h),
-     v.distinct)
+    let of_outputs = map (λ (o : OutPin). o.name) d.outputs in (
+      λ k e h. (All-map_back IsName (λ (p : Pin). p.name) d.inputs (All-left IsName of_inputs of_outputs v.names) k e h, v.inputs k e h),
+      λ k e h. (All-map_back IsName (λ (o : OutPin). o.name) d.outputs (All-right IsName of_inputs of_outputs v.names) k e h, v.outputs k e h),
+      v.distinct,
+    )
 
 pub contents_of_valid : (d : Netlist) → IsValid d → ContentsFit d
 contents_of_valid d v = (v.wires, v.regs, v.mems)

@@ -16,13 +16,13 @@ use Rattle.rtl_core.specs.declared.design.Reg.{Reg}
 use Rattle.rtl_core.proofs.valid.are_distinct_outputs.Goals as goal
 
 pub returns-then-not-is_no_output : goal.returns-then-not-is_no_output
-returns-then-not-is_no_output c = 
+returns-then-not-is_no_output c =
     not_distinct (get_or c.args.outputs.now c.loop-i.i c.index-outputs-i.result).name _ _ (map (λ (o : OutPin). o.name) (drop (c.loop-i.i + 1) c.args.outputs.now)) (map_drop (λ (o : OutPin). o.name) c.args.outputs.now c.loop-i.i c.index-outputs-i.result c.loop-i-test.true)
     (λ all. false≢true (sym c.if-not-is_no_output.true ∙ c.is_no_output.ensures.1 (apart_back (λ (o : OutPin). o.name) c.items.result.now (get_or c.args.outputs.now c.loop-i.i c.index-outputs-i.result).name c.args.outputs.now (c.loop-i.i + 1) c.items.ensures all)))
     c.loop-i.invariant
 
 pub loop-i-preserved : goal.loop-i-preserved
-loop-i-preserved c = 
+loop-i-preserved c =
     distinct_more (get_or c.args.outputs.now c.loop-i.i c.index-outputs-i.result).name _ _ (map (λ (o : OutPin). o.name) (drop (c.loop-i.i + 1) c.args.outputs.now)) (map_drop (λ (o : OutPin). o.name) c.args.outputs.now c.loop-i.i c.index-outputs-i.result c.loop-i-test.true)
     (apart (λ (o : OutPin). o.name) c.items.result.now (get_or c.args.outputs.now c.loop-i.i c.index-outputs-i.result).name c.args.outputs.now (c.loop-i.i + 1) c.items.ensures (c.is_no_output.ensures.0 c.if-not-is_no_output.false))
     c.loop-i.invariant

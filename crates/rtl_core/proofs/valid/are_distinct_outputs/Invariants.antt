@@ -2,7 +2,6 @@ use Rattle.std.proofs.Common.{◌≡◌, ◌≢◌, ◌↔◌, ℕ, ◌+◌, ◌
 use Rattle.std.specs.List.{All}
 use Rattle.rtl_core.specs.declared.design.OutPin.{OutPin}
 use Rattle.rtl_core.specs.Valid.{AreDistinct}
-
 use Rattle.rtl_core.proofs.valid.are_distinct_outputs.Given as goal
 
 abbrev pub invariant-loop-i : goal.invariant-loop-i

@@ -16,9 +16,9 @@ use Rattle.rtl_core.specs.declared.design.Reg.{Reg}
 use Rattle.rtl_core.proofs.valid.are_inputs.Goals as goal
 
 pub loop-pin-preserved : goal.loop-pin-preserved
-loop-pin-preserved c = 
+loop-pin-preserved c =
     passes_more (λ (p : Pin). IsName p.name × IsBetween 1 64 p.bits) c.args.pins.now c.loop-pin.pin-index c.pin-item.result c.loop-pin-test.true c.pin-item.is (subst IsName c.items.ensures (c.is_name.ensures.0 c.if-not-is_name.false), c.is_between.ensures.0 c.if-not-is_between.false) c.loop-pin.invariant
 
 pub returns : goal.returns
-returns c = 
+returns c =
     confirmed (passes_all (λ (p : Pin). IsName p.name × IsBetween 1 64 p.bits) c.args.pins.now c.loop-pin.pin-index c.loop-pin-test.false c.loop-pin.invariant)

@@ -2,7 +2,6 @@ use Rattle.std.proofs.Common.{◌≡◌, ◌≢◌, ◌↔◌, ℕ, ◌+◌, ◌
 use Rattle.std.specs.List.{All}
 use Rattle.rtl_core.specs.declared.design.Pin.{Pin}
 use Rattle.rtl_core.specs.Valid.{IsName, IsBetween}
-
 use Rattle.rtl_core.proofs.valid.are_inputs.Given as goal
 
 abbrev pub invariant-loop-pin : goal.invariant-loop-pin

@@ -16,9 +16,9 @@ use Rattle.rtl_core.specs.declared.design.Reg.{Reg}
 use Rattle.rtl_core.proofs.valid.differs_from_all.Goals as goal
 
 pub returns-then-is_same_text : goal.returns-then-is_same_text
-returns-then-is_same_text c = 
+returns-then-is_same_text c =
     refuted (λ all. All-map_back (λ word. word ≢ c.args.text.now) (λ (word : Bor (List ℕ)). word.now) c.args.words.now all c.loop-word.word-index _ c.loop-word-test.true (c.is_same_text.ensures.0 c.if-is_same_text.true))
 
 pub returns : goal.returns
-returns c = 
+returns c =
     confirmed (All-map (λ word. word ≢ c.args.text.now) (λ (word : Bor (List ℕ)). word.now) c.args.words.now (passes_all (λ (word : Bor (List ℕ)). word.now ≢ c.args.text.now) c.args.words.now c.loop-word.word-index c.loop-word-test.false c.loop-word.invariant))

@@ -3,7 +3,6 @@ use Rattle.std.specs.List.{All}
 use Rattle.rtl_core.specs.declared.design.Pin.{Pin}
 use Rattle.rtl_core.specs.declared.design.OutPin.{OutPin}
 use Rattle.rtl_core.specs.Valid.{AreDistinct}
-
 use Rattle.rtl_core.proofs.valid.have_distinct_names.Given as goal
 
 abbrev pub invariant-loop-i : goal.invariant-loop-i

@@ -16,5 +16,5 @@ use Rattle.rtl_core.specs.declared.design.Reg.{Reg}
 use Rattle.rtl_core.proofs.valid.is_name.Goals as goal
 
 pub returns-then-is_identifier : goal.returns-then-is_identifier
-returns-then-is_identifier c = 
+returns-then-is_identifier c =
     (λ t. record { identifier = c.is_identifier.ensures.0 c.if-is_identifier.true; free = c.is_free.ensures.0 t }, λ n. c.is_free.ensures.1 n.free)

@@ -1,7 +1,6 @@
 use Rattle.std.proofs.Common.{◌≡◌, ◌≢◌, ◌↔◌, ℕ, ◌+◌, ◌<◌, ◌≤◌, map, take, drop, List, [], ◌++◌, length, Bor}
 use Rattle.std.specs.List.{All}
 use Rattle.rtl_core.specs.declared.design.OutPin.{OutPin}
-
 use Rattle.rtl_core.proofs.valid.is_no_output.Given as goal
 
 abbrev pub invariant-loop-pin : goal.invariant-loop-pin

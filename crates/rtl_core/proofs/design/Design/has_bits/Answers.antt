@@ -12,5 +12,5 @@ use Rattle.rtl_core.specs.declared.design.Mem.{Mem}
 use Rattle.rtl_core.proofs.design.Design.has_bits.Goals as goal
 
 pub returns : goal.returns
-returns c = 
+returns c =
     equal_when (λ n. HasBits (widths_after (netlist_of c.args.self.now) (take c.args.before c.args.self.now.wires.items)) n c.args.atom) c.width.result c.args.bits _ c.width.ensures c.eq.ensures

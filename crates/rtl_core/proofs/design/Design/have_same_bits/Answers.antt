@@ -12,9 +12,9 @@ use Rattle.rtl_core.specs.declared.design.Mem.{Mem}
 use Rattle.rtl_core.proofs.design.Design.have_same_bits.Goals as goal
 
 pub returns-in-Some : goal.returns-in-Some
-returns-in-Some c = 
+returns-in-Some c =
     found_when (λ n. HasBits (widths_after (netlist_of c.args.self.now) (take c.args.before c.args.self.now.wires.items)) n c.args.left) (λ n. HasBits (widths_after (netlist_of c.args.self.now) (take c.args.before c.args.self.now.wires.items)) n c.args.right) c.width.result c.in-Some.bits _ c.width.ensures c.in-Some.is c.has_bits.ensures
 
 pub returns-in-None : goal.returns-in-None
-returns-in-None c = 
+returns-in-None c =
     refuted (λ h. none_found (λ n. HasBits (widths_after (netlist_of c.args.self.now) (take c.args.before c.args.self.now.wires.items)) n c.args.left) c.width.result c.width.ensures c.in-None.is h.0 h.1)

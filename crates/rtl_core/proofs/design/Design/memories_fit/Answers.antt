@@ -16,13 +16,13 @@ use Rattle.rtl_core.specs.declared.design.Reg.{Reg}
 use Rattle.rtl_core.proofs.design.Design.memories_fit.Goals as goal
 
 pub returns-then-not-memory_fits : goal.returns-then-not-memory_fits
-returns-then-not-memory_fits c = 
+returns-then-not-memory_fits c =
     refuted (λ all. absurd (iff_false c.memory_fits.ensures c.if-not-memory_fits.true (subst (λ (m : Mem). MemoryFits (widths (netlist_of c.args.self.now)) (memory_of m)) (sym (c.memory-item.is ∙ ap (λ ms. get_or ms c.loop-memory.memory-index c.memory-item.result) c.deref-memory-items.ensures.value)) (All-map_back (MemoryFits (widths (netlist_of c.args.self.now))) memory_of c.args.self.now.mems.items all c.loop-memory.memory-index c.memory-item.result (search rules)))))
 
 pub loop-memory-preserved : goal.loop-memory-preserved
-loop-memory-preserved c = 
+loop-memory-preserved c =
     passes_more (λ (m : Mem). MemoryFits (widths (netlist_of c.args.self.now)) (memory_of m)) c.args.self.now.mems.items c.loop-memory.memory-index c.memory-item.result (search rules) (search rules) (c.memory_fits.ensures.0 c.if-not-memory_fits.false) c.loop-memory.invariant
 
 pub returns : goal.returns
-returns c = 
+returns c =
     confirmed (All-map (MemoryFits (widths (netlist_of c.args.self.now))) memory_of c.args.self.now.mems.items (passes_all (λ (m : Mem). MemoryFits (widths (netlist_of c.args.self.now)) (memory_of m)) c.args.self.now.mems.items c.loop-memory.memory-index (search rules) c.loop-memory.invariant))

@@ -4,7 +4,6 @@ use Rattle.rtl_core.specs.Netlist.{netlist_of, memory_of}
 use Rattle.rtl_core.specs.ClockStep.{widths}
 use Rattle.rtl_core.specs.Valid.{MemoryFits}
 use Rattle.rtl_core.specs.declared.design.Mem.{Mem}
-
 use Rattle.rtl_core.proofs.design.Design.memories_fit.Given as goal
 
 abbrev pub invariant-loop-memory : goal.invariant-loop-memory

@@ -16,9 +16,9 @@ use Rattle.rtl_core.specs.declared.design.Reg.{Reg}
 use Rattle.rtl_core.proofs.design.Design.outputs_fit.Goals as goal
 
 pub loop-pin-preserved : goal.loop-pin-preserved
-loop-pin-preserved c = 
+loop-pin-preserved c =
     passes_more (λ (o : OutPin). IsName o.name × OutputFits (widths (netlist_of c.args.self.now)) o) c.args.self.now.outputs.items c.loop-pin.pin-index c.pin-item.result (search rules) (search rules) (c.output_fits.ensures.0 c.if-not-output_fits.false) c.loop-pin.invariant
 
 pub returns : goal.returns
-returns c = 
+returns c =
     confirmed (passes_all (λ (o : OutPin). IsName o.name × OutputFits (widths (netlist_of c.args.self.now)) o) c.args.self.now.outputs.items c.loop-pin.pin-index (search rules) c.loop-pin.invariant)

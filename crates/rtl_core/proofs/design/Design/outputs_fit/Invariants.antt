@@ -4,7 +4,6 @@ use Rattle.rtl_core.specs.Netlist.{netlist_of, memory_of}
 use Rattle.rtl_core.specs.ClockStep.{widths}
 use Rattle.rtl_core.specs.Valid.{IsName, OutputFits}
 use Rattle.rtl_core.specs.declared.design.OutPin.{OutPin}
-
 use Rattle.rtl_core.proofs.design.Design.outputs_fit.Given as goal
 
 abbrev pub invariant-loop-pin : goal.invariant-loop-pin

@@ -17,9 +17,11 @@ use Rattle.rtl_core.proofs.design.Design.pins_fit.Goals.{then-are_inputs, else-a
 use Rattle.rtl_core.proofs.design.Design.pins_fit.Goals as goal
 
 pub returns-then-outputs_fit : goal.returns-then-outputs_fit
-returns-then-outputs_fit c = 
+returns-then-outputs_fit c =
     let inputs = rw c.deref.ensures.value at c.are_inputs.ensures in
     let distinct = rw (c.deref-then-outputs_fit.ensures.value, c.deref-then-outputs_fit-2.ensures.value) at c.have_distinct_names.ensures in
-    elim c.if-are_inputs.branch [ then-are_inputs w ↦
-      (λ t. (inputs.0 w.if-are_inputs.true, w.outputs_fit.ensures.0 (sym w.value-is ∙ c.if-outputs_fit.true), distinct.0 t), λ p. distinct.1 p.2)
-    | else-are_inputs w ↦ let e : false ≡ true = cc in absurd (false≢true e) ]
+    elim c.if-are_inputs.branch [
+      | then-are_inputs w ↦
+          (λ t. (inputs.0 w.if-are_inputs.true, w.outputs_fit.ensures.0 (sym w.value-is ∙ c.if-outputs_fit.true), distinct.0 t), λ p. distinct.1 p.2)
+      | else-are_inputs w ↦ let e : false ≡ true = cc in absurd (false≢true e)
+    ]

@@ -3,7 +3,6 @@ use Rattle.std.specs.List.{All}
 use Rattle.rtl_core.specs.Netlist.{netlist_of, memory_of}
 use Rattle.rtl_core.specs.ClockStep.{widths}
 use Rattle.rtl_core.specs.Valid.{PortFits}
-
 use Rattle.rtl_core.proofs.design.Design.ports_fit.Given as goal
 
 abbrev pub invariant-loop-port : goal.invariant-loop-port

@@ -16,9 +16,9 @@ use Rattle.rtl_core.specs.declared.design.Reg.{Reg}
 use Rattle.rtl_core.proofs.design.Design.registers_fit.Goals as goal
 
 pub loop-reg-preserved : goal.loop-reg-preserved
-loop-reg-preserved c = 
+loop-reg-preserved c =
     all_more (RegisterFits (widths (netlist_of c.args.self.now))) c.args.self.now.regs.items c.loop-reg.reg-index _ _ (search rules) (rw c.deref-reg-items.ensures.value at c.register_fits.ensures) c.if-not-register_fits.false c.loop-reg.invariant
 
 pub returns : goal.returns
-returns c = 
+returns c =
     confirmed (passes_all (RegisterFits (widths (netlist_of c.args.self.now))) c.args.self.now.regs.items c.loop-reg.reg-index (search rules) c.loop-reg.invariant)

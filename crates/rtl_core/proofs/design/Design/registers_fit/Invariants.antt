@@ -3,7 +3,6 @@ use Rattle.std.specs.List.{All}
 use Rattle.rtl_core.specs.Netlist.{netlist_of, memory_of}
 use Rattle.rtl_core.specs.ClockStep.{widths}
 use Rattle.rtl_core.specs.Valid.{RegisterFits}
-
 use Rattle.rtl_core.proofs.design.Design.registers_fit.Given as goal
 
 abbrev pub invariant-loop-reg : goal.invariant-loop-reg

@@ -12,9 +12,9 @@ use Rattle.rtl_core.specs.declared.design.Mem.{Mem}
 use Rattle.rtl_core.proofs.design.Design.rest_fits.Goals as goal
 
 pub returns-in-Some : goal.returns-in-Some
-returns-in-Some c = 
+returns-in-Some c =
     found_when (λ n. HasBits (widths_after (netlist_of c.args.self.now) (take c.args.before c.args.self.now.wires.items)) n c.args.low) (λ k. c.args.bits ≡ c.args.high + k) c.width.result c.in-Some.low _ c.width.ensures c.in-Some.is (search rules)
 
 pub returns-in-None : goal.returns-in-None
-returns-in-None c = 
+returns-in-None c =
     refuted (λ h. none_found (λ n. HasBits (widths_after (netlist_of c.args.self.now) (take c.args.before c.args.self.now.wires.items)) n c.args.low) c.width.result c.width.ensures c.in-None.is h.0 h.1)

@@ -17,14 +17,20 @@ use Rattle.rtl_core.proofs.design.Design.valid.Goals.{then-is_name, else-is_name
 use Rattle.rtl_core.proofs.design.Design.valid.Goals as goal
 
 pub returns-then-pins_fit : goal.returns-then-pins_fit
-returns-then-pins_fit c = 
+returns-then-pins_fit c =
     let d = netlist_of c.args.self.now in
-    elim c.if-is_name.branch [ then-is_name w ↦
-      (λ t. valid_when d (subst IsName c.items.ensures (c.is_name.ensures.0 w.if-is_name.true)) (w.pins_fit.ensures.0 (sym w.value-is ∙ c.if-pins_fit.true)) (c.contents_fit.ensures.0 t), λ v. c.contents_fit.ensures.1 (contents_of_valid d v))
-    | else-is_name w ↦ let e : false ≡ true = cc in absurd (false≢true e) ]
+    elim c.if-is_name.branch [
+      | then-is_name w ↦
+          (λ t. valid_when d (subst IsName c.items.ensures (c.is_name.ensures.0 w.if-is_name.true)) (w.pins_fit.ensures.0 (sym w.value-is ∙ c.if-pins_fit.true)) (c.contents_fit.ensures.0 t), λ v. c.contents_fit.ensures.1 (contents_of_valid d v))
+      | else-is_name w ↦ let e : false ≡ true = cc in absurd (false≢true e)
+    ]
 
 pub returns-else-pins_fit : goal.returns-else-pins_fit
-returns-else-pins_fit c = 
-    let d = netlist_of c.args.self.now in
-    (λ t. absurd (false≢true (sym c.if-pins_fit.false ∙ t)), λ v. elim c.if-is_name.branch [ then-is_name w ↦ w.value-is ∙ w.pins_fit.ensures.1 (pins_of_valid d v)
-    | else-is_name w ↦ absurd (false≢true (sym w.if-is_name.false ∙ c.is_name.ensures.1 (subst IsName (sym c.items.ensures) v.name))) ])
+returns-else-pins_fit c =
+    let d = netlist_of c.args.self.now in (
+      λ t. absurd (false≢true (sym c.if-pins_fit.false ∙ t)),
+      λ v. elim c.if-is_name.branch [
+        | then-is_name w ↦ w.value-is ∙ w.pins_fit.ensures.1 (pins_of_valid d v)
+        | else-is_name w ↦ absurd (false≢true (sym w.if-is_name.false ∙ c.is_name.ensures.1 (subst IsName (sym c.items.ensures) v.name)))
+      ],
+    )

@@ -3,7 +3,6 @@ use Rattle.std.specs.List.{All}
 use Rattle.rtl_core.specs.Netlist.{netlist_of, memory_of}
 use Rattle.rtl_core.specs.ClockStep.{widths}
 use Rattle.rtl_core.specs.Valid.{WiresFit}
-
 use Rattle.rtl_core.proofs.design.Design.wires_fit.Given as goal
 
 abbrev pub invariant-loop-i : goal.invariant-loop-i
