@@ -1,2 +1,4 @@
 pub mod Checks
 pub mod Tokens
+pub mod Examples
+pub mod CounterText

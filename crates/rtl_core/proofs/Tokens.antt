@@ -1,9 +1,9 @@
 -- When a token is the longest that begins at its place, by the byte behind it.
-use Rattle.std.proofs.Common.{◌≡◌, ◌⊎◌, inl, inr, ◌<◌, ◌≤◌, ℕ, ◌+◌, ◌*◌, Bool, true, false, not, ◌&&◌, ◌||◌, eqb, leb, List, [], ◌∷◌, ◌++◌, length, codes, append_assoc, refl, sym, ap, ◌∙◌, subst, arith, rules}
+use Rattle.std.proofs.Common.{◌≡◌, ◌≢◌, ◌⊎◌, inl, inr, ◌<◌, ◌≤◌, ℕ, ◌+◌, ◌*◌, Bool, true, false, not, ◌&&◌, ◌||◌, eqb, leb, List, [], ◌∷◌, ◌++◌, length, codes, append_assoc, refl, sym, ap, ◌∙◌, subst, arith, rules}
 use Rattle.std.specs.List.{All, Contains}
-use Rattle.std.proofs.lemmas.List.Elements.{All-nil, All-cons, All-head, All-tail, All-contains, All-append}
+use Rattle.std.proofs.lemmas.List.Elements.{All-nil, All-cons, All-head, All-tail, All-contains, Contains-append_left, Contains-append_right, Contains-push}
 use Rattle.std.proofs.lemmas.Bool.{false≢true, true≢false, and_parts, or_cases, eqb-true, eq-eqb, leb-true, le-leb}
-use Rattle.rtl_core.specs.Valid.{IsLetter, IsDigit, IsIdentifier, IsBetween}
+use Rattle.rtl_core.specs.Valid.{IsLetter, IsDigit, IsIdentifier, IsName, AreDistinct, reserved_words}
 use Rattle.rtl_core.specs.ModuleTokens.{Token, Word, Number, Constant, Sign, signs, IsNumber, IsHexDigit, value_behind, number_value, IsConstantText, IsToken, IsLongest, IsWhite, Spells, white, a_token}
 use Rattle.rtl_core.proofs.Checks.{All-right}
 
@@ -220,3 +220,141 @@ sign_is_longest (c ∷ cs) rest here ends (m ∷ ms) after (Sign t) e tok =
     let whole : ((c ∷ cs) ++ (m ∷ [])) ++ ms ≡ t = append_assoc (c ∷ cs) (m ∷ []) ms ∙ tok.0 in
     let goes : begins ((c ∷ cs) ++ (m ∷ [])) t ≡ true = subst (λ u. begins ((c ∷ cs) ++ (m ∷ [])) u ≡ true) whole (begins_append ((c ∷ cs) ++ (m ∷ [])) ms) in
     absurd (false≢true (sym (ap not goes) ∙ fails))
+
+-- ---- spelling a text, where tests of its bytes compute
+
+abbrev pub is_word : List ℕ → Bool
+is_word [] = false
+is_word (c ∷ cs) = is_letter c && every (λ c. is_letter c || is_digit c) cs
+
+abbrev pub is_number : List ℕ → Bool
+is_number [] = false
+is_number (c ∷ cs) = every is_digit (c ∷ cs)
+
+abbrev pub same_text : List ℕ → List ℕ → Bool
+same_text [] [] = true
+same_text [] (d ∷ ds) = false
+same_text (c ∷ cs) [] = false
+same_text (c ∷ cs) (d ∷ ds) = eqb c d && same_text cs ds
+
+abbrev pub has_text : List (List ℕ) → List ℕ → Bool
+has_text [] s = false
+has_text (t ∷ ts) s = same_text t s || has_text ts s
+
+pub same_true : (s t : List ℕ) → same_text s t ≡ true → s ≡ t
+same_true [] [] e = refl
+same_true [] (d ∷ ds) e = absurd (false≢true e)
+same_true (c ∷ cs) [] e = absurd (false≢true e)
+same_true (c ∷ cs) (d ∷ ds) e =
+    let p = and_parts (eqb c d) (same_text cs ds) e in
+    let here = eqb-true c d p.0 in
+    let rest = same_true cs ds p.1 in
+    cc
+
+pub same_is : (s : List ℕ) → same_text s s ≡ true
+same_is [] = refl
+same_is (c ∷ cs) = rw (eq-eqb c c refl, same_is cs) refl
+
+pub differs_true : (s t : List ℕ) → not (same_text s t) ≡ true → s ≢ t
+differs_true s t e same = false≢true (sym (ap not (ap (same_text s) (sym same) ∙ same_is s)) ∙ e)
+
+pub has_true : (ts : List (List ℕ)) (s : List ℕ) → has_text ts s ≡ true → Contains ts s
+has_true [] s e = absurd (false≢true e)
+has_true (t ∷ ts) s e =
+    elim (or_cases (same_text t s) (has_text ts s) e) [
+      inl h ↦ subst (Contains (t ∷ ts)) (same_true t s h) (Contains-append_left (t ∷ []) ts t (Contains-push [] t))
+    | inr h ↦ Contains-append_right (t ∷ []) ts s (has_true ts s h)
+    ]
+
+letter_or_digit : (c : ℕ) → (is_letter c || is_digit c) ≡ true → IsLetter c ⊎ IsDigit c
+letter_or_digit c e = elim (or_cases (is_letter c) (is_digit c) e) [ inl h ↦ inl (letter_true c h) | inr h ↦ inr (digit_true c h) ]
+
+pub word_true : (w : List ℕ) → is_word w ≡ true → IsIdentifier w
+word_true [] e = absurd (false≢true e)
+word_true (c ∷ cs) e =
+    let p = and_parts (is_letter c) (every (λ c. is_letter c || is_digit c) cs) e in
+    (letter_true c p.0, λ k d h. letter_or_digit _ (every_true (λ c. is_letter c || is_digit c) cs p.1 k d h))
+
+pub number_true : (ds : List ℕ) → is_number ds ≡ true → IsNumber ds
+number_true [] e = absurd (false≢true e)
+number_true (c ∷ cs) e = (omega arith, λ k d h. digit_true _ (every_true is_digit (c ∷ cs) e k d h))
+
+-- a byte that ends a word, a number, a constant
+abbrev pub ends_word : ℕ → Bool
+ends_word c = not (is_letter c || is_digit c)
+
+abbrev pub ends_number : ℕ → Bool
+ends_number c = not (is_digit c || eqb c 39)
+
+neither : (a b : Bool) → not (a || b) ≡ true → (a ≡ true → ⊥) × (b ≡ true → ⊥)
+neither a b e = (λ h. false≢true (sym (ap not (or_left a b h)) ∙ e), λ h. false≢true (sym (ap not (or_right a b h)) ∙ e))
+
+pub spell_word : (w : List ℕ) (c : ℕ) (rest : List ℕ) (tokens : List Token) → is_word w ≡ true → ends_word c ≡ true → Spells (c ∷ rest) tokens
+    → Spells (w ++ (c ∷ rest)) (Word w ∷ tokens)
+spell_word w c rest tokens is ends then =
+    let stops = neither (is_letter c) (is_digit c) ends in
+    a_token w (c ∷ rest) (Word w) tokens (refl, word_true w is)
+    (word_is_longest w (c ∷ rest) (word_true w is) (λ h. stops.0 (letter_is c h), λ h. stops.1 (digit_is c h))) then
+
+pub spell_number : (ds : List ℕ) (c : ℕ) (rest : List ℕ) (tokens : List Token) → is_number ds ≡ true → ends_number c ≡ true → Spells (c ∷ rest) tokens
+    → Spells (ds ++ (c ∷ rest)) (Number ds ∷ tokens)
+spell_number ds c rest tokens is ends then =
+    let stops = neither (is_digit c) (eqb c 39) ends in
+    a_token ds (c ∷ rest) (Number ds) tokens (refl, number_true ds is)
+    (number_is_longest ds (c ∷ rest) (number_true ds is) (λ h. stops.0 (digit_is c h), λ h. stops.1 (eq-eqb c 39 h))) then
+
+pub spell_sign : (s : List ℕ) (c : ℕ) (rest : List ℕ) (tokens : List Token) → has_text signs s ≡ true → ends_sign s c ≡ true → Spells (c ∷ rest) tokens
+    → Spells (s ++ (c ∷ rest)) (Sign s ∷ tokens)
+spell_sign s c rest tokens is ends then =
+    a_token s (c ∷ rest) (Sign s) tokens (refl, has_true signs s is) (sign_is_longest s (c ∷ rest) (has_true signs s is) ends) then
+
+-- `size'hdigits`
+pub constant_true : (size digits : List ℕ) → is_number size ≡ true → 1 ≤ number_value size → number_value size ≤ 128 → 0 < length digits → every is_hex_digit digits ≡ true
+    → IsConstantText (size ++ (39 ∷ 104 ∷ digits)) (number_value size) (value_behind 16 0 digits)
+constant_true size digits is low high some hex = record {
+  size = size;
+  digits = digits;
+  split = refl;
+  is_number = number_true size is;
+  bits_are = refl;
+  in_range = (low, high);
+  some = some;
+  hex = λ k d h. hex_true _ (every_true is_hex_digit digits hex k d h);
+  value_is = refl;
+}
+
+pub spell_constant : (size digits : List ℕ) (c : ℕ) (rest : List ℕ) (tokens : List Token)
+    → IsConstantText (size ++ (39 ∷ 104 ∷ digits)) (number_value size) (value_behind 16 0 digits) → not (is_hex_digit c) ≡ true → Spells (c ∷ rest) tokens
+    → Spells ((size ++ (39 ∷ 104 ∷ digits)) ++ (c ∷ rest)) (Constant (number_value size) (value_behind 16 0 digits) ∷ tokens)
+spell_constant size digits c rest tokens is ends then =
+    a_token (size ++ (39 ∷ 104 ∷ digits)) (c ∷ rest) (Constant (number_value size) (value_behind 16 0 digits)) tokens is
+    (constant_is_longest (size ++ (39 ∷ 104 ∷ digits)) (c ∷ rest) (number_value size) (value_behind 16 0 digits) is (λ h. false≢true (sym (ap not (hex_is c h)) ∙ ends))) then
+
+pub spell_blank : (rest : List ℕ) (tokens : List Token) → Spells rest tokens → Spells (32 ∷ rest) tokens
+spell_blank rest tokens then = white 32 rest tokens (inl refl) then
+
+pub spell_line : (rest : List ℕ) (tokens : List Token) → Spells rest tokens → Spells (10 ∷ rest) tokens
+spell_line rest tokens then = white 10 rest tokens (inr (omega arith, omega arith)) then
+
+-- names that are free, and differ
+
+abbrev pub is_name : List ℕ → Bool
+is_name w = is_word w && every (λ word. not (same_text word w)) reserved_words
+
+pub name_true : (w : List ℕ) → is_name w ≡ true → IsName w
+name_true w e =
+    let p = and_parts (is_word w) (every (λ word. not (same_text word w)) reserved_words) e in
+    record { identifier = word_true w p.0; free = λ k d h. differs_true _ w (every_true (λ word. not (same_text word w)) reserved_words p.1 k d h) }
+
+pub names_true : (ws : List (List ℕ)) → every is_name ws ≡ true → All IsName ws
+names_true ws e k d h = name_true _ (every_true is_name ws e k d h)
+
+abbrev pub differ : List (List ℕ) → Bool
+differ [] = true
+differ (x ∷ xs) = every (λ y. not (same_text x y)) xs && differ xs
+
+pub differ_true : (ws : List (List ℕ)) → differ ws ≡ true → AreDistinct ws
+differ_true [] e = tt
+differ_true (x ∷ xs) e =
+    let p = and_parts (every (λ y. not (same_text x y)) xs) (differ xs) e in
+    (λ k d h. differs_true x _ (every_true (λ y. not (same_text x y)) xs p.0 k d h), differ_true xs p.1)
