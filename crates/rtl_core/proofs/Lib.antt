@@ -2,3 +2,4 @@ pub mod Checks
 pub mod Tokens
 pub mod Examples
 pub mod CounterText
+pub mod IncrementBox
