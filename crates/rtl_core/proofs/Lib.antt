@@ -3,3 +3,5 @@ pub mod Tokens
 pub mod Examples
 pub mod CounterText
 pub mod IncrementBox
+pub mod Fits
+pub mod Stability
