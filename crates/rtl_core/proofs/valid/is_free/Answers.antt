@@ -1,0 +1,20 @@
+use Rattle.std.proofs.Common.{◌≡◌, ◌<◌, ◌≤◌, ◌↔◌, ℕ, ◌+◌, take, IsTrue, sym, refl, ap, ◌∙◌, subst, arith, rules, map, length, get_or, List, [], ◌++◌, drop, ◌≢◌, Bor}
+use Rattle.std.specs.List.{All}
+use Rattle.rtl_core.specs.Netlist.{netlist_of, memory_of}
+use Rattle.rtl_core.specs.ClockStep.{Widths, widths_after, widths}
+use Rattle.rtl_core.specs.Valid.{HasBits, IsName, IsBetween, IsConstant, RegisterFits, PortFits, MemoryFits, OutputFits, IsWordOf, AreDistinct}
+use Rattle.rtl_core.proofs.Checks.{refuted, refuted_at, passes_more, passes_all, equal_when, some_when, found_when, none_found, all_more, none_more, All-map_back, free_when, distinct_more, not_distinct, map_drop, valid_when, pins_of_valid, contents_of_valid}
+use Rattle.rtl_core.specs.declared.design.Design.{Design}
+use Rattle.rtl_core.specs.declared.design.Pin.{Pin}
+use Rattle.rtl_core.specs.declared.design.OutPin.{OutPin}
+use Rattle.rtl_core.specs.declared.design.Port.{Port}
+use Rattle.rtl_core.specs.declared.design.Mem.{Mem}
+use Rattle.std.proofs.lemmas.List.Elements.{All-map, All-append}
+use Rattle.std.proofs.lemmas.Option.{slice_get_within, get_or_from_slice_get}
+use Rattle.std.proofs.lemmas.Bool.{false≢true, iff_false}
+use Rattle.rtl_core.specs.declared.design.Reg.{Reg}
+use Rattle.rtl_core.proofs.valid.is_free.Goals as goal
+
+pub returns : goal.returns
+returns c =
+    (λ t. c.differs_from_all.ensures.0 t, λ all. c.differs_from_all.ensures.1 all)

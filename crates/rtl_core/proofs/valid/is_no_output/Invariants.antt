@@ -1,0 +1,8 @@
+use Rattle.std.proofs.Common.{◌≡◌, ◌≢◌, ◌↔◌, ℕ, ◌+◌, ◌<◌, ◌≤◌, map, take, drop, List, [], ◌++◌, length, Bor}
+use Rattle.std.specs.List.{All}
+use Rattle.rtl_core.specs.declared.design.OutPin.{OutPin}
+use Rattle.rtl_core.proofs.valid.is_no_output.Given as goal
+
+abbrev pub invariant-loop-pin : goal.invariant-loop-pin
+invariant-loop-pin l =
+    All (λ (o : OutPin). l.name ≢ o.name) (take l.pin-index l.pins)
