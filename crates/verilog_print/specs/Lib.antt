@@ -1,0 +1,3 @@
+pub mod PrintedSyntax
+pub mod PrintedText
+pub mod PrintableNames
