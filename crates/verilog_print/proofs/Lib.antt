@@ -2,3 +2,10 @@ pub mod Bytes
 pub mod Digits
 pub mod Spelling
 pub mod Items
+pub mod Lists
+pub mod Names
+pub mod Fitting
+pub mod Meaning
+pub mod Scope
+pub mod Assignments
+pub mod Theorem
