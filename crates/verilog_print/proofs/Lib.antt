@@ -9,3 +9,5 @@ pub mod Meaning
 pub mod Scope
 pub mod Assignments
 pub mod Theorem
+pub mod Hexadecimal
+pub mod Loops
