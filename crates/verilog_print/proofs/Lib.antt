@@ -11,3 +11,4 @@ pub mod Assignments
 pub mod Theorem
 pub mod Hexadecimal
 pub mod Loops
+pub mod BlockTexts

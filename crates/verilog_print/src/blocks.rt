@@ -2,7 +2,7 @@ ghost use Rattle.std.specs.Prelude.{◌≡◌, ◌++◌, OnOk, map};
 ghost use Rattle.std.specs.List.{flat_map};
 ghost use Rattle.rtl_core.specs.Netlist.{memory_of};
 ghost use Rattle.verilog_print.specs.PrintedSyntax.{numbered, operand_of, register_block, write_of, ports_block, memory_blocks};
-ghost use Rattle.verilog_print.specs.PrintedText.{test_text, write_text, always_text};
+ghost use Rattle.verilog_print.specs.PrintedText.{test_text, write_text, block_text, always_text};
 
 use crate::expressions::{push_numbered, push_operand};
 use rtl_core::design::{Atom, Mem, Pin, Port, Reg};
@@ -16,15 +16,21 @@ fn push_test(out: &mut Vec<u8>, pins: &[Pin], enable: Atom) -> Result<(), AllocE
     out.extend_from_slice(b") ")
 }
 
-fn push_register_block(out: &mut Vec<u8>, pins: &[Pin], k: u64, reg: Reg) -> Result<(), AllocError>
-    ensures { OnOk result (out.new.items ≡ out.old.items ++ always_text (register_block pins.now k reg)) }
+fn push_register_set(out: &mut Vec<u8>, pins: &[Pin], k: u64, reg: Reg) -> Result<(), AllocError>
+    ensures { OnOk result (out.new.items ≡ out.old.items ++ block_text (register_block pins.now k reg)) }
 {
-    out.extend_from_slice(b"always @(posedge clk) ")?;
     push_test(out, pins, reg.enable)?;
     push_numbered(out, b'r', k)?;
     out.extend_from_slice(b" <= ")?;
     push_operand(out, pins, reg.next)?;
     out.extend_from_slice(b";\n")
+}
+
+fn push_register_block(out: &mut Vec<u8>, pins: &[Pin], k: u64, reg: Reg) -> Result<(), AllocError>
+    ensures { OnOk result (out.new.items ≡ out.old.items ++ always_text (register_block pins.now k reg)) }
+{
+    out.extend_from_slice(b"always @(posedge clk) ")?;
+    push_register_set(out, pins, k, reg)
 }
 
 /// Appends the blocks of the registers.

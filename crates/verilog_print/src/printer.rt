@@ -14,14 +14,20 @@ use hls_base::text::Text;
 use rtl_core::design::Design;
 use std::alloc::{AllocError, Global};
 
+fn push_names(out: &mut Vec<u8>, design: &Design) -> Result<(), AllocError>
+    ensures { OnOk result (out.new.items ≡ out.old.items ++ flat_map header_text (pin_names (netlist_of design.now))) }
+{
+    push_input_names(out, design.inputs.as_slice())?;
+    push_output_names(out, design.outputs.as_slice())
+}
+
 fn push_header(out: &mut Vec<u8>, design: &Design) -> Result<(), AllocError>
     ensures { OnOk result (out.new.items ≡ out.old.items ++ (codes "module " ++ (design.now.name ++ (codes " (clk" ++ (flat_map header_text (pin_names (netlist_of design.now)) ++ codes ");\ninput clk;\n"))))) }
 {
     out.extend_from_slice(b"module ")?;
     out.extend_from_slice(design.name.items())?;
     out.extend_from_slice(b" (clk")?;
-    push_input_names(out, design.inputs.as_slice())?;
-    push_output_names(out, design.outputs.as_slice())?;
+    push_names(out, design)?;
     out.extend_from_slice(b");\ninput clk;\n")
 }
 
@@ -41,12 +47,18 @@ fn push_values(out: &mut Vec<u8>, design: &Design) -> Result<(), AllocError>
     push_wires(out, design.inputs.as_slice(), design.wires.as_slice())
 }
 
+fn push_blocks(out: &mut Vec<u8>, design: &Design) -> Result<(), AllocError>
+    ensures { OnOk result (out.new.items ≡ out.old.items ++ flat_map always_text (syntax_of (netlist_of design.now)).blocks) }
+{
+    push_register_blocks(out, design.inputs.as_slice(), design.regs.as_slice())?;
+    push_memory_blocks(out, design.inputs.as_slice(), design.mems.as_slice())
+}
+
 fn push_actions(out: &mut Vec<u8>, design: &Design) -> Result<(), AllocError>
     ensures { let s = syntax_of (netlist_of design.now) in OnOk result (out.new.items ≡ out.old.items ++ (flat_map assign_text s.assigns ++ flat_map always_text s.blocks)) }
 {
     push_assigns(out, design.inputs.as_slice(), design.outputs.as_slice())?;
-    push_register_blocks(out, design.inputs.as_slice(), design.regs.as_slice())?;
-    push_memory_blocks(out, design.inputs.as_slice(), design.mems.as_slice())
+    push_blocks(out, design)
 }
 
 /// The text of a circuit: each item on a line, without comments.
