@@ -12,3 +12,4 @@ pub mod Theorem
 pub mod Hexadecimal
 pub mod Loops
 pub mod BlockTexts
+pub mod PrinterTexts
