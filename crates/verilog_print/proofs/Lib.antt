@@ -1,0 +1,16 @@
+pub mod Bytes
+pub mod Digits
+pub mod Spelling
+pub mod Items
+pub mod Lists
+pub mod Names
+pub mod Fitting
+pub mod Meaning
+pub mod Scope
+pub mod Assignments
+pub mod Theorem
+pub mod Hexadecimal
+pub mod Loops
+pub mod BlockTexts
+pub mod PrinterTexts
+pub mod ExamplesValid

@@ -1,0 +1,12 @@
+use Rattle.std.proofs.Common.{◌≡◌, ◌++◌, List, map, drop}
+use Rattle.std.specs.Prelude.{codes}
+use Rattle.std.specs.List.{flat_map}
+use Rattle.rtl_core.specs.declared.design.Pin.{Pin}
+use Rattle.rtl_core.specs.declared.design.OutPin.{OutPin}
+use Rattle.rtl_core.specs.Netlist.{memory_of}
+use Rattle.verilog_print.specs.PrintedSyntax.{numbered, input_of, output_of, register_of, memory_at, wire_of, assign_of}
+use Rattle.verilog_print.specs.PrintedText.{header_text, declared_text, memory_text, wire_text, assign_text}
+use Rattle.verilog_print.proofs.declarations.push_memories.Given as goal
+
+abbrev pub invariant-loop-k : goal.invariant-loop-k
+invariant-loop-k l = l.out.items ++ flat_map memory_text (numbered memory_at l.k (map memory_of (drop l.k l.mems))) ≡ l.fn.out.items ++ flat_map memory_text (numbered memory_at 0 (map memory_of l.mems))

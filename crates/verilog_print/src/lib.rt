@@ -1,0 +1,7 @@
+//! The text of a circuit.
+#![tactic(auto)]
+
+pub mod blocks;
+pub mod declarations;
+pub mod expressions;
+pub mod printer;
