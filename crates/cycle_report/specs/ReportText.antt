@@ -39,6 +39,11 @@ abbrev pub flag_text : Bool → List ℕ
 flag_text false = codes "0"
 flag_text true = codes "1"
 
+-- the words and the number, and nothing for 0
+abbrev pub some_number : List ℕ → ℕ → List ℕ
+some_number words zero = []
+some_number words (suc n) = words ++ decimal (suc n)
+
 -- the words of the period, where there is one
 abbrev pub period_words : ℕ → List (List ℕ)
 period_words zero = []
