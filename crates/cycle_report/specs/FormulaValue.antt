@@ -1,5 +1,6 @@
 -- The number of cycles that a formula gives.
-use Rattle.std.specs.Prelude.{ℕ, ◌+◌, ◌*◌, Bool, true, false, ◌&&◌, ◌==◌, if◌then◌else◌, List, [], ◌∷◌, map, sum}
+use Rattle.std.specs.Prelude.{ℕ, ◌+◌, ◌*◌, Bool, true, false, ◌&&◌, ◌==◌, if◌then◌else◌, List, [], ◌∷◌}
+use Rattle.std.specs.List.{sum_by}
 use Rattle.hls_base.specs.declared.place.Place.{Place}
 use Rattle.hls_base.specs.declared.point.Point.{Point}
 use Rattle.hls_base.specs.declared.point.PointKind.{PointKind}
@@ -33,4 +34,4 @@ count_at [] point = 0
 count_at (entry ∷ entries) point = if same_point entry.0 point then entry.1 else count_at entries point
 
 abbrev pub cycles : ℕ → List Cost → List (Point × ℕ) → ℕ
-cycles base rows tally = base + sum (map (λ row. row.cost * count_at tally row.point) rows)
+cycles base rows tally = base + sum_by (λ row. row.cost * count_at tally row.point) rows

@@ -2,4 +2,5 @@
 #![tactic(auto)]
 
 pub mod report;
+pub mod formula;
 pub mod print;
