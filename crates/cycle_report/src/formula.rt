@@ -1,0 +1,63 @@
+//! The number of cycles that a formula gives for a run.
+
+ghost use Rattle.std.specs.Prelude.{ℕ, List, ◌≡◌, ◌≤◌, ◌*◌, ◌^◌, length};
+ghost use Rattle.std.specs.List.{All};
+ghost use Rattle.cycle_report.specs.FormulaValue as value;
+
+use crate::report::Formula;
+use hls_base::place::Place;
+use hls_base::point::{Point, Tally};
+
+impl Formula {
+    /// The cycles of a run that passed each point as often as the tally says.
+    pub fn cycles(&self, tally: &Tally) -> u128
+        requires rows { length self.now.rows.items ≤ 2 ^ 31 }
+        requires counts { All (λ entry. entry.1 ≤ 2 ^ 32) tally.now }
+        ensures { result ≡ value.cycles self.now.base self.now.rows.items tally.now }
+    {
+        let mut total = u128::from(self.base);
+        for row in &self.rows {
+            let count = count_at(tally.items(), &row.point);
+            total += spent(row.cost, count);
+        }
+        total
+    }
+}
+
+/// What so many passings cost.
+fn spent(cost: u64, count: u64) -> u128
+    ensures value { result ≡ cost * count }
+    ensures small { count ≤ 2 ^ 32 → result ≤ 2 ^ 96 }
+{
+    u128::from(cost) * u128::from(count)
+}
+
+/// How often the point was passed.
+fn count_at(entries: &[(Point, u64)], point: &Point) -> u64
+    ensures { result ≡ value.count_at entries.now point.now }
+{
+    for (passed, count) in entries {
+        if is_same(passed, point) {
+            return *count;
+        }
+    }
+    0
+}
+
+fn is_same(a: &Point, b: &Point) -> bool
+    ensures { result ≡ value.same_point a.now b.now }
+{
+    a.kind == b.kind && is_same_place(a.at, b.at) && is_same_path(a.path.items(), b.path.items())
+}
+
+fn is_same_place(a: Place, b: Place) -> bool
+    ensures { result ≡ value.same_place a b }
+{
+    a.line == b.line && a.column == b.column && a.part == b.part
+}
+
+fn is_same_path(a: &[Place], b: &[Place]) -> bool
+    ensures { result ≡ value.same_path a.now b.now }
+{
+    a == b
+}
