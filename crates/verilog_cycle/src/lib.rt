@@ -1,0 +1,9 @@
+//! A simulator of circuits, cycle by cycle.
+#![tactic(auto)]
+
+mod arithmetic;
+mod contents;
+mod edge;
+mod expression;
+pub mod sim;
+mod values;
