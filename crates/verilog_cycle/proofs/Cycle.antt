@@ -7,7 +7,7 @@ use Rattle.rtl_core.proofs.Fits.{wires_fit, step_is_state, fit_length}
 use Rattle.std.proofs.lemmas.List.{length-map}
 use Rattle.rtl_core.specs.declared.design.Reg.{Reg}
 use Rattle.verilog_cycle.specs.declared.values.Values.{Values}
-use Rattle.verilog_cycle.specs.Inside.{AreValues, IsReady, state_of, value_in}
+use Rattle.verilog_cycle.specs.Inside.{AreValues, IsReady, Settled, state_of, value_in}
 use Rattle.verilog_cycle.proofs.Passes.{moved}
 
 -- the inputs of the cycle are taken
@@ -24,13 +24,6 @@ taken d v w pins are fit t = record {
   wires = subst (Fit (wire_widths d.wires)) (sym t.wires) are.wires;
   next = ap length t.next ∙ are.next;
 }
-
--- the wires have their values
-pub record Settled (d : Netlist) (s : State) (v : Values) (pins : List ℕ) : Type 0 where
-  pub pins_are : v.pins.items ≡ pins
-  pub regs : v.regs.items ≡ s.regs
-  pub wires : v.wires.items ≡ wire_values d s pins
-  pub next : length v.next.items ≡ length d.regs
 
 pub settled : (d : Netlist) (s : State) (v : Values) (pins : List ℕ) → IsValid d → IsState d s → ArePins d pins → Settled d s v pins → AreValues d v
 settled d s v pins valid is are t = record {

@@ -4,7 +4,7 @@ use Rattle.rtl_core.specs.declared.design.Atom.{Atom}
 use Rattle.rtl_core.specs.declared.design.Atom.TheVariants as atom
 use Rattle.rtl_core.specs.declared.design.Port.{Port}
 use Rattle.rtl_core.specs.Netlist.{Netlist}
-use Rattle.rtl_core.specs.ClockStep.{State, value_of, input_widths, register_widths, wire_widths, Fit, AreMemories}
+use Rattle.rtl_core.specs.ClockStep.{State, value_of, input_widths, register_widths, wire_widths, wire_values, Fit, AreMemories}
 use Rattle.rtl_core.specs.Valid.{IsValid}
 use Rattle.verilog_cycle.specs.declared.values.Values.{Values}
 
@@ -47,3 +47,10 @@ pub record IsReady (d : Netlist) (v : Values) (mems : List (List ℕ)) : Type 0 
   pub valid : IsValid d
   pub values : AreValues d v
   pub words : AreMemories d.mems mems
+
+-- the wires have their values in a cycle with these inputs, and registers still hold what they did
+pub record Settled (d : Netlist) (s : State) (v : Values) (pins : List ℕ) : Type 0 where
+  pub pins_are : v.pins.items ≡ pins
+  pub regs : v.regs.items ≡ s.regs
+  pub wires : v.wires.items ≡ wire_values d s pins
+  pub next : length v.next.items ≡ length d.regs

@@ -7,7 +7,7 @@ ghost use Rattle.rtl_core.specs.Netlist.{netlist_of, memory_of};
 ghost use Rattle.rtl_core.specs.ClockStep.{stepped, outputs};
 ghost use Rattle.rtl_core.specs.Valid.{IsValid, IsBetween};
 ghost use Rattle.verilog_cycle.specs.Simulation.{modulo_widths, words_modulo, powered_words, powered_up, word_count, contents_count, reduced_pins};
-ghost use Rattle.verilog_cycle.specs.Inside.{state_of, IsReady};
+ghost use Rattle.verilog_cycle.specs.Inside.{state_of, IsReady, Settled};
 
 use crate::arithmetic::low_bits_of_word;
 use crate::contents::Contents;
@@ -100,6 +100,17 @@ fn values_before(alloc: Global, design: &Design, regs: Vec<u64>) -> Result<Value
     })
 }
 
+/// Takes the inputs of a cycle and gives the wires their values.
+fn begin(design: &Design, values: &mut Values, mems: &[Contents], pins: &[u64])
+    requires ready { IsReady (netlist_of design.now) values.old mems.now }
+    requires pins { length pins.now ≡ length design.now.inputs.items }
+    ensures { Settled (netlist_of design.now) (state_of values.old mems.now) values.new (reduced_pins (netlist_of design.now) pins.now) }
+{
+    let inputs = design.inputs.as_slice();
+    values.take_pins(inputs, pins);
+    settle(design, mems, values);
+}
+
 /// Writes the outputs of a cycle and takes the edge.
 fn clock_once(design: &Design, values: &mut Values, mems: &mut [Contents], pins: &[u64], outs: &mut [u64])
     requires ready { IsReady (netlist_of design.now) values.old mems.old }
@@ -109,11 +120,12 @@ fn clock_once(design: &Design, values: &mut Values, mems: &mut [Contents], pins:
     ensures state { state_of values.new mems.new ≡ stepped (netlist_of design.now) (state_of values.old mems.old) (reduced_pins (netlist_of design.now) pins.now) }
     ensures outs { outs.new ≡ outputs (netlist_of design.now) (state_of values.old mems.old) (reduced_pins (netlist_of design.now) pins.now) }
 {
-    values.take_pins(&design.inputs, pins);
-    settle(design, mems, values);
-    show(&design.outputs, values, outs);
+    let outputs = design.outputs.as_slice();
+    let regs = design.regs.as_slice();
+    begin(design, values, mems, pins);
+    show(outputs, values, outs);
     clock_memories(design, values, mems);
-    values.clock(&design.regs);
+    values.clock(regs);
 }
 
 impl Sim {
