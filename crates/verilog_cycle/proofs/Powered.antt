@@ -1,7 +1,7 @@
 -- What registers and memories hold after a power-up.
 use Rattle.std.proofs.Common.{◌≡◌, ◌<◌, ◌≤◌, ℕ, suc, zero, ◌+◌, ◌-◌, ◌%◌, ◌^◌, List, [], ◌∷◌, ◌++◌, length, map, take, drop, get_or, replicate, refl, sym, ap, ◌∙◌, subst, append_assoc, arith}
 use Rattle.std.specs.List.{All}
-use Rattle.std.proofs.lemmas.List.{append-nil, length-map, length-take-le, length-drop}
+use Rattle.std.proofs.lemmas.List.{append-nil, length-map, length-take-le, length-drop, length-replicate}
 use Rattle.std.proofs.lemmas.List.Elements.{All-nil, All-cons, All-map}
 use Rattle.std.proofs.lemmas.Nat.{pow_pos}
 use Rattle.std.proofs.Math.Nat.{mod-lt}
@@ -10,7 +10,12 @@ use Rattle.rtl_core.specs.declared.design.Pin.{Pin}
 use Rattle.rtl_core.specs.declared.design.Reg.{Reg}
 use Rattle.rtl_core.specs.declared.design.Mem.{Mem}
 use Rattle.rtl_core.specs.Netlist.{Netlist, Memory, memory_of}
-use Rattle.rtl_core.specs.ClockStep.{State, Fit, fit_none, fit_one, AreWords, AreMemories, no_memory, one_memory, IsState, ArePins, register_widths, input_widths}
+use Rattle.rtl_core.specs.ClockStep.{State, Fit, fit_none, fit_one, AreWords, AreMemories, no_memory, one_memory, IsState, ArePins, Widths, register_widths, input_widths, wire_widths}
+use Rattle.rtl_core.specs.Valid.{IsBetween, MemoryFits, IsValid}
+use Rattle.rtl_core.specs.declared.design.Wire.{Wire}
+use Rattle.rtl_core.proofs.Checks.{All-map_back}
+use Rattle.verilog_cycle.specs.declared.values.Values.{Values}
+use Rattle.verilog_cycle.specs.Inside.{AreValues, IsReady}
 use Rattle.verilog_cycle.specs.Simulation.{modulo_widths, words_modulo, word_count, powered_words, powered_up, contents_count, reduced_pins}
 use Rattle.verilog_cycle.proofs.Passes.{drop_next}
 
@@ -77,3 +82,26 @@ powered_is_state d xs e =
 
 pub reduced_are_pins : (d : Netlist) (pins : List ℕ) → length pins ≡ length d.inputs → ArePins d (reduced_pins d pins)
 reduced_are_pins d pins e = modulo_fits (input_widths d) pins (e ∙ sym (length-map d.inputs (λ (p : Pin). p.bits)))
+
+-- ---- the parts of a new simulator
+
+pub memory_bits : (w : Widths) (ms : List Mem) → All (MemoryFits w) (map memory_of ms) → All (λ (m : Mem). IsBetween 1 64 m.bits) ms
+memory_bits w ms all k d h = (All-map_back (MemoryFits w) memory_of ms all k d h).bits
+
+pub memory_depths : (w : Widths) (ms : List Mem) → All (MemoryFits w) (map memory_of ms) → All (λ (m : Mem). IsBetween 1 16 m.depth_log) ms
+memory_depths w ms all k d h = (All-map_back (MemoryFits w) memory_of ms all k d h).depth
+
+pub new_is_ready : (d : Netlist) (v : Values) (mems : List (List ℕ)) (xs : List ℕ) → IsValid d → length xs ≡ contents_count d → v.pins.items ≡ replicate (length d.inputs) 0
+    → v.regs.items ≡ (powered_up d xs).regs → v.next.items ≡ replicate (length d.regs) 0 → v.wires.items ≡ replicate (length d.wires) 0 → mems ≡ (powered_up d xs).mems → IsReady d v mems
+new_is_ready d v mems xs valid e p r n w m =
+    let is = powered_is_state d xs e in
+    record {
+      valid = valid;
+      values = record {
+        pins = subst (Fit (input_widths d)) (sym p) (zeros_fit (input_widths d) (length d.inputs) (sym (length-map d.inputs (λ (p : Pin). p.bits))));
+        regs = subst (Fit (register_widths d)) (sym r) is.regs;
+        wires = subst (Fit (wire_widths d.wires)) (sym w) (zeros_fit (wire_widths d.wires) (length d.wires) (sym (length-map d.wires (λ (w : Wire). w.bits))));
+        next = ap length n ∙ length-replicate (length d.regs) 0;
+      };
+      words = subst (AreMemories d.mems) (sym m) is.mems;
+    }
