@@ -72,7 +72,12 @@ fn report_of(alloc: Global, program: &Sum, settings: &Settings) -> Result<Report
         at: program.at,
         kind: PointKind::Begin,
     };
-    let rows = vec![in alloc; Cost { point: begin, cost: 2 }]?;
+    let rows = vec![in alloc;
+        Cost {
+            point: begin,
+            cost: 2
+        },
+    ]?;
     Ok(Report {
         settings: copy_settings(alloc, settings)?,
         formula: Formula { base: 1, rows },
