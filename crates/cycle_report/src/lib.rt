@@ -4,3 +4,6 @@
 pub mod report;
 pub mod formula;
 pub mod print;
+
+#[cfg(test)]
+mod tests;
