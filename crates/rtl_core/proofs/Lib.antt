@@ -5,3 +5,4 @@ pub mod CounterText
 pub mod IncrementBox
 pub mod Fits
 pub mod Stability
+pub mod Front

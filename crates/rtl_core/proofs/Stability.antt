@@ -1,5 +1,5 @@
 -- Each wire has the value of its expression, and keeps it in a circuit to which wires, registers and memories are appended.
-use Rattle.std.proofs.Common.{◌≡◌, ◌<◌, ◌≤◌, ℕ, suc, zero, ◌+◌, ◌-◌, ◌*◌, ◌/◌, ◌%◌, ◌^◌, Bool, true, false, eqb, cond, ◌==◌, if◌then◌else◌, List, [], ◌∷◌, ◌++◌, length, map, get_or, slice_index, slice_index_or, slice_get, Option, Some, None, refl, sym, ap, ◌∙◌, subst, append_assoc, length-append, arith, rules}
+use Rattle.std.proofs.Common.{◌≡◌, ◌<◌, ℕ, suc, zero, ◌+◌, ◌-◌, ◌*◌, ◌/◌, ◌%◌, ◌^◌, cond, ◌==◌, List, [], ◌∷◌, ◌++◌, length, get_or, slice_index, slice_index_or, slice_get, Some, refl, sym, ap, ◌∙◌, subst, append_assoc, length-append, arith}
 use Rattle.std.proofs.Math.ListN.{get_or-append}
 use Rattle.std.proofs.Math.Seq.{get_or-append_seam}
 use Rattle.std.proofs.lemmas.List.{append-nil, map-append, length-map}
@@ -12,7 +12,7 @@ use Rattle.rtl_core.specs.declared.design.Net.{Net}
 use Rattle.rtl_core.specs.declared.design.Net.TheVariants as net
 use Rattle.rtl_core.specs.declared.design.Wire.{Wire}
 use Rattle.rtl_core.specs.Netlist.{Netlist, Memory}
-use Rattle.rtl_core.specs.ClockStep.{State, Widths, bits_of, value_of, pair_value, word_at, net_value, input_widths, register_widths, wire_widths, widths_after, widths, values_behind, wire_values, seen, AreMemories}
+use Rattle.rtl_core.specs.ClockStep.{State, Widths, bits_of, value_of, pair_value, net_value, input_widths, register_widths, wire_widths, widths_after, widths, values_behind, wire_values, seen}
 use Rattle.rtl_core.specs.Valid.{HasBits, OperandsFit, NetFits, WiresFit}
 
 -- ---- lists that go on
@@ -139,7 +139,7 @@ longer_after d before after = record {
 equation_behind : (d : Netlist) (s : State) (pins : List ℕ) → length (register_widths d) ≡ length s.regs → (before : List Wire) (values : List ℕ) (ws : List Wire) → length before ≡ length values
     → WiresFit d before ws → (k : ℕ) (w : Wire) → slice_get ws k ≡ Some w
     → slice_index (values_behind d s pins before values ws) (length values + k)
-      ≡ net_value (bits_of (widths_after d (before ++ ws))) (value_of pins s.regs (values_behind d s pins before values ws)) s.mems w.bits w.net
+    ≡ net_value (bits_of (widths_after d (before ++ ws))) (value_of pins s.regs (values_behind d s pins before values ws)) s.mems w.bits w.net
 equation_behind d s pins r before values [] same fit k w e = absurd (none-some w e)
 equation_behind d s pins r before values (x ∷ ws) same fit zero w e =
     let v = net_value (bits_of (widths_after d before)) (value_of pins s.regs values) s.mems x.bits x.net in
@@ -150,10 +150,10 @@ equation_behind d s pins r before values (x ∷ ws) same fit zero w e =
     let wires_same : length (wire_widths before) ≡ length values = length-map before (λ (w : Wire). w.bits) ∙ same in
     let place : length values + 0 ≡ length values = omega arith in
     let here : slice_index all (length values + 0) ≡ v =
-        ap (λ n. get_or all n 0) place ∙ (ap (λ l. get_or l (length values) 0) (first.1 ∙ append_assoc values (v ∷ []) first.0) ∙ get_or-append_seam values v first.0 0) in
+    ap (λ n. get_or all n 0) place ∙ (ap (λ l. get_or l (length values) 0) (first.1 ∙ append_assoc values (v ∷ []) first.0) ∙ get_or-append_seam values v first.0 0) in
     let kept = net_kept (widths_after d before) d.mems s.mems s.mems (bits_of (widths_after d before)) (bits_of (widths_after d (before ++ (x ∷ ws))))
-        (value_of pins s.regs values) (value_of pins s.regs all) (width_kept (widths_after d before) (widths_after d (before ++ (x ∷ ws))) longer)
-        (value_kept (widths_after d before) pins s.regs s.regs [] values all more.0 r wires_same (sym (append-nil s.regs)) more.1) (λ k m e. refl) x.bits x.net fit.1 in
+    (value_of pins s.regs values) (value_of pins s.regs all) (width_kept (widths_after d before) (widths_after d (before ++ (x ∷ ws))) longer)
+    (value_kept (widths_after d before) pins s.regs s.regs [] values all more.0 r wires_same (sym (append-nil s.regs)) more.1) (λ k m e. refl) x.bits x.net fit.1 in
     subst (λ (w : Wire). slice_index all (length values + 0) ≡ net_value (bits_of (widths_after d (before ++ (x ∷ ws)))) (value_of pins s.regs all) s.mems w.bits w.net)
     (same_Some x w e) (here ∙ sym kept)
 equation_behind d s pins r before values (x ∷ ws) same fit (suc k) w e =
@@ -163,7 +163,7 @@ equation_behind d s pins r before values (x ∷ ws) same fit (suc k) w e =
     let place : length values + suc k ≡ length (values ++ (v ∷ [])) + k = omega (arith, length-append values (v ∷ [])) in
     ap (λ n. slice_index (values_behind d s pins before values (x ∷ ws)) n) place
     ∙ (there ∙ ap (λ b. net_value (bits_of (widths_after d b)) (value_of pins s.regs (values_behind d s pins before values (x ∷ ws))) s.mems w.bits w.net)
-      (append_assoc before (x ∷ []) ws))
+    (append_assoc before (x ∷ []) ws))
 
 -- each wire has the value of its expression
 pub wire_equation : (d : Netlist) (s : State) (pins : List ℕ) → length (register_widths d) ≡ length s.regs → WiresFit d [] d.wires → (k : ℕ) (w : Wire) → slice_get d.wires k ≡ Some w
@@ -199,8 +199,8 @@ behind_kept d e s t pins x c before values (w ∷ ws) same fit =
     let v = net_value (bits_of (widths_after d before)) (value_of pins s.regs values) s.mems w.bits w.net in
     let wires_same : length (wire_widths before) ≡ length values = length-map before (λ (w : Wire). w.bits) ∙ same in
     let kept = net_kept (widths_after d before) d.mems s.mems t.mems (bits_of (widths_after d before)) (bits_of (widths_after e before))
-        (value_of pins s.regs values) (value_of pins t.regs values) (width_kept (widths_after d before) (widths_after e before) (longer_before d e x before))
-        (value_kept (widths_after d before) pins s.regs t.regs c.more_regs values values [] c.count wires_same c.regs (sym (append-nil values))) c.mems w.bits w.net fit.1 in
+    (value_of pins s.regs values) (value_of pins t.regs values) (width_kept (widths_after d before) (widths_after e before) (longer_before d e x before))
+    (value_kept (widths_after d before) pins s.regs t.regs c.more_regs values values [] c.count wires_same c.regs (sym (append-nil values))) c.mems w.bits w.net fit.1 in
     let both : length (before ++ (w ∷ [])) ≡ length (values ++ (v ∷ [])) = length-append before (w ∷ []) ∙ (ap (λ n. n + 1) same ∙ sym (length-append values (v ∷ []))) in
     ap (λ y. values_behind e t pins (before ++ (w ∷ [])) (values ++ (y ∷ [])) ws) kept
     ∙ behind_kept d e s t pins x c (before ++ (w ∷ [])) (values ++ (v ∷ [])) ws both fit.2
