@@ -1,0 +1,5 @@
+pub mod PlainReport
+pub mod ReportText
+pub mod ReportForm
+pub mod FormulaValue
+pub mod Examples

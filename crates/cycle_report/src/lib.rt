@@ -1,0 +1,5 @@
+//! The report of a compiled program: its text, and the number of cycles that it states.
+#![tactic(auto)]
+
+pub mod report;
+pub mod print;
