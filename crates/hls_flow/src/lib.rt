@@ -1,0 +1,4 @@
+//! From the bytes of a source to those of a module and of its report.
+#![tactic(auto)]
+
+pub mod synth;
