@@ -15,9 +15,13 @@ abbrev pub IsPlain : List ℕ → Type 0
 IsPlain [] = ⊥
 IsPlain (c ∷ cs) = c ≢ 45
 
+-- each of its words is plain
+abbrev pub HasPlainWords : Command → Type 0
+HasPlainWords c = All IsPlain (c.source ∷ c.module_file ∷ c.report ∷ c.top ∷ [])
+
 pub record IsCommand (words : List (List ℕ)) (c : Command) : Type 0 where
   pub words_are : words ≡ codes "synth" ∷ c.source ∷ c.module_file ∷ c.report ∷ codes "--top" ∷ c.top ∷ []
-  pub plain : All IsPlain (c.source ∷ c.module_file ∷ c.report ∷ c.top ∷ [])
+  pub plain : HasPlainWords c
 
 pub record NamesThreeFiles (c : Command) : Type 0 where
   pub source_module : c.source ≢ c.module_file

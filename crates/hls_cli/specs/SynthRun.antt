@@ -58,6 +58,9 @@ pub record Outside : Type 0 where
   pub old_bytes : Option (List ℕ)
   pub new_bytes : Option (List ℕ)
 
+abbrev pub outside : Option Files → Option Files → Option (List ℕ) → Option (List ℕ) → Outside
+outside old_files new_files old_bytes new_bytes = record { old_files = old_files; new_files = new_files; old_bytes = old_bytes; new_bytes = new_bytes }
+
 -- The run ended for a fault or for want of memory, and put a prefix of the line that says so: before any line of an answer, or after a prefix of the line of the answer that its whole work gave.
 pub data IsCutOff (words : List (List ℕ)) (last : List ℕ) (o : Outside) : Type 0 where
   stopped : (c : Command) → IsSynth words c → WhereTold (IsStopped c) o.old_files o.new_files → WhereTold (PutsPrefix last) o.old_bytes o.new_bytes → IsCutOff words last o

@@ -1,7 +1,10 @@
 //! The program `hls`.
 #![tactic(auto)]
 
+mod lines;
 mod run;
+mod words;
+mod work;
 
 use std::io;
 
