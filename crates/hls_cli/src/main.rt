@@ -3,11 +3,33 @@
 
 mod lines;
 mod run;
+#[cfg(test)]
+mod tests;
 mod words;
 mod work;
 
+use crate::run::run;
+use hls_base::real::{RealShelf, RealSink};
+use std::env;
 use std::io;
+use std::process::ExitCode;
 
-fn main(_rt: HostRuntime) -> io::Result<()> {
-    Ok(())
+// The words after the program's name.
+fn words_of(rt: &HostRuntime) -> io::Result<Vec<String>> {
+    let mut words = env::args(rt)?;
+    words.next();
+    Ok(words.collect(rt.alloc())?)
+}
+
+fn main(rt: HostRuntime) -> ExitCode {
+    let status = match words_of(&rt) {
+        Ok(words) => {
+            let mut shelf = RealShelf::new(&rt);
+            let mut out = RealSink::new(&rt);
+            run(rt.alloc(), &words, &mut shelf, &mut out)
+        }
+        Err(e) if e.kind() == io::ErrorKind::OutOfMemory => 4,
+        Err(_) => 3,
+    };
+    ExitCode::from(status)
 }
