@@ -13,3 +13,4 @@ pub mod Hexadecimal
 pub mod Loops
 pub mod BlockTexts
 pub mod PrinterTexts
+pub mod ExamplesValid

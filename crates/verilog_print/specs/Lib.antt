@@ -1,3 +1,4 @@
 pub mod PrintedSyntax
 pub mod PrintedText
 pub mod PrintableNames
+pub mod Examples
