@@ -1,16 +1,16 @@
 -- The names of registers, memories and wires: they are names, and none is another's or a pin's.
-use Rattle.std.proofs.Common.{◌≡◌, ◌≢◌, ◌⊎◌, inl, inr, ℕ, zero, suc, ◌+◌, ◌^◌, ◌<◌, ◌≤◌, ◌∙◌, sym, refl, ap, subst, Bool, true, false, ◌&&◌, List, [], ◌∷◌, ◌++◌, map, length, get_or, append_assoc, arith}
+use Rattle.std.proofs.Common.{◌≡◌, ◌≢◌, ◌⊎◌, inr, ℕ, suc, ◌+◌, ◌^◌, ◌<◌, ◌≤◌, ◌∙◌, sym, refl, ap, subst, Bool, true, false, ◌&&◌, List, [], ◌∷◌, length, get_or, arith}
 use Rattle.std.specs.Prelude.{codes, nat_le, not}
 use Rattle.std.specs.Fmt.{decimal}
-use Rattle.std.specs.List.{All, Contains, list_all}
-use Rattle.std.proofs.lemmas.Bool.{both_ways, not_from_true, le-leb, and_from}
-use Rattle.std.proofs.lemmas.List.Elements.{All-nil, All-cons, All-head, All-tail, All-append, All-weaker}
+use Rattle.std.specs.List.{All, Contains}
+use Rattle.std.proofs.lemmas.Bool.{both_ways, le-leb, and_from}
+use Rattle.std.proofs.lemmas.List.Elements.{All-nil, All-cons, All-head, All-weaker}
 use Rattle.rtl_core.specs.Valid.{IsLetter, IsDigit, IsIdentifier, IsName, reserved_words, AreDistinct}
 use Rattle.rtl_core.specs.ModuleTokens.{IsNumber}
 use Rattle.verilog_print.specs.PrintedSyntax.{numbered}
 use Rattle.verilog_print.specs.PrintableNames.{IsNumbered}
 use Rattle.verilog_print.proofs.Digits.{IsNumber-decimal, decimal-same}
-use Rattle.verilog_print.proofs.Lists.{all_pass, distinct_append, all_apart}
+use Rattle.verilog_print.proofs.Lists.{all_pass}
 
 -- a letter and the digits of a number
 abbrev pub name_with : ℕ → ℕ → List ℕ
@@ -59,11 +59,12 @@ rest_same c d xs ys e = cc
 
 pub names_distinct : {X : Type 0} (c j : ℕ) (xs : List X) → j + length xs < 10 ^ 64 → AreDistinct (names_by_number c j xs)
 names_distinct c j [] h = tt
-names_distinct c j (x ∷ xs) h =
-    (All-weaker (IsNameFrom c (suc j)) (λ y. name_with c j ≢ y)
-    (λ y named same. let numbers : j ≡ named.0 = decimal-same j named.0 (omega arith) named.2 (rest_same c c (decimal j) (decimal named.0) (same ∙ named.3)) in omega (arith, named.1))
-    (names_by_number c (suc j) xs) (names_from c (suc j) (suc j) xs (omega arith) (omega arith)),
-    names_distinct c (suc j) xs (omega arith))
+names_distinct c j (x ∷ xs) h = (
+  All-weaker (IsNameFrom c (suc j)) (λ y. name_with c j ≢ y)
+      (λ y named same. let numbers : j ≡ named.0 = decimal-same j named.0 (omega arith) named.2 (rest_same c c (decimal j) (decimal named.0) (same ∙ named.3)) in omega (arith, named.1))
+      (names_by_number c (suc j) xs) (names_from c (suc j) (suc j) xs (omega arith) (omega arith)),
+  names_distinct c (suc j) xs (omega arith),
+)
 
 pub letters_differ : (c d : ℕ) → c ≢ d → (x y : List ℕ) → IsNameFrom c 0 x → IsNameFrom d 0 y → x ≢ y
 letters_differ c d differ x y p q same =

@@ -5,3 +5,5 @@ pub mod blocks;
 pub mod declarations;
 pub mod expressions;
 pub mod printer;
+#[cfg(test)]
+mod tests;
