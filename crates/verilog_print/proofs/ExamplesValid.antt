@@ -8,6 +8,7 @@ use Rattle.rtl_core.specs.ClockStep.{widths}
 use Rattle.rtl_core.specs.Valid.{IsLetter, IsDigit, IsName, IsBetween, reserved_words, pin_names, RegisterFits, PortFits, MemoryFits, OutputFits, IsValid}
 use Rattle.verilog_print.specs.PrintableNames.{IsNumbered, HasPrintableNames}
 use Rattle.verilog_print.specs.Examples.{counter, machine, first_port, store}
+use Rattle.verilog_print.proofs.Names.{not_numbered}
 use Rattle.verilog_print.proofs.Lists.{all_pass}
 
 one_letter : (c : ℕ) → IsLetter c → IsName (c ∷ [])
@@ -20,9 +21,6 @@ one_letter c letter = record {
 
 small_letter : (c : ℕ) → (97 ≤ c) × (c ≤ 122) → IsName (c ∷ [])
 small_letter c h = one_letter c (inr (inl h))
-
-not_numbered : (c : ℕ) → ¬ IsNumbered (c ∷ [])
-not_numbered c h = let none = h.1.0 in omega (arith, none)
 
 differ : (c d : ℕ) → c ≢ d → c ∷ [] ≢ d ∷ []
 differ c d h same = h (ap (λ s. get_or s 0 0) same)
@@ -46,7 +44,7 @@ counter_valid = record {
 }
 
 pub counter_names : HasPrintableNames counter
-counter_names = All-from_recursion IsFree (pin_names counter) (not_numbered 97, (not_numbered 121, tt))
+counter_names = All-from_recursion IsFree (pin_names counter) (not_numbered (codes "a") refl, (not_numbered (codes "y") refl, tt))
 
 pub machine_valid : IsValid machine
 machine_valid = record {
@@ -111,4 +109,4 @@ machine_valid = record {
     }
 
 pub machine_names : HasPrintableNames machine
-machine_names = All-from_recursion IsFree (pin_names machine) (not_numbered 97, (not_numbered 116, (not_numbered 121, (not_numbered 122, tt))))
+machine_names = All-from_recursion IsFree (pin_names machine) (not_numbered (codes "a") refl, (not_numbered (codes "t") refl, (not_numbered (codes "y") refl, (not_numbered (codes "z") refl, tt))))

@@ -20,7 +20,7 @@ pub name_is_identifier : (c k : ℕ) → IsLetter c → k < 10 ^ 64 → IsIdenti
 name_is_identifier c k letter small = (letter, All-weaker IsDigit (λ c. IsLetter c ⊎ IsDigit c) (λ c d. inr d) (decimal k) (IsNumber-decimal k small).1)
 
 -- a digit stands behind the first byte
-abbrev has_digit : List ℕ → Bool
+abbrev pub has_digit : List ℕ → Bool
 has_digit [] = false
 has_digit (c ∷ []) = false
 has_digit (c ∷ d ∷ ds) = nat_le 48 d && nat_le d 57
@@ -28,6 +28,11 @@ has_digit (c ∷ d ∷ ds) = nat_le 48 d && nat_le d 57
 digits_begin : (c : ℕ) (ds : List ℕ) → IsNumber ds → has_digit (c ∷ ds) ≡ true
 digits_begin c [] h = absurd (let none = h.0 in omega arith)
 digits_begin c (d ∷ ds) h = let first = All-head IsDigit d ds h.1 in and_from (nat_le 48 d) (nat_le d 57) (le-leb 48 d first.0) (le-leb d 57 first.1)
+
+-- a name without a digit behind its first byte is none of a register, a memory or a wire
+pub not_numbered : (name : List ℕ) → has_digit name ≡ false → ¬ IsNumbered name
+not_numbered [] none h = h
+not_numbered (c ∷ cs) none h = both_ways (has_digit (c ∷ cs)) none (digits_begin c cs h.1)
 
 not_true : (b : Bool) → not b ≡ true → b ≡ false
 not_true true h = sym h
