@@ -1,13 +1,12 @@
 -- Where a text can be cut in one way alone: words of a line, digits of a number, places of a path.
-use Rattle.std.proofs.Common.{◌≡◌, ◌≢◌, ℕ, zero, suc, ◌+◌, ◌/◌, ◌%◌, ◌^◌, ◌<◌, ◌≤◌, ◌⊎◌, Bool, true, false, ◌&&◌, ◌||◌, cond, IsTrue, eqb, List, [], ◌∷◌, ◌++◌, codes, sym, ap, ◌∙◌, subst, refl, inl, inr, append_assoc, arith}
+use Rattle.std.proofs.Common.{◌≡◌, ℕ, ◌+◌, ◌%◌, ◌^◌, ◌<◌, Bool, true, false, ◌&&◌, cond, IsTrue, eqb, List, [], ◌∷◌, ◌++◌, sym, ap, ◌∙◌, subst, refl, inl, inr, append_assoc, arith}
 use Rattle.std.specs.Fmt.{decimal}
 use Rattle.std.specs.List.{All, list_all}
-use Rattle.std.proofs.lemmas.Fmt.{decimal_by_steps, decimal_injective}
+use Rattle.std.proofs.lemmas.Fmt.{decimal_by_steps}
 use Rattle.std.proofs.lemmas.Bool.Decides.{eqb_tells, nat_tests}
 use Rattle.std.proofs.lemmas.List.Elements.{All-head, All-tail}
 use Rattle.cycle_report.specs.ReportForm.{is_digit}
 use Rattle.cycle_report.specs.ReportText.{line, lines_of}
-use Rattle.cycle_report.proofs.Appends.{append_none}
 
 pub not_true : {A : Type 0} → IsTrue false → A
 not_true h = let e : false ≡ true = h in absurd (cc)
@@ -59,11 +58,13 @@ is_plain c = cond (eqb c 32) false (cond (eqb c 10) false true)
 
 pub plain_from : (f : ℕ → Bool) → (IsTrue (f 32) → ⊥) → (IsTrue (f 10) → ⊥) → (c : ℕ) → IsTrue (f c) → IsTrue (is_plain c)
 plain_from f a b c h =
-    elim (eqb_tells c 32)
-    [ inl s ↦ absurd (a (subst (λ d. IsTrue (f d)) s.1 h))
-    | inr n ↦ elim (eqb_tells c 10)
-        [ inl s ↦ absurd (b (subst (λ d. IsTrue (f d)) s.1 h))
-        | inr m ↦ subst (λ x. IsTrue (cond x false (cond (eqb c 10) false true))) (sym n.0) (subst (λ x. IsTrue (cond x false true)) (sym m.0) refl) ] ]
+    elim (eqb_tells c 32) [
+      | inl s ↦ absurd (a (subst (λ d. IsTrue (f d)) s.1 h))
+      | inr n ↦ elim (eqb_tells c 10) [
+        | inl s ↦ absurd (b (subst (λ d. IsTrue (f d)) s.1 h))
+        | inr m ↦ subst (λ x. IsTrue (cond x false (cond (eqb c 10) false true))) (sym n.0) (subst (λ x. IsTrue (cond x false true)) (sym m.0) refl)
+      ]
+    ]
 
 -- ---- numbers
 

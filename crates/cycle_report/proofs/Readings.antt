@@ -1,23 +1,21 @@
 -- A text is that of one report alone.
-use Rattle.std.proofs.Common.{◌≡◌, ℕ, zero, suc, ◌+◌, ◌^◌, ◌<◌, ◌≤◌, Bool, true, false, ◌&&◌, ◌||◌, ◌==◌, IsTrue, nat_le, cond, eqb, List, [], ◌∷◌, ◌++◌, codes, length, sym, ap, ◌∙◌, subst, refl, append_assoc, arith}
+use Rattle.std.proofs.Common.{◌≡◌, ℕ, zero, suc, ◌^◌, ◌<◌, Bool, true, false, ◌&&◌, ◌||◌, ◌==◌, IsTrue, nat_le, cond, eqb, List, [], ◌∷◌, ◌++◌, codes, length, sym, ap, ◌∙◌, refl, arith}
 use Rattle.std.specs.Fmt.{decimal}
 use Rattle.std.specs.List.{All, list_all}
 use Rattle.std.proofs.lemmas.Fmt.{decimal_injective}
 use Rattle.std.proofs.lemmas.List.Elements.{All-head, All-tail}
 use Rattle.hls_base.specs.declared.place.Place.{Place}
-use Rattle.hls_base.specs.declared.point.Point.{Point}
 use Rattle.hls_base.specs.declared.point.PointKind.{PointKind}
 use Rattle.hls_base.specs.declared.point.PointKind.TheVariants as kind
-use Rattle.hls_base.specs.declared.settings.Settings.{Settings}
 use Rattle.hls_base.specs.PlaceText.{place_text, part_text}
 use Rattle.cycle_report.specs.declared.report.Cost.{Cost}
 use Rattle.cycle_report.specs.declared.report.Edge4.{Edge4}
 use Rattle.cycle_report.specs.declared.report.MemoryRow.{MemoryRow}
-use Rattle.cycle_report.specs.PlainReport.{PlainLoop, PlainUnits, PlainReport}
-use Rattle.cycle_report.specs.ReportText.{line, lines_of, kind_text, path_text, flag_text, period_words, settings_line, init_line, cost_line, edge_line, loop_lines, units_line, memory_line, head_lines, last_lines, report_text}
-use Rattle.cycle_report.specs.ReportForm.{is_digit, is_letter, is_word_byte, is_name, IsName, IsSettings, HasForm, FitsPlace, FitsPoint, FitsCost, FitsEdge, FitsLoop, FitsUnits, FitsMemory, FitsTypes, IsReport}
+use Rattle.cycle_report.specs.PlainReport.{PlainUnits}
+use Rattle.cycle_report.specs.ReportText.{lines_of, kind_text, path_text, flag_text, period_words, cost_line, edge_line, units_line, memory_line}
+use Rattle.cycle_report.specs.ReportForm.{is_digit, is_letter, is_word_byte, IsName, FitsPlace, FitsCost, FitsEdge, FitsUnits, FitsMemory}
 use Rattle.std.specs.Str.{bytes_eq}
-use Rattle.cycle_report.proofs.Cuts.{not_true, and_left, and_right, and_both, Stops, cut, stops_none, stops_at, all_append, all_weaker, is_plain, plain_from, decimal_digits, decimal_plain, ArePlain, same_line, BeginsWith, same_rows}
+use Rattle.cycle_report.proofs.Cuts.{not_true, and_left, and_right, and_both, Stops, cut, stops_none, stops_at, all_append, all_weaker, is_plain, plain_from, decimal_digits, decimal_plain, ArePlain, same_line}
 
 -- ---- words
 
@@ -76,11 +74,11 @@ pub same_place : (p q : Place) → FitsPlace p → FitsPlace q → place_text p 
 unfolding place_of
 same_place p q f g e =
     let a = cut is_digit (decimal p.line) (decimal q.line) (58 ∷ (decimal p.column ++ part_text p.part)) (58 ∷ (decimal q.column ++ part_text q.part))
-        (decimal_digits p.line (omega (arith, f.line))) (decimal_digits q.line (omega (arith, g.line))) (stops_at is_digit 58 _ not_true) (stops_at is_digit 58 _ not_true) e in
+    (decimal_digits p.line (omega (arith, f.line))) (decimal_digits q.line (omega (arith, g.line))) (stops_at is_digit 58 _ not_true) (stops_at is_digit 58 _ not_true) e in
     let t : 58 ∷ (decimal p.column ++ part_text p.part) ≡ 58 ∷ (decimal q.column ++ part_text q.part) = a.1 in
     let d : decimal p.column ++ part_text p.part ≡ decimal q.column ++ part_text q.part = cc in
     let b = cut is_digit (decimal p.column) (decimal q.column) (part_text p.part) (part_text q.part)
-        (decimal_digits p.column (omega (arith, f.column))) (decimal_digits q.column (omega (arith, g.column))) (stops_part p.part) (stops_part q.part) d in
+    (decimal_digits p.column (omega (arith, f.column))) (decimal_digits q.column (omega (arith, g.column))) (stops_part p.part) (stops_part q.part) d in
     let l : p.line ≡ q.line = decimal_injective p.line q.line (omega (arith, f.line)) (omega (arith, g.line)) a.0 in
     let c : p.column ≡ q.column = decimal_injective p.column q.column (omega (arith, f.column)) (omega (arith, g.column)) b.0 in
     let r : p.part ≡ q.part = same_part p.part q.part f.part g.part b.1 in
@@ -195,9 +193,9 @@ pub same_cost : (x y : Cost) (v w : List ℕ) → FitsCost x → FitsCost y → 
 unfolding cost_of
 same_cost x y v w f g e =
     let r = same_line (codes "cost") (codes "cost") (decimal x.cost ∷ kind_text x.point.kind ∷ place_text x.point.at ∷ path_text x.point.path ∷ [])
-        (decimal y.cost ∷ kind_text y.point.kind ∷ place_text y.point.at ∷ path_text y.point.path ∷ []) v w
-        (refl, (decimal_plain x.cost f.cost, (kind_plain x.point.kind, (place_plain x.point.at f.point.at, (path_plain x.point.path f.point.path, tt)))))
-        (refl, (decimal_plain y.cost g.cost, (kind_plain y.point.kind, (place_plain y.point.at g.point.at, (path_plain y.point.path g.point.path, tt))))) e in
+    (decimal y.cost ∷ kind_text y.point.kind ∷ place_text y.point.at ∷ path_text y.point.path ∷ []) v w
+    (refl, (decimal_plain x.cost f.cost, (kind_plain x.point.kind, (place_plain x.point.at f.point.at, (path_plain x.point.path f.point.path, tt)))))
+    (refl, (decimal_plain y.cost g.cost, (kind_plain y.point.kind, (place_plain y.point.at g.point.at, (path_plain y.point.path g.point.path, tt))))) e in
     let t = r.0 in
     let a : decimal x.cost ≡ decimal y.cost = cc in
     let b : kind_text x.point.kind ≡ kind_text y.point.kind = cc in
@@ -206,9 +204,11 @@ same_cost x y v w f g e =
     let a' = decimal_injective x.cost y.cost f.cost g.cost a in
     let b' = same_kind x.point.kind y.point.kind b in
     let c' = same_place x.point.at y.point.at f.point.at g.point.at c in
-    let d' = same_path x.point.path y.point.path f.point.path g.point.path d in
-    (ap (λ z. cost_of z x.point.at x.point.kind x.cost) d' ∙ (ap (λ z. cost_of y.point.path z x.point.kind x.cost) c'
-      ∙ (ap (λ z. cost_of y.point.path y.point.at z x.cost) b' ∙ ap (λ z. cost_of y.point.path y.point.at y.point.kind z) a')), r.1)
+    let d' = same_path x.point.path y.point.path f.point.path g.point.path d in (
+      ap (λ z. cost_of z x.point.at x.point.kind x.cost) d' ∙ (ap (λ z. cost_of y.point.path z x.point.kind x.cost) c'
+          ∙ (ap (λ z. cost_of y.point.path y.point.at z x.cost) b' ∙ ap (λ z. cost_of y.point.path y.point.at y.point.kind z) a')),
+      r.1,
+    )
 
 pub edge_of : ℕ → ℕ → ℕ → ℕ → Edge4
 edge_of a b c d = record { from = a; to = b; latency = c; distance = d }
@@ -223,15 +223,17 @@ pub same_edge : (x y : Edge4) (v w : List ℕ) → FitsEdge x → FitsEdge y →
 unfolding edge_of
 same_edge x y v w f g e =
     let r = same_line (codes "edge") (codes "edge") (decimal x.from ∷ decimal x.to ∷ decimal x.latency ∷ decimal x.distance ∷ []) (decimal y.from ∷ decimal y.to ∷ decimal y.latency ∷ decimal y.distance ∷ []) v w
-        (refl, (p32 x.from f.from, (p32 x.to f.to, (p32 x.latency f.latency, (p32 x.distance f.distance, tt)))))
-        (refl, (p32 y.from g.from, (p32 y.to g.to, (p32 y.latency g.latency, (p32 y.distance g.distance, tt))))) e in
+    (refl, (p32 x.from f.from, (p32 x.to f.to, (p32 x.latency f.latency, (p32 x.distance f.distance, tt)))))
+    (refl, (p32 y.from g.from, (p32 y.to g.to, (p32 y.latency g.latency, (p32 y.distance g.distance, tt))))) e in
     let t = r.0 in
     let a : decimal x.from ≡ decimal y.from = cc in
     let b : decimal x.to ≡ decimal y.to = cc in
     let c : decimal x.latency ≡ decimal y.latency = cc in
-    let d : decimal x.distance ≡ decimal y.distance = cc in
-    (ap (λ z. edge_of z x.to x.latency x.distance) (u32 x.from y.from f.from g.from a) ∙ (ap (λ z. edge_of y.from z x.latency x.distance) (u32 x.to y.to f.to g.to b)
-      ∙ (ap (λ z. edge_of y.from y.to z x.distance) (u32 x.latency y.latency f.latency g.latency c) ∙ ap (λ z. edge_of y.from y.to y.latency z) (u32 x.distance y.distance f.distance g.distance d))), r.1)
+    let d : decimal x.distance ≡ decimal y.distance = cc in (
+      ap (λ z. edge_of z x.to x.latency x.distance) (u32 x.from y.from f.from g.from a) ∙ (ap (λ z. edge_of y.from z x.latency x.distance) (u32 x.to y.to f.to g.to b)
+          ∙ (ap (λ z. edge_of y.from y.to z x.distance) (u32 x.latency y.latency f.latency g.latency c) ∙ ap (λ z. edge_of y.from y.to y.latency z) (u32 x.distance y.distance f.distance g.distance d))),
+      r.1,
+    )
 
 pub units_from : ℕ → ℕ → ℕ → ℕ → PlainUnits
 units_from a b c d = record { mul32 = a; mul64 = b; div32 = c; div64 = d }
@@ -240,17 +242,19 @@ pub same_units : (x y : PlainUnits) (v w : List ℕ) → FitsUnits x → FitsUni
 unfolding units_from
 same_units x y v w f g e =
     let r = same_line (codes "units") (codes "units")
-        (codes "mul32" ∷ decimal x.mul32 ∷ codes "mul64" ∷ decimal x.mul64 ∷ codes "div32" ∷ decimal x.div32 ∷ codes "div64" ∷ decimal x.div64 ∷ [])
-        (codes "mul32" ∷ decimal y.mul32 ∷ codes "mul64" ∷ decimal y.mul64 ∷ codes "div32" ∷ decimal y.div32 ∷ codes "div64" ∷ decimal y.div64 ∷ []) v w
-        (refl, (refl, (p32 x.mul32 f.mul32, (refl, (p32 x.mul64 f.mul64, (refl, (p32 x.div32 f.div32, (refl, (p32 x.div64 f.div64, tt)))))))))
-        (refl, (refl, (p32 y.mul32 g.mul32, (refl, (p32 y.mul64 g.mul64, (refl, (p32 y.div32 g.div32, (refl, (p32 y.div64 g.div64, tt))))))))) e in
+    (codes "mul32" ∷ decimal x.mul32 ∷ codes "mul64" ∷ decimal x.mul64 ∷ codes "div32" ∷ decimal x.div32 ∷ codes "div64" ∷ decimal x.div64 ∷ [])
+    (codes "mul32" ∷ decimal y.mul32 ∷ codes "mul64" ∷ decimal y.mul64 ∷ codes "div32" ∷ decimal y.div32 ∷ codes "div64" ∷ decimal y.div64 ∷ []) v w
+    (refl, (refl, (p32 x.mul32 f.mul32, (refl, (p32 x.mul64 f.mul64, (refl, (p32 x.div32 f.div32, (refl, (p32 x.div64 f.div64, tt)))))))))
+    (refl, (refl, (p32 y.mul32 g.mul32, (refl, (p32 y.mul64 g.mul64, (refl, (p32 y.div32 g.div32, (refl, (p32 y.div64 g.div64, tt))))))))) e in
     let t = r.0 in
     let a : decimal x.mul32 ≡ decimal y.mul32 = cc in
     let b : decimal x.mul64 ≡ decimal y.mul64 = cc in
     let c : decimal x.div32 ≡ decimal y.div32 = cc in
-    let d : decimal x.div64 ≡ decimal y.div64 = cc in
-    (ap (λ z. units_from z x.mul64 x.div32 x.div64) (u32 x.mul32 y.mul32 f.mul32 g.mul32 a) ∙ (ap (λ z. units_from y.mul32 z x.div32 x.div64) (u32 x.mul64 y.mul64 f.mul64 g.mul64 b)
-      ∙ (ap (λ z. units_from y.mul32 y.mul64 z x.div64) (u32 x.div32 y.div32 f.div32 g.div32 c) ∙ ap (λ z. units_from y.mul32 y.mul64 y.div32 z) (u32 x.div64 y.div64 f.div64 g.div64 d))), r.1)
+    let d : decimal x.div64 ≡ decimal y.div64 = cc in (
+      ap (λ z. units_from z x.mul64 x.div32 x.div64) (u32 x.mul32 y.mul32 f.mul32 g.mul32 a) ∙ (ap (λ z. units_from y.mul32 z x.div32 x.div64) (u32 x.mul64 y.mul64 f.mul64 g.mul64 b)
+          ∙ (ap (λ z. units_from y.mul32 y.mul64 z x.div64) (u32 x.div32 y.div32 f.div32 g.div32 c) ∙ ap (λ z. units_from y.mul32 y.mul64 y.div32 z) (u32 x.div64 y.div64 f.div64 g.div64 d))),
+      r.1,
+    )
 
 pub memory_of : List ℕ → ℕ → ℕ → ℕ → MemoryRow
 memory_of a b c d = record { name = a; bits = b; depth = c; ports = d }
@@ -266,14 +270,16 @@ same_memory x y v w f g e =
     let xp : x.ports < 2 ^ 32 = omega (arith, f.1.ports) in
     let yp : y.ports < 2 ^ 32 = omega (arith, g.1.ports) in
     let r = same_line (codes "memory") (codes "memory")
-        (x.name ∷ codes "bits" ∷ decimal x.bits ∷ codes "depth" ∷ decimal x.depth ∷ codes "ports" ∷ decimal x.ports ∷ [])
-        (y.name ∷ codes "bits" ∷ decimal y.bits ∷ codes "depth" ∷ decimal y.depth ∷ codes "ports" ∷ decimal y.ports ∷ []) v w
-        (refl, (name_plain x.name f.0, (refl, (p32 x.bits xb, (refl, (p32 x.depth f.1.depth, (refl, (p32 x.ports xp, tt))))))))
-        (refl, (name_plain y.name g.0, (refl, (p32 y.bits yb, (refl, (p32 y.depth g.1.depth, (refl, (p32 y.ports yp, tt)))))))) e in
+    (x.name ∷ codes "bits" ∷ decimal x.bits ∷ codes "depth" ∷ decimal x.depth ∷ codes "ports" ∷ decimal x.ports ∷ [])
+    (y.name ∷ codes "bits" ∷ decimal y.bits ∷ codes "depth" ∷ decimal y.depth ∷ codes "ports" ∷ decimal y.ports ∷ []) v w
+    (refl, (name_plain x.name f.0, (refl, (p32 x.bits xb, (refl, (p32 x.depth f.1.depth, (refl, (p32 x.ports xp, tt))))))))
+    (refl, (name_plain y.name g.0, (refl, (p32 y.bits yb, (refl, (p32 y.depth g.1.depth, (refl, (p32 y.ports yp, tt)))))))) e in
     let t = r.0 in
     let a : x.name ≡ y.name = cc in
     let b : decimal x.bits ≡ decimal y.bits = cc in
     let c : decimal x.depth ≡ decimal y.depth = cc in
-    let d : decimal x.ports ≡ decimal y.ports = cc in
-    (ap (λ z. memory_of z x.bits x.depth x.ports) a ∙ (ap (λ z. memory_of y.name z x.depth x.ports) (u32 x.bits y.bits xb yb b)
-      ∙ (ap (λ z. memory_of y.name y.bits z x.ports) (u32 x.depth y.depth f.1.depth g.1.depth c) ∙ ap (λ z. memory_of y.name y.bits y.depth z) (u32 x.ports y.ports xp yp d))), r.1)
+    let d : decimal x.ports ≡ decimal y.ports = cc in (
+      ap (λ z. memory_of z x.bits x.depth x.ports) a ∙ (ap (λ z. memory_of y.name z x.depth x.ports) (u32 x.bits y.bits xb yb b)
+          ∙ (ap (λ z. memory_of y.name y.bits z x.ports) (u32 x.depth y.depth f.1.depth g.1.depth c) ∙ ap (λ z. memory_of y.name y.bits y.depth z) (u32 x.ports y.ports xp yp d))),
+      r.1,
+    )

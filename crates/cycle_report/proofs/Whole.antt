@@ -1,12 +1,11 @@
 -- Two reports with one text are the same report.
-use Rattle.std.proofs.Common.{◌≡◌, ℕ, zero, suc, ◌+◌, ◌^◌, ◌<◌, ◌≤◌, Bool, true, false, IsTrue, eqb, List, [], ◌∷◌, ◌++◌, codes, length, sym, ap, ◌∙◌, subst, refl, append_assoc, arith}
+use Rattle.std.proofs.Common.{◌≡◌, ℕ, zero, suc, ◌^◌, ◌<◌, Bool, true, IsTrue, eqb, List, [], ◌∷◌, ◌++◌, codes, sym, ap, ◌∙◌, subst, refl, append_assoc, arith}
 use Rattle.std.specs.Fmt.{decimal}
-use Rattle.std.specs.List.{All, list_all}
+use Rattle.std.specs.List.{All}
 use Rattle.std.proofs.lemmas.Fmt.{decimal_injective}
 use Rattle.std.proofs.lemmas.Bool.{eq-eqb}
 use Rattle.std.proofs.lemmas.List.Elements.{All-head, All-tail}
 use Rattle.hls_base.specs.declared.place.Place.{Place}
-use Rattle.hls_base.specs.declared.point.Point.{Point}
 use Rattle.hls_base.specs.declared.point.PointKind.{PointKind}
 use Rattle.hls_base.specs.declared.point.PointKind.TheVariants.{Body}
 use Rattle.hls_base.specs.declared.settings.Settings.{Settings}
@@ -15,9 +14,9 @@ use Rattle.cycle_report.specs.declared.report.Cost.{Cost}
 use Rattle.cycle_report.specs.declared.report.Edge4.{Edge4}
 use Rattle.cycle_report.specs.declared.report.MemoryRow.{MemoryRow}
 use Rattle.cycle_report.specs.PlainReport.{PlainLoop, PlainUnits, PlainReport}
-use Rattle.cycle_report.specs.ReportText.{line, lines_of, path_text, flag_text, period_words, settings_line, init_line, cost_line, edge_line, loop_lines, units_line, memory_line, head_lines, last_lines, report_text}
-use Rattle.cycle_report.specs.ReportForm.{IsName, IsSettings, HasForm, FitsPlace, FitsCost, FitsEdge, FitsLoop, FitsUnits, FitsMemory, FitsTypes, IsReport}
-use Rattle.cycle_report.proofs.Cuts.{not_true, is_plain, decimal_plain, ArePlain, same_line, BeginsWith, same_rows}
+use Rattle.cycle_report.specs.ReportText.{line, lines_of, path_text, flag_text, period_words, settings_line, init_line, cost_line, edge_line, loop_lines, units_line, memory_line, head_lines, last_lines}
+use Rattle.cycle_report.specs.ReportForm.{IsName, IsSettings, FitsCost, FitsEdge, FitsLoop, FitsMemory, IsReport}
+use Rattle.cycle_report.proofs.Cuts.{not_true, decimal_plain, ArePlain, same_line, BeginsWith, same_rows}
 use Rattle.cycle_report.proofs.Readings.{IsMemory, u32, p32, name_plain, place_plain, path_plain, flag_plain, period_plain, same_place, same_path, same_flag, same_period, same_cost, same_edge, same_units, same_memory}
 
 -- ---- first bytes
@@ -82,7 +81,7 @@ same_loop x y v w i j a b e =
     let lx = line (codes "loop" ∷ loop_words x) in
     let ly = line (codes "loop" ∷ loop_words y) in
     let r = same_line (codes "loop") (codes "loop") (loop_words x) (loop_words y) (lines_of edge_line x.cycle ++ v) (lines_of edge_line y.cycle ++ w) (loop_words_plain x f) (loop_words_plain y g)
-        (sym (append_assoc lx (lines_of edge_line x.cycle) v) ∙ (e ∙ append_assoc ly (lines_of edge_line y.cycle) w)) in
+    (sym (append_assoc lx (lines_of edge_line x.cycle) v) ∙ (e ∙ append_assoc ly (lines_of edge_line y.cycle) w)) in
     let t = r.0 in
     let p : place_text x.point.at ≡ place_text y.point.at = cc in
     let q : path_text x.point.path ≡ path_text y.point.path = cc in
@@ -92,10 +91,12 @@ same_loop x y v w i j a b e =
     let p' = same_place x.point.at y.point.at f.point.at g.point.at p in
     let q' = same_path x.point.path y.point.path f.point.path g.point.path q in
     let m' = u32 x.ii y.ii f.ii g.ii m in
-    let n' = u32 x.exit y.exit f.exit g.exit n in
-    (ap (λ z. loop_of z x.point.at x.point.kind x.ii x.exit x.cycle) q' ∙ (ap (λ z. loop_of y.point.path z x.point.kind x.ii x.exit x.cycle) p'
-      ∙ (ap (λ z. loop_of y.point.path y.point.at z x.ii x.exit x.cycle) (i.0 ∙ sym j.0) ∙ (ap (λ z. loop_of y.point.path y.point.at y.point.kind z x.exit x.cycle) m'
-      ∙ (ap (λ z. loop_of y.point.path y.point.at y.point.kind y.ii z x.cycle) n' ∙ ap (λ z. loop_of y.point.path y.point.at y.point.kind y.ii y.exit z) s.0)))), s.1)
+    let n' = u32 x.exit y.exit f.exit g.exit n in (
+      ap (λ z. loop_of z x.point.at x.point.kind x.ii x.exit x.cycle) q' ∙ (ap (λ z. loop_of y.point.path z x.point.kind x.ii x.exit x.cycle) p'
+          ∙ (ap (λ z. loop_of y.point.path y.point.at z x.ii x.exit x.cycle) (i.0 ∙ sym j.0) ∙ (ap (λ z. loop_of y.point.path y.point.at y.point.kind z x.exit x.cycle) m'
+          ∙ (ap (λ z. loop_of y.point.path y.point.at y.point.kind y.ii z x.cycle) n' ∙ ap (λ z. loop_of y.point.path y.point.at y.point.kind y.ii y.exit z) s.0)))),
+      s.1,
+    )
 
 same_loops : (xs ys : List PlainLoop) (v w : List ℕ) → All IsLoop xs → All IsLoop ys → (BeginsWith 101 v → ⊥) → (BeginsWith 101 w → ⊥) → (BeginsWith 108 v → ⊥) → (BeginsWith 108 w → ⊥) →
     lines_of loop_lines xs ++ v ≡ lines_of loop_lines ys ++ w → (xs ≡ ys) × (v ≡ w)
@@ -107,7 +108,7 @@ same_loops (x ∷ xs) [] v w p q a b c d e =
 same_loops (x ∷ xs) (y ∷ ys) v w p q a b c d e =
     let f = sym (append_assoc (loop_lines x) (lines_of loop_lines xs) v) ∙ (e ∙ append_assoc (loop_lines y) (lines_of loop_lines ys) w) in
     let r = same_loop x y (lines_of loop_lines xs ++ v) (lines_of loop_lines ys ++ w) (All-head IsLoop x xs p) (All-head IsLoop y ys q)
-        (rows_other loop_lines 108 101 loop_head not_true xs v a) (rows_other loop_lines 108 101 loop_head not_true ys w b) f in
+    (rows_other loop_lines 108 101 loop_head not_true xs v a) (rows_other loop_lines 108 101 loop_head not_true ys w b) f in
     let s = same_loops xs ys v w (All-tail IsLoop x xs p) (All-tail IsLoop y ys q) a b c d r.1 in
     (ap (λ z. z ∷ xs) r.0 ∙ ap (λ zs. y ∷ zs) s.0, s.1)
 
@@ -152,11 +153,13 @@ same_head x y m n v w f g h k e =
     let c' = u32 x.div y.div (omega (arith, f.div_high)) (omega (arith, g.div_high)) c in
     let d' = u32 x.ports y.ports (omega (arith, f.ports_high)) (omega (arith, g.ports_high)) d in
     let p' = same_flag x.plain y.plain p in
-    let q' = same_period x.period y.period (omega (arith, f.period_high)) (omega (arith, g.period_high)) q in
-    (ap (λ i. settings_of i x.mul x.div x.ports x.plain x.period) a ∙ (ap (λ i. settings_of y.top i x.div x.ports x.plain x.period) b'
-      ∙ (ap (λ i. settings_of y.top y.mul i x.ports x.plain x.period) c' ∙ (ap (λ i. settings_of y.top y.mul y.div i x.plain x.period) d'
-      ∙ (ap (λ i. settings_of y.top y.mul y.div y.ports i x.period) p' ∙ ap (λ i. settings_of y.top y.mul y.div y.ports y.plain i) q')))),
-     decimal_injective m n h k z, r4.1)
+    let q' = same_period x.period y.period (omega (arith, f.period_high)) (omega (arith, g.period_high)) q in (
+      ap (λ i. settings_of i x.mul x.div x.ports x.plain x.period) a ∙ (ap (λ i. settings_of y.top i x.div x.ports x.plain x.period) b'
+          ∙ (ap (λ i. settings_of y.top y.mul i x.ports x.plain x.period) c' ∙ (ap (λ i. settings_of y.top y.mul y.div i x.plain x.period) d'
+          ∙ (ap (λ i. settings_of y.top y.mul y.div y.ports i x.period) p' ∙ ap (λ i. settings_of y.top y.mul y.div y.ports y.plain i) q')))),
+      decimal_injective m n h k z,
+      r4.1,
+    )
 
 same_init : (m n : ℕ) (v w : List ℕ) → m < 2 ^ 32 → n < 2 ^ 32 → (BeginsWith 105 v → ⊥) → (BeginsWith 105 w → ⊥) → init_line m ++ v ≡ init_line n ++ w → (m ≡ n) × (v ≡ w)
 same_init zero zero v w h k a b e = (refl, e)
@@ -223,10 +226,10 @@ one_report bytes x y i j =
     let b = same_init x.init y.init (from_costs x) (from_costs y) f.init g.init (costs_not 105 x not_true not_true not_true) (costs_not 105 y not_true not_true not_true) a.2 in
     let c = same_rows FitsCost cost_line 99 cost_head same_cost x.rows y.rows (from_loops x) (from_loops y) f.rows g.rows (loops_not 99 x not_true not_true) (loops_not 99 y not_true not_true) b.1 in
     let d = same_loops x.loops y.loops (from_units x) (from_units y) (loops_sorts x.loops i.form.loops f.loops) (loops_sorts y.loops j.form.loops g.loops)
-        (units_not 101 x not_true) (units_not 101 y not_true) (units_not 108 x not_true) (units_not 108 y not_true) c.1 in
+    (units_not 101 x not_true) (units_not 101 y not_true) (units_not 108 x not_true) (units_not 108 y not_true) c.1 in
     let e = same_units x.units y.units (from_memories x) (from_memories y) f.units g.units d.1 in
     let m = same_rows IsMemory memory_line 109 memory_head same_memory x.memories y.memories (last_lines x.registers) (last_lines y.registers) (both_sorts x.memories i.form.memories f.memories) (both_sorts y.memories j.form.memories g.memories)
-        (last_not 109 x not_true) (last_not 109 y not_true) e.1 in
+    (last_not 109 x not_true) (last_not 109 y not_true) e.1 in
     let n = same_last x.registers y.registers f.registers g.registers m.1 in
     ap (λ z. report_of z x.base x.init x.rows x.loops x.units x.memories x.registers) a.0
     ∙ (ap (λ z. report_of y.settings z x.init x.rows x.loops x.units x.memories x.registers) a.1

@@ -1,4 +1,4 @@
-use Rattle.std.proofs.Common.{codes, ◌++◌, ◌∙◌, ap, sym, map, subst}
+use Rattle.std.proofs.Common.{codes, ◌++◌, ◌∙◌, ap, map, subst}
 use Rattle.std.specs.List.{All}
 use Rattle.cycle_report.specs.ReportForm.{FitsCost, FitsLoop, FitsMemory}
 use Rattle.std.specs.Fmt.{decimal}
