@@ -1,7 +1,8 @@
 //! The work of a command: it reads, compiles and writes, and puts nothing.
 ghost use Rattle.std.specs.Prelude.{◌⊎◌, IfOk, OnOk, OnErr, IsErrOf};
 ghost use Rattle.hls_base.specs.Outside.{HasRisen, NeverFalls, WhereTold, IsAbsent};
-ghost use Rattle.hls_flow.specs.FirstFault.{IsFirstFault, IfRefused};
+ghost use Rattle.hls_base.specs.Refusals.{IfRefused};
+ghost use Rattle.hls_flow.specs.FirstFault.{IsFirstFault};
 ghost use Rattle.hls_flow.specs.Synthesis.{SynthesisIsCorrect};
 ghost use Rattle.hls_cli.specs.Command.{NamesThreeFiles, settings_of};
 ghost use Rattle.hls_cli.specs.Work.{AreWritten, AreCutShort, IsWork};
