@@ -1,3 +1,6 @@
+ghost use Rattle.std.specs.Prelude.{◌≡◌};
+ghost use Rattle.c_token.specs.Spelling.{spelling};
+
 /// The punctuators, C11 6.4.6.
 #[derive(Clone, Copy, Debug, PartialEq, Eq)]
 pub enum Punct {
@@ -49,4 +52,63 @@ pub enum Punct {
     ShiftRightEqual,
     HashHash,
     Hash,
+}
+
+impl Punct {
+    /// How the punctuator is written.
+    #[tactic(auto, unfolding(crate::specs::Spelling::spelling))]
+    pub fn spelling(self) -> &'static [u8]
+        ensures { result.now ≡ spelling self }
+    {
+        match self {
+            Punct::LeftParen => b"(",
+            Punct::RightParen => b")",
+            Punct::LeftBracket => b"[",
+            Punct::RightBracket => b"]",
+            Punct::LeftBrace => b"{",
+            Punct::RightBrace => b"}",
+            Punct::Semicolon => b";",
+            Punct::Comma => b",",
+            Punct::Colon => b":",
+            Punct::Question => b"?",
+            Punct::Tilde => b"~",
+            Punct::Bang => b"!",
+            Punct::Plus => b"+",
+            Punct::Minus => b"-",
+            Punct::Star => b"*",
+            Punct::Slash => b"/",
+            Punct::Percent => b"%",
+            Punct::Amp => b"&",
+            Punct::Bar => b"|",
+            Punct::Caret => b"^",
+            Punct::Less => b"<",
+            Punct::Greater => b">",
+            Punct::Equal => b"=",
+            Punct::Dot => b".",
+            Punct::Ellipsis => b"...",
+            Punct::Arrow => b"->",
+            Punct::PlusPlus => b"++",
+            Punct::MinusMinus => b"--",
+            Punct::ShiftLeft => b"<<",
+            Punct::ShiftRight => b">>",
+            Punct::LessEqual => b"<=",
+            Punct::GreaterEqual => b">=",
+            Punct::EqualEqual => b"==",
+            Punct::BangEqual => b"!=",
+            Punct::AmpAmp => b"&&",
+            Punct::BarBar => b"||",
+            Punct::PlusEqual => b"+=",
+            Punct::MinusEqual => b"-=",
+            Punct::StarEqual => b"*=",
+            Punct::SlashEqual => b"/=",
+            Punct::PercentEqual => b"%=",
+            Punct::AmpEqual => b"&=",
+            Punct::BarEqual => b"|=",
+            Punct::CaretEqual => b"^=",
+            Punct::ShiftLeftEqual => b"<<=",
+            Punct::ShiftRightEqual => b">>=",
+            Punct::HashHash => b"##",
+            Punct::Hash => b"#",
+        }
+    }
 }

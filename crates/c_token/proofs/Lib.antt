@@ -1,0 +1,4 @@
+mod Examples
+pub mod Fronts
+pub mod Signs
+pub mod Unique
