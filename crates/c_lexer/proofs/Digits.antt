@@ -1,5 +1,5 @@
 -- Values of rows of digits.
-use Rattle.std.proofs.Common.{◌≡◌, ℕ, ◌+◌, ◌-◌, ◌*◌, ◌^◌, ◌<◌, ◌≤◌, ◌∙◌, sym, refl, ap, subst, List, [], ◌∷◌, ◌++◌, length, take, drop, get_or, arith}
+use Rattle.std.proofs.Common.{◌≡◌, ℕ, ◌+◌, ◌*◌, ◌^◌, ◌<◌, ◌≤◌, ◌∙◌, sym, refl, ap, subst, List, [], ◌∷◌, ◌++◌, length, take, drop, get_or, arith}
 use Rattle.std.specs.Str.Parse.{digits_value, digits_value_after}
 use Rattle.std.specs.Char.{digit_value}
 use Rattle.std.proofs.lemmas.List.{take-append-drop}
@@ -22,9 +22,9 @@ after-ge r n (d ∷ ds) some =
 pub front_value : (r i : ℕ) (ds : List ℕ) → 1 ≤ r → digits_value r (take i ds) ≤ digits_value r ds
 front_value r i ds some =
     let e : digits_value r ds ≡ digits_value_after r (digits_value r (take i ds)) (drop i ds) =
-      ap (digits_value r) (sym (take-append-drop i ds)) ∙ after-append r 0 (take i ds) (drop i ds) in
+    ap (digits_value r) (sym (take-append-drop i ds)) ∙ after-append r 0 (take i ds) (drop i ds) in
     let g : digits_value r (take i ds) ≤ digits_value_after r (digits_value r (take i ds)) (drop i ds) =
-      after-ge r (digits_value r (take i ds)) (drop i ds) some in
+    after-ge r (digits_value r (take i ds)) (drop i ds) some in
     omega arith
 
 pub below_power : (v n : ℕ) → v < 2 ^ 64 → 64 ≤ n → v < 2 ^ n

@@ -1,5 +1,5 @@
 -- What is known of a source that is read up to some place.
-use Rattle.std.proofs.Common.{◌≡◌, ℕ, ◌+◌, ◌-◌, ◌<◌, ◌≤◌, ◌∙◌, sym, refl, ap, subst, Bool, true, false, cond, List, [], ◌∷◌, ◌++◌, length, take, append_assoc, arith, inl, inr, Result, Ok, Err}
+use Rattle.std.proofs.Common.{◌≡◌, ℕ, ◌-◌, ◌≤◌, ◌∙◌, sym, refl, ap, subst, Bool, true, false, cond, List, [], ◌∷◌, ◌++◌, length, take, append_assoc, arith, inl, inr, Result, Ok, Err}
 use Rattle.std.specs.Prelude.{◌&&◌}
 use Rattle.std.proofs.lemmas.Bool.{cases_Bool}
 use Rattle.std.proofs.lemmas.List.{take_at, length-append, append-nil}
@@ -84,10 +84,11 @@ no_hash line u fits other = elim (cases_Bool (is_hash u.kind)) [ inl t ↦ absur
 token_on : (line : Line) (pieces : List Piece) (done : List Token) (text : List ℕ) (u : Token) → Fits line (lexeme text u) → SoFar line pieces done → SoFar (line_after line (lexeme text u)) (pieces ++ lexeme text u ∷ []) (done ++ u ∷ [])
 token_on empty pieces done text u fits h =
     elim (cases_Bool (is_hash u.kind)) [
-      inl b ↦ (let P : Bool → Type 0 = λ z. SoFar (cond z hash tokens) (pieces ++ lexeme text u ∷ []) (done ++ u ∷ []) in
-               subst P (sym b) (hash_settled pieces done text u b h))
-    | inr b ↦ (let P : Bool → Type 0 = λ z. SoFar (cond z hash tokens) (pieces ++ lexeme text u ∷ []) (done ++ u ∷ []) in
-               subst P (sym b) (token_settled pieces done text u b h)) ]
+      | inl b ↦ (let P : Bool → Type 0 = λ z. SoFar (cond z hash tokens) (pieces ++ lexeme text u ∷ []) (done ++ u ∷ []) in
+          subst P (sym b) (hash_settled pieces done text u b h))
+      | inr b ↦ (let P : Bool → Type 0 = λ z. SoFar (cond z hash tokens) (pieces ++ lexeme text u ∷ []) (done ++ u ∷ []) in
+          subst P (sym b) (token_settled pieces done text u b h))
+    ]
 token_on hash pieces done text u fits h = token_holding pieces done text u (no_hash hash u fits (λ e. cc)) h
 token_on pragma_line pieces done text u fits h = token_settled pieces done text u (no_hash pragma_line u fits (λ e. cc)) h
 token_on tokens pieces done text u fits h = token_settled pieces done text u (no_hash tokens u fits (λ e. cc)) h
@@ -117,10 +118,10 @@ begun source = record { pieces = []; reads = λ rest end r. r; so_far = λ rest.
 
 pub goes_on : (start now : Standing) (done : List Token) (piece : Piece) → Finds now (next piece) → Fits now.line piece → Progress start now done → Progress start (after now piece) (put piece done)
 goes_on start now done piece found fits p = record {
-    pieces = p.pieces ++ piece ∷ [];
-    reads = λ rest end r. subst (λ x. Reads start x end) (sym (append_assoc p.pieces (piece ∷ []) rest)) (p.reads (piece ∷ rest) end (found, r));
-    so_far = piece_on now.line p.pieces done piece fits p.so_far
-  }
+  pieces = p.pieces ++ piece ∷ [];
+  reads = λ rest end r. subst (λ x. Reads start x end) (sym (append_assoc p.pieces (piece ∷ []) rest)) (p.reads (piece ∷ rest) end (found, r));
+  so_far = piece_on now.line p.pieces done piece fits p.so_far;
+}
 
 -- at the end of the source no `#` is held
 all_settled : (line : Line) (pieces : List Piece) (done : List Token) → SoFar line pieces done → done ≡ tokens_of pieces
@@ -141,7 +142,7 @@ at_end start now done end found p =
 pub stepped : (start now new : Standing) (done us : List Token) → Steps (Finds now) (Ok tt) now new done us → Progress start now done → Progress start new us
 stepped start now new done us (piece, found, fits, e, h, shorter) p =
     subst (λ x. Progress start new x) (sym h)
-      (subst (λ x. Progress start x (put piece done)) (sym e) (goes_on start now done piece found fits p))
+    (subst (λ x. Progress start x (put piece done)) (sym e) (goes_on start now done piece found fits p))
 
 if_refused : (A : Type 0) (e : Fail) (now new : Standing) (ts us : List Token) (R : Refusal → Type 0) → Steps (Finds now) (Err e) now new ts us → ((r : Refusal) → Finds now (ends (refused r)) → R r) → IfRefused {A = A} (Err e) R
 if_refused A (Refused r) now new ts us R h f = f r h

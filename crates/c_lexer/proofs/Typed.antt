@@ -1,5 +1,5 @@
 -- A number of more than 64 bits is no constant.
-use Rattle.std.proofs.Common.{◌≡◌, ℕ, ◌+◌, ◌-◌, ◌^◌, ◌<◌, ◌≤◌, ◌∙◌, sym, refl, ap, subst, Bool, true, false, cond, List, [], ◌∷◌, length, take, drop, get_or, Option, Some, None, arith, inl, inr}
+use Rattle.std.proofs.Common.{◌≡◌, ℕ, ◌-◌, ◌^◌, ◌<◌, ◌≤◌, ◌∙◌, sym, refl, ap, subst, Bool, true, false, cond, List, [], ◌∷◌, length, take, drop, get_or, Some, arith, inl, inr}
 use Rattle.std.specs.Prelude.{find, nat_le, nat_lt, ◌&&◌}
 use Rattle.std.specs.List.{prefix_len}
 use Rattle.std.specs.Char.{digit_value}
@@ -42,8 +42,9 @@ found_64 v [] k a e = absurd cc
 found_64 v (x ∷ ks) k a e =
     let parts = and_parts (has_64 x) (all_64 ks) a in
     elim (cases_Bool (holds v x)) [
-      inl t ↦ held v x parts.0 t
-    | inr f ↦ found_64 v ks k parts.1 (sym (ap (λ b. cond b (Some x) (find (holds v) ks)) f) ∙ e) ]
+      | inl t ↦ held v x parts.0 t
+      | inr f ↦ found_64 v ks k parts.1 (sym (ap (λ b. cond b (Some x) (find (holds v) ks)) f) ∙ e)
+    ]
 
 typed-small : (v : ℕ) (s : Suffix) (d : Bool) (k : CType) → type_of v s d ≡ Some k → v < 2 ^ 64
 unfolding type_of
@@ -58,15 +59,15 @@ digits_pass r n body front count is i below =
     let within : i < n = omega (arith, ap length is, length-take n body) in
     let same : get_or front i 0 ≡ get_or body i 0 = ap (λ x. get_or x i 0) is ∙ get_or-take n body i 0 within in
     let passes : digit_value (get_or body i 0) < r =
-      ltb-true _ _ (prefix_len_passes (λ b. nat_lt (digit_value b) r) body i 0 (omega arith)) in
+    ltb-true _ _ (prefix_len_passes (λ b. nat_lt (digit_value b) r) body i 0 (omega arith)) in
     subst (λ x. digit_value x < r) (sym same) passes
 
 pub no_constant : (text body front : List ℕ) (r n : ℕ) → r ≡ radix_of text → body ≡ drop (mark_length text) text → n ≡ prefix_len (λ b. nat_lt (digit_value b) r) body → front ≡ take n body → (digits_value r front < 2 ^ 64 → ⊥) → (v : ℕ) (k : CType) → IsConstant text v k → ⊥
 no_constant text body front r n base begin count is large v k constant =
     let digits : front ≡ digits_of text =
-      is ∙ (ap (λ x. take x body) count ∙ (ap (λ x. row x body) base ∙ ap (λ x. row (radix_of text) x) begin)) in
+    is ∙ (ap (λ x. take x body) count ∙ (ap (λ x. row x body) base ∙ ap (λ x. row (radix_of text) x) begin)) in
     let value : digits_value r front ≡ v =
-      ap (λ x. digits_value x front) base ∙ (ap (digits_value (radix_of text)) digits ∙ sym constant.is_value) in
+    ap (λ x. digits_value x front) base ∙ (ap (digits_value (radix_of text)) digits ∙ sym constant.is_value) in
     large (subst (λ x. x < 2 ^ 64) (sym value) (typed-small v constant.suffix _ k constant.is_type))
 
 pub digit_count-fits : (r n : ℕ) (body : List ℕ) → n ≡ prefix_len (λ b. nat_lt (digit_value b) r) body → n ≤ length body

@@ -1,11 +1,10 @@
 -- The longest punctuator at a place.
-use Rattle.std.specs.Prelude.{◌≡◌, ℕ, ◌&&◌, ◌||◌, nat_eq, not, Bool, true, List, length, drop, Option, Some, None}
+use Rattle.std.specs.Prelude.{ℕ, ◌&&◌, ◌||◌, nat_eq, not, Bool, List, length, drop, Option, Some, None}
 use Rattle.std.specs.List.{starts_with}
 use Rattle.c_token.specs.Longest.{IsLongest, NoneBegins}
 use Rattle.c_token.specs.Spelling.{spelling, IsSign}
 use Rattle.c_token.specs.SourceText.{is_hash}
 use Rattle.c_token.specs.declared.punct.Punct.{Punct}
-use Rattle.c_token.specs.declared.punct.Punct.TheVariants as p
 use Rattle.c_token.specs.declared.token.TokenKind.TheVariants as k
 
 abbrev pub stands : Bool → List ℕ → Punct → Bool

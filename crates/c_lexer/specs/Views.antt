@@ -1,5 +1,5 @@
 -- What the lexer's own types stand for, and what one of its steps does.
-use Rattle.std.specs.Prelude.{◌≡◌, ℕ, ◌-◌, ◌<◌, true, List, [], ◌∷◌, ◌++◌, length, take, Result, Ok, Err}
+use Rattle.std.specs.Prelude.{◌≡◌, ◌-◌, ◌<◌, true, List, [], ◌∷◌, ◌++◌, length, take, Result, Ok, Err}
 use Rattle.hls_base.specs.declared.refusal.Fail.{Fail}
 use Rattle.hls_base.specs.declared.refusal.Fail.TheVariants.{Refused, Memory}
 use Rattle.hls_base.specs.declared.refusal.Refusal.{Refusal}

@@ -26,7 +26,10 @@ fn is_unsigned_suffix(text: &[u8]) -> bool
 fn is_long_suffix(text: &[u8]) -> bool
     ensures { result ≡ is_long_suffix text.now }
 {
-    text == b"l".as_slice() || text == b"L".as_slice() || text == b"ll".as_slice() || text == b"LL".as_slice()
+    text == b"l".as_slice()
+        || text == b"L".as_slice()
+        || text == b"ll".as_slice()
+        || text == b"LL".as_slice()
 }
 
 fn is_unsigned_long_suffix(text: &[u8]) -> bool
@@ -35,7 +38,8 @@ fn is_unsigned_long_suffix(text: &[u8]) -> bool
 {
     let (first, behind) = text.split_at(1);
     let (front, last) = text.split_at(text.len() - 1);
-    (is_unsigned_suffix(first) && is_long_suffix(behind)) || (is_long_suffix(front) && is_unsigned_suffix(last))
+    (is_unsigned_suffix(first) && is_long_suffix(behind))
+        || (is_long_suffix(front) && is_unsigned_suffix(last))
 }
 
 #[tactic(auto, unfolding(c_token::specs::Constants::suffix_of))]
@@ -55,10 +59,25 @@ fn suffix_of(text: &[u8]) -> Option<Suffix>
     }
 }
 
-const INT: CType = CType::Int { signed: true, bits: 32 };
-const UNSIGNED: CType = CType::Int { signed: false, bits: 32 };
-const LONG: CType = CType::Int { signed: true, bits: 64 };
-const UNSIGNED_LONG: CType = CType::Int { signed: false, bits: 64 };
+const INT: CType = CType::Int {
+    signed: true,
+    bits: 32,
+};
+
+const UNSIGNED: CType = CType::Int {
+    signed: false,
+    bits: 32,
+};
+
+const LONG: CType = CType::Int {
+    signed: true,
+    bits: 64,
+};
+
+const UNSIGNED_LONG: CType = CType::Int {
+    signed: false,
+    bits: 64,
+};
 
 /// The types that a constant with this suffix may have, in order.
 #[tactic(auto, unfolding(c_token::specs::Constants::types))]
@@ -102,7 +121,10 @@ fn holds(value: u64, kind: CType) -> bool
 fn type_of(value: u64, suffix: Suffix, is_decimal: bool) -> Option<CType>
     ensures { result ≡ type_of value (suffix_view suffix) is_decimal }
 {
-    types(suffix, is_decimal).iter().copied().find(|kind| holds(value, *kind))
+    types(suffix, is_decimal)
+        .iter()
+        .copied()
+        .find(|kind| holds(value, *kind))
 }
 
 fn is_hexadecimal(text: &[u8]) -> bool
@@ -163,7 +185,9 @@ fn with_digit(value: u64, byte: u8, radix: u32) -> Option<u64>
     ensures { SomeIff result (value * radix + digit_value byte < 2 ^ 64) (value * radix + digit_value byte) }
 {
     let digit = char::from(byte).to_digit(radix)?;
-    value.checked_mul(u64::from(radix))?.checked_add(u64::from(digit))
+    value
+        .checked_mul(u64::from(radix))?
+        .checked_add(u64::from(digit))
 }
 
 /// The value of a row of digits, if it has 64 bits.

@@ -21,9 +21,17 @@ fn next_place(at: Place, byte: u8) -> Place
     ensures { result ≡ next_place at byte }
 {
     if byte == b'\n' {
-        Place { line: at.line + 1, column: 1, part: 0 }
+        Place {
+            line: at.line + 1,
+            column: 1,
+            part: 0,
+        }
     } else {
-        Place { line: at.line, column: at.column + 1, part: 0 }
+        Place {
+            line: at.line,
+            column: at.column + 1,
+            part: 0,
+        }
     }
 }
 
@@ -70,7 +78,11 @@ impl<'a> Cursor<'a> {
     {
         Cursor {
             left: source,
-            place: Place { line: 1, column: 1, part: 0 },
+            place: Place {
+                line: 1,
+                column: 1,
+                part: 0,
+            },
             line: Line::Empty,
             glued: true,
         }

@@ -13,7 +13,7 @@ mod rows;
 mod signs;
 
 use crate::bytes::opening_at;
-use crate::cursor::{place_after, Cursor};
+use crate::cursor::{Cursor, place_after};
 use crate::pieces::take_piece;
 use c_token::token::Token;
 use hls_base::place::Place;
@@ -30,7 +30,14 @@ pub fn lex(alloc: Global, source: &[u8]) -> Result<Vec<Token>, Fail>
 {
     if source.len() > SOURCE_LIMIT {
         let (front, _) = source.split_at(SOURCE_LIMIT);
-        let place = place_after(Place { line: 1, column: 1, part: 0 }, front);
+        let place = place_after(
+            Place {
+                line: 1,
+                column: 1,
+                part: 0,
+            },
+            front,
+        );
         return Err(Fail::Refused(Refusal { rule: 30, place }));
     }
     let mut cursor = Cursor::new(source);
@@ -40,3 +47,6 @@ pub fn lex(alloc: Global, source: &[u8]) -> Result<Vec<Token>, Fail>
     }
     Ok(tokens)
 }
+
+#[cfg(test)]
+mod tests;

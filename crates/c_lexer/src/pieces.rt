@@ -3,7 +3,7 @@ ghost use Rattle.c_token.specs.Characters.{is_letter, is_digit, opening};
 ghost use Rattle.c_token.specs.SourceText.{is_hash, is_pragma, line_after_token, after, gap, lexeme, pragma, token_at, AtToken, Finds, LongestToken};
 ghost use Rattle.c_lexer.specs.Views.{line_of, opening_of, Steps};
 
-use crate::bytes::{is_digit, is_letter, Opening};
+use crate::bytes::{Opening, is_digit, is_letter};
 use crate::constant::constant;
 use crate::cursor::{Cursor, Line};
 use crate::rows::{block_comment_length, line_comment_length, number_length, word_length};
@@ -20,7 +20,10 @@ const WORD_LIMIT: usize = 64;
 fn fault(cursor: &Cursor, rule: u8) -> Fail
     ensures { result ≡ Fail.Refused (record { rule = rule; place = cursor.now.place }) }
 {
-    Fail::Refused(Refusal { rule, place: cursor.place() })
+    Fail::Refused(Refusal {
+        rule,
+        place: cursor.place(),
+    })
 }
 
 fn is_hash(kind: &TokenKind) -> bool
@@ -52,7 +55,12 @@ fn take_gap(cursor: &mut Cursor, n: usize)
 }
 
 /// Takes n bytes as a token of this kind.
-fn take_lexeme(cursor: &mut Cursor, tokens: &mut Vec<Token>, kind: TokenKind, n: usize) -> Result<(), AllocError>
+fn take_lexeme(
+    cursor: &mut Cursor,
+    tokens: &mut Vec<Token>,
+    kind: TokenKind,
+    n: usize,
+) -> Result<(), AllocError>
     requires { n ≤ length cursor.old.left }
     ensures cursor { IfOk result (λ _. cursor.new ≡ after cursor.old (lexeme (take n cursor.old.left) (token_at cursor.old kind))) }
     ensures tokens { IfOk result (λ _. tokens.new.items ≡ tokens.old.items ++ token_at cursor.old kind ∷ []) }
@@ -128,7 +136,12 @@ fn take_sign(cursor: &mut Cursor, tokens: &mut Vec<Token>) -> Result<(), Fail>
     ensures { Steps (LongestToken cursor.old) result cursor.old cursor.new tokens.old.items tokens.new.items }
 {
     match sign_at(cursor.left(), cursor.is_first()) {
-        Some(punct) => take_lexeme(cursor, tokens, TokenKind::Punct(punct), punct.spelling().len())?,
+        Some(punct) => take_lexeme(
+            cursor,
+            tokens,
+            TokenKind::Punct(punct),
+            punct.spelling().len(),
+        )?,
         None => return Err(fault(cursor, 1)),
     }
     Ok(())
@@ -154,7 +167,12 @@ fn take_token(alloc: Global, cursor: &mut Cursor, tokens: &mut Vec<Token>) -> Re
 }
 
 /// Takes the next piece of the source, which begins so, and puts its token behind the others.
-pub fn take_piece(alloc: Global, begins: Opening, cursor: &mut Cursor, tokens: &mut Vec<Token>) -> Result<(), Fail>
+pub fn take_piece(
+    alloc: Global,
+    begins: Opening,
+    cursor: &mut Cursor,
+    tokens: &mut Vec<Token>,
+) -> Result<(), Fail>
     requires { opening cursor.old.left ≡ opening_of begins }
     ensures { Steps (Finds cursor.old) result cursor.old cursor.new tokens.old.items tokens.new.items }
 {

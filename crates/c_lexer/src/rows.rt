@@ -52,7 +52,9 @@ fn in_number(bytes: &[u8], i: usize) -> bool
         return is_digit(bytes[i]);
     }
     let byte = bytes[i];
-    is_word_byte(byte) || byte == b'.' || ((byte == b'+' || byte == b'-') && is_exponent(bytes[i - 1]))
+    is_word_byte(byte)
+        || byte == b'.'
+        || ((byte == b'+' || byte == b'-') && is_exponent(bytes[i - 1]))
 }
 
 /// How many bytes the `//` comment at the front has.

@@ -1,9 +1,8 @@
 -- The definitions at small texts.
-use Rattle.std.specs.Prelude.{◌≡◌, ℕ, Bool, true, false, List, [], ◌∷◌, codes, Option, Some, None, refl}
+use Rattle.std.specs.Prelude.{◌≡◌, true, false, [], ◌∷◌, codes, None, refl}
 use Rattle.std.proofs.Common.{lit<}
-use Rattle.c_token.specs.declared.ctype.CType.{CType}
-use Rattle.c_token.specs.Constants.{IsConstant, integer, types, type_of, suffix_of, plain, unsigned, long, unsigned_long}
-use Rattle.c_token.specs.Characters.{opening, at_space, at_line_end, at_line_comment, at_block_comment, at_token, is_blank}
+use Rattle.c_token.specs.Constants.{IsConstant, integer, types, type_of, suffix_of, plain, unsigned, unsigned_long}
+use Rattle.c_token.specs.Characters.{opening, at_space, at_token, is_blank}
 use Rattle.c_token.specs.SourceText.{source_start, place_after}
 
 hexadecimal_unsigned : IsConstant (codes "0x10u") 16 (integer false 32)

@@ -1,7 +1,7 @@
 -- Longest and shortest fronts are unique.
-use Rattle.std.proofs.Common.{◌≡◌, ◌≢◌, ℕ, suc, ◌+◌, ◌-◌, ◌<◌, ◌≤◌, ◌∙◌, sym, refl, ap, subst, Bool, true, false, List, [], ◌∷◌, ◌++◌, length, take, drop, get_or, arith, inl, inr}
-use Rattle.std.proofs.lemmas.List.{take_at, drop_at, get_or_append_left, length-append, length-take-le, take-append-drop, get_or-take}
-use Rattle.c_token.specs.Longest.{IsLongest, IsShortest, NoneBegins, IsRowOf}
+use Rattle.std.proofs.Common.{◌≡◌, ℕ, ◌≤◌, ◌∙◌, sym, refl, ap, List, ◌++◌, length, take, arith}
+use Rattle.std.proofs.lemmas.List.{take_at}
+use Rattle.c_token.specs.Longest.{IsLongest, IsShortest}
 
 -- two fronts of one list that are equally long
 pub same_front : (text rest other after : List ℕ) → text ++ rest ≡ other ++ after → length text ≡ length other → text ≡ other
@@ -19,4 +19,3 @@ shortest_unique P bytes text rest other after a b =
     let long : length text ≤ length other = a.2 other after b.0 b.1 in
     let short : length other ≤ length text = b.2 text rest a.0 a.1 in
     same_front text rest other after (sym a.0 ∙ b.0) (omega arith)
-

@@ -1,5 +1,5 @@
 -- Punctuators differ in spelling, and none begins as a word or a number does.
-use Rattle.std.proofs.Common.{◌≡◌, ℕ, ◌<◌, length, lit<, ◌∙◌, sym, refl, ap, Bool, true, false, List, [], ◌∷◌, ◌++◌, get_or, Option, Some}
+use Rattle.std.proofs.Common.{◌≡◌, ℕ, ◌<◌, length, lit<, ◌∙◌, sym, refl, ap, false, List, [], ◌∷◌, Option, Some}
 use Rattle.std.specs.Prelude.{find, bytes_eq, slice_index}
 use Rattle.c_token.specs.Characters.{is_letter, is_digit}
 use Rattle.c_token.specs.Spelling.{spelling}

@@ -1,5 +1,5 @@
 -- A source has one list of tokens or one first fault, never both.
-use Rattle.std.proofs.Common.{◌≡◌, ℕ, ◌<◌, ◌≤◌, ◌∙◌, sym, refl, ap, subst, Bool, true, false, List, [], ◌∷◌, ◌++◌, length, Option, Some, arith, ◌⊎◌, inl, inr}
+use Rattle.std.proofs.Common.{◌≡◌, ℕ, ◌∙◌, sym, refl, ap, subst, true, false, List, [], ◌∷◌, Some, arith, inl, inr}
 use Rattle.std.specs.Prelude.{slice_index, nat_eq}
 use Rattle.std.proofs.lemmas.Bool.{both_ways}
 use Rattle.hls_base.specs.declared.refusal.Refusal.{Refusal}
@@ -8,10 +8,9 @@ use Rattle.c_token.specs.declared.punct.Punct.{Punct}
 use Rattle.c_token.specs.declared.token.Token.{Token}
 use Rattle.c_token.specs.declared.token.TokenKind.TheVariants as k
 use Rattle.c_token.specs.Characters.{Opening, at_end, at_line_end, at_space, at_line_comment, at_block_comment, at_token, opening, is_letter, is_digit}
-use Rattle.c_token.specs.Longest.{IsLongest, IsShortest, NoneBegins}
 use Rattle.c_token.specs.Spelling.{IsLineComment, IsBlockComment, IsWord, IsNumber, in_word, in_number, spelling, IsToken}
 use Rattle.c_token.specs.Constants.{IsConstant, type_of, radix_of}
-use Rattle.c_token.specs.SourceText.{Line, empty, hash, pragma_line, tokens, is_first, Standing, Piece, after, End, whole, refused, Found, ends, next, given, fault, word_found, NumberFound, TokenFound, LongestToken, AtToken, At, Finds, Reads, tokens_of, start_of, source_limit, Spells, FirstFault}
+use Rattle.c_token.specs.SourceText.{Line, empty, hash, pragma_line, tokens, is_first, Standing, Piece, after, End, whole, refused, Found, ends, next, given, NumberFound, TokenFound, LongestToken, AtToken, At, Finds, Reads, tokens_of, start_of, Spells, FirstFault}
 use Rattle.c_token.proofs.Fronts.{longest_unique, shortest_unique}
 use Rattle.c_token.proofs.Signs.{sign_no_letter, sign_no_digit, spelling_unique}
 

@@ -1,5 +1,5 @@
 -- Integer constants, their values and types: C11 6.4.4.1.
-use Rattle.std.specs.Prelude.{◌≡◌, ℕ, ◌-◌, ◌^◌, ◌<◌, ◌==◌, ◌&&◌, ◌||◌, nat_lt, nat_le, nat_eq, Bool, true, false, List, [], ◌∷◌, length, take, drop, codes, slice_index, Option, Some, None, take_while, find, bytes_eq, if◌then◌else◌, option_map}
+use Rattle.std.specs.Prelude.{◌≡◌, ℕ, ◌-◌, ◌^◌, ◌<◌, ◌==◌, ◌&&◌, ◌||◌, nat_lt, nat_eq, Bool, true, false, List, [], ◌∷◌, length, take, drop, codes, slice_index, Option, Some, None, take_while, find, bytes_eq, if◌then◌else◌}
 use Rattle.std.specs.Str.Parse.{digits_value}
 use Rattle.std.specs.Char.{digit_value}
 use Rattle.c_token.specs.declared.ctype.CType.{CType}

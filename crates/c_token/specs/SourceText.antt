@@ -1,5 +1,5 @@
 -- What the text of a source is as a list of tokens, or its first fault: C11 5.1.1.2 and 6.4.
-use Rattle.std.specs.Prelude.{◌≡◌, ℕ, ◌+◌, ◌<◌, ◌≤◌, ◌==◌, ◌&&◌, ◌||◌, nat_le, Bool, true, false, List, [], ◌∷◌, ◌++◌, length, take, drop, codes, bytes_eq, ◌⊎◌, if◌then◌else◌}
+use Rattle.std.specs.Prelude.{◌≡◌, ℕ, ◌+◌, ◌<◌, ◌≤◌, ◌==◌, ◌&&◌, nat_le, Bool, true, false, List, [], ◌∷◌, length, take, drop, codes, bytes_eq, ◌⊎◌, if◌then◌else◌}
 use Rattle.hls_base.specs.declared.place.Place.{Place}
 use Rattle.hls_base.specs.declared.refusal.Refusal.{Refusal}
 use Rattle.c_token.specs.declared.ctype.CType.{CType}
@@ -79,11 +79,11 @@ glues _ = false
 -- the place behind a piece
 abbrev pub after : Standing → Piece → Standing
 after s piece = record {
-    left = drop (length (piece_text piece)) s.left;
-    place = place_after s.place (piece_text piece);
-    line = line_after s.line piece;
-    glued = glues piece
-  }
+  left = drop (length (piece_text piece)) s.left;
+  place = place_after s.place (piece_text piece);
+  line = line_after s.line piece;
+  glued = glues piece;
+}
 
 -- What is found at a place: the end, a piece, or a fault.
 pub data End : Type 0 where

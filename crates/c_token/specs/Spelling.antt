@@ -1,5 +1,5 @@
 -- Which texts are comments and tokens: C11 6.4.
-use Rattle.std.specs.Prelude.{◌≡◌, ℕ, ◌+◌, ◌-◌, ◌<◌, ◌≤◌, ◌==◌, ◌&&◌, ◌||◌, nat_lt, not, Bool, true, false, List, [], ◌∷◌, ◌++◌, length, codes, slice_index, ◌⊎◌, if◌then◌else◌}
+use Rattle.std.specs.Prelude.{◌≡◌, ℕ, ◌-◌, ◌==◌, ◌&&◌, ◌||◌, nat_lt, not, Bool, true, List, [], ◌∷◌, ◌++◌, codes, slice_index, ◌⊎◌, if◌then◌else◌}
 use Rattle.c_token.specs.Characters.{is_letter, is_digit, is_word_byte}
 use Rattle.c_token.specs.Longest.{IsRowOf}
 use Rattle.c_token.specs.declared.punct.Punct.{Punct}
@@ -39,7 +39,7 @@ unfoldable pub in_number : List ℕ → ℕ → Bool
 in_number text i =
     if i == 0 then is_digit (slice_index text i)
     else (is_word_byte (slice_index text i) || (slice_index text i == 46)
-      || (((slice_index text i == 43) || (slice_index text i == 45)) && is_exponent (slice_index text (i - 1))))
+    || (((slice_index text i == 43) || (slice_index text i == 45)) && is_exponent (slice_index text (i - 1))))
 
 abbrev pub IsNumber : List ℕ → Type 0
 IsNumber = IsRowOf in_number

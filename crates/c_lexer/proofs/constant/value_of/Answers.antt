@@ -1,4 +1,4 @@
-use Rattle.std.proofs.Common.{◌≡◌, ◌∙◌, sym, ap, arith, take, length}
+use Rattle.std.proofs.Common.{◌≡◌, ◌∙◌, ap, arith, take}
 use Rattle.std.specs.Str.Parse.{digits_value}
 use Rattle.std.proofs.lemmas.List.{take_all}
 use Rattle.c_lexer.proofs.Digits.{value_on, value_too_large}
@@ -7,7 +7,7 @@ use Rattle.c_lexer.proofs.constant.value_of.Goals as goal
 pub returns-in_err-value : goal.returns-in_err-value
 returns-in_err-value c =
     rw c.from_residual.ensures
-      (value_too_large c.args.radix c.loop-byte.byte-index c.loop-byte.value c.args.digits.now (omega arith) c.loop-byte-test.true c.loop-byte.invariant.0 c.in_err-value.ensures)
+    (value_too_large c.args.radix c.loop-byte.byte-index c.loop-byte.value c.args.digits.now (omega arith) c.loop-byte-test.true c.loop-byte.invariant.0 c.in_err-value.ensures)
 
 pub loop-byte-preserved : goal.loop-byte-preserved
 loop-byte-preserved c =

@@ -1,4 +1,4 @@
-use Rattle.std.proofs.Common.{◌≡◌, ◌+◌, ◌≤◌, drop, length}
+use Rattle.std.proofs.Common.{◌≡◌, ◌+◌, ◌≤◌, drop}
 use Rattle.c_token.specs.SourceText.{place_after}
 use Rattle.c_lexer.proofs.cursor.place_after.Given as goal
 

@@ -1,5 +1,5 @@
-use Rattle.std.proofs.Common.{◌≡◌, ◌≤◌, ◌∙◌, sym, ap, subst, refl, arith, length, Some, None}
-use Rattle.c_token.specs.Characters.{opening, at_line_end, at_space, at_line_comment, at_block_comment, at_token}
+use Rattle.std.proofs.Common.{◌∙◌, ap, subst, refl, Some, None}
+use Rattle.c_token.specs.Characters.{at_line_end, at_token}
 use Rattle.c_token.specs.Spelling.{in_line_comment}
 use Rattle.c_lexer.specs.Runs.{IsRun, IsFirstClose}
 use Rattle.c_lexer.specs.Views.{opening_of}
@@ -24,21 +24,21 @@ take_token-requires c = opens c.args.cursor.now.left at_token (c.requires ∙ ap
 pub returns-in-LineEnd : goal.returns-in-LineEnd
 returns-in-LineEnd c =
     line_end_taken c.args.cursor.now c.advance.new.self c.args.tokens.now.items c.args.tokens.now.items
-      (c.requires ∙ ap opening_of c.in-LineEnd.is) c.advance.ensures refl
+    (c.requires ∙ ap opening_of c.in-LineEnd.is) c.advance.ensures refl
 
 pub returns-in-Space : goal.returns-in-Space
 returns-in-Space c =
     space_taken c.args.cursor.now c.take_gap.new.cursor c.args.tokens.now.items c.args.tokens.now.items c.in-Space.n
-      (c.requires ∙ ap opening_of c.in-Space.is) c.take_gap.ensures refl
+    (c.requires ∙ ap opening_of c.in-Space.is) c.take_gap.ensures refl
 
 pub returns-in-LineComment : goal.returns-in-LineComment
 returns-in-LineComment c =
     let run = subst (λ x. IsRun in_line_comment x c.line_comment_length-n.result) c.left.ensures c.line_comment_length-n.ensures in
     line_comment_taken c.args.cursor.now c.take_gap-in-LineComment.new.cursor c.args.tokens.now.items c.args.tokens.now.items c.line_comment_length-n.result
-      (c.requires ∙ ap opening_of c.in-LineComment.is) run c.take_gap-in-LineComment.ensures refl
+    (c.requires ∙ ap opening_of c.in-LineComment.is) run c.take_gap-in-LineComment.ensures refl
 
 pub returns-in-Some : goal.returns-in-Some
 returns-in-Some c =
     let close = subst (λ x. IsFirstClose x (Some c.in-Some.n)) c.left-in-BlockComment.ensures c.in-Some.ensures in
     block_comment_taken c.args.cursor.now c.take_gap-in-Some.new.cursor c.args.tokens.now.items c.args.tokens.now.items c.in-Some.n
-      (c.requires ∙ ap opening_of c.in-BlockComment.is) close c.take_gap-in-Some.ensures refl
+    (c.requires ∙ ap opening_of c.in-BlockComment.is) close c.take_gap-in-Some.ensures refl
