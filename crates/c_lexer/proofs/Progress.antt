@@ -11,7 +11,8 @@ use Rattle.c_token.specs.declared.token.Token.{Token}
 use Rattle.c_token.specs.Characters
 use Rattle.c_token.specs.Characters.{opening}
 use Rattle.c_token.specs.SourceText.{Line, empty, hash, pragma_line, tokens, Standing, Piece, gap, line_end, lexeme, pragma, is_hash, line_after, after, End, whole, refused, next, ends, Finds, Reads, tokens_of, pragma_follows, start_of, source_limit, Spells, FirstFault}
-use Rattle.c_lexer.specs.Views.{Fits, put, Steps, IfRefused}
+use Rattle.c_token.specs.Refusals.{IfRefused}
+use Rattle.c_lexer.specs.Views.{Fits, put, Steps}
 use Rattle.c_lexer.proofs.Found.{at_place}
 
 -- the tokens of the pieces so far, whatever comes behind them

@@ -43,8 +43,3 @@ Steps Finds (Ok _) old new ts us =
     (piece : Piece) × Finds (next piece) × Fits old.line piece × (new ≡ after old piece) × (us ≡ put piece ts) × (length new.left < length old.left)
 Steps Finds (Err (Refused r)) old new ts us = Finds (ends (refused r))
 Steps Finds (Err Memory) old new ts us = Unit {0}
-
-abbrev pub IfRefused : {A : Type 0} → Result A Fail → (Refusal → Type 0) → Type 0
-IfRefused (Ok x) P = Unit {0}
-IfRefused (Err (Refused r)) P = P r
-IfRefused (Err Memory) P = Unit {0}

@@ -3,7 +3,7 @@
 
 ghost use Rattle.std.specs.Prelude.{IfOk};
 ghost use Rattle.c_token.specs.SourceText.{Spells, FirstFault};
-ghost use Rattle.c_lexer.specs.Views.{IfRefused};
+ghost use Rattle.c_token.specs.Refusals.{IfRefused};
 
 mod bytes;
 mod constant;
