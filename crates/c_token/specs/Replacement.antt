@@ -139,19 +139,20 @@ abbrev pub is_word : List ℕ → TokenKind → Bool
 is_word word (k.Word other) = bytes_eq word other
 is_word word _ = false
 
--- `stdint.h` behind `include`, C11 6.10.2
+abbrev pub is_punct : Punct → TokenKind → Bool
+is_punct punct (k.Punct other) = bytes_eq (spelling other) (spelling punct)
+is_punct punct _ = false
+
+-- `<stdint.h>` behind `include`, C11 6.10.2
 abbrev pub names_stdint : List Token → Bool
-names_stdint tokens = same_kinds_as (k.Punct p.Less ∷ k.Word (codes "stdint") ∷ k.Punct p.Dot ∷ k.Word (codes "h") ∷ k.Punct p.Greater ∷ []) tokens
-  where
-    same_kinds_as : List TokenKind → List Token → Bool
-    same_kinds_as [] [] = true
-    same_kinds_as (kind ∷ kinds) (token ∷ tokens) = same_kind kind token.kind && same_kinds_as kinds tokens
-    same_kinds_as _ _ = false
+names_stdint (a ∷ (b ∷ (c ∷ (d ∷ (e ∷ []))))) =
+    is_punct p.Less a.kind && is_word (codes "stdint") b.kind && is_punct p.Dot c.kind && is_word (codes "h") d.kind && is_punct p.Greater e.kind
+names_stdint _ = false
 
 -- a macro with parameters, C11 6.10.3
 abbrev pub has_parameters : List Token → Bool
 has_parameters [] = false
-has_parameters (token ∷ tokens) = same_kind token.kind (k.Punct p.LeftParen) && token.glued
+has_parameters (token ∷ tokens) = is_punct p.LeftParen token.kind && token.glued
 
 abbrev pub may_be_defined : List ℕ → Bool
 may_be_defined word = not (is_in word keywords) && is_none (find_word word exact_types)
