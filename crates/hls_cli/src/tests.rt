@@ -13,7 +13,7 @@ const REPORT: &str = "hls-report 1\ntop f\nsettings mul 1 div 1 ports 1 plain 0\
 
 // What a run left.
 #[derive(Drop)]
-struct Left {
+struct Ended {
     status: u8,
     shelf: MemoryShelf,
     out: MemorySink,
@@ -32,13 +32,13 @@ fn words_of(alloc: Global, line: &str) -> Result<Vec<String>, AllocError> {
 }
 
 // Runs these words over a shelf that has one file, and fails in the calls of these numbers. None does not come: one name differs from no other.
-fn left(
+fn run_over(
     alloc: Global,
     line: &str,
     file: (&str, &str),
     shelf_fails: &[u64],
     sink_fails: &[u64],
-) -> Result<Option<Left>, AllocError> {
+) -> Result<Option<Ended>, AllocError> {
     let name = Text::from_slice(alloc, file.0.as_bytes())?;
     let bytes = Text::from_slice(alloc, file.1.as_bytes())?;
     let mut files = Vec::new(alloc);
@@ -50,7 +50,7 @@ fn left(
     let mut shelf = MemoryShelf::new(alloc, files, fails_of(alloc, shelf_fails)?);
     let mut out = MemorySink::new(alloc, fails_of(alloc, sink_fails)?);
     let status = run(alloc, &words, &mut shelf, &mut out);
-    Ok(Some(Left { status, shelf, out }))
+    Ok(Some(Ended { status, shelf, out }))
 }
 
 fn is(bytes: &[u8], text: &str) -> bool {
@@ -61,30 +61,52 @@ fn half(bytes: &[u8]) -> &[u8] {
     &bytes[..bytes.len() / 2]
 }
 
+fn has(ended: &Ended, name: &str, bytes: &[u8]) -> bool {
+    match ended.shelf.get(name) {
+        Some(found) => found == bytes,
+        None => false,
+    }
+}
+
 // No file was written.
-fn wrote_nothing(left: &Left) -> bool {
-    left.shelf.get("s.v").is_none() && left.shelf.get("s.rep").is_none()
+fn wrote_nothing(ended: &Ended) -> bool {
+    ended.shelf.get("s.v").is_none() && ended.shelf.get("s.rep").is_none()
+}
+
+// The bytes of the module that a run without a fault writes.
+fn module_of(ended: &Ended) -> &[u8] {
+    ended.shelf.get("s.v").unwrap_or(b"")
 }
 
 #[test]
 fn sum_is_made(rt: HostRuntime) {
-    let run = left(rt.alloc(), SYNTH, ("s.c", SUM), &[], &[]).expect(&rt, "memory");
-    let left = run.expect(&rt, "names differ");
-    assert_eq!(rt; left.status, 0);
-    assert!(rt; is(left.out.written(), "made hls_f\n"));
-    assert!(rt; left.shelf.get("s.rep").is_some_and(|report| is(report, REPORT)));
-    assert!(rt; left.shelf.get("s.v").is_some_and(|module| module.starts_with(b"module hls_f(")));
-    assert!(rt; left.shelf.get("s.c").is_some_and(|source| is(source, SUM)));
+    let ran = run_over(rt.alloc(), SYNTH, ("s.c", SUM), &[], &[]).expect(&rt, "memory");
+    let ended = ran.expect(&rt, "names differ");
+    assert_eq!(rt; ended.status, 0);
+    assert!(rt; is(ended.out.written(), "made hls_f\n"));
+    assert!(rt; has(&ended, "s.c", SUM.as_bytes()));
+    assert!(rt; has(&ended, "s.rep", REPORT.as_bytes()));
+    assert!(rt; module_of(&ended).starts_with(b"module hls_f("));
 }
 
 #[test]
 fn other_source_is_refused(rt: HostRuntime) {
     let source = "unsigned f(unsigned a){return a-a;}";
-    let run = left(rt.alloc(), SYNTH, ("s.c", source), &[], &[]).expect(&rt, "memory");
-    let left = run.expect(&rt, "names differ");
-    assert_eq!(rt; left.status, 1);
-    assert!(rt; is(left.out.written(), "rule 37 at 1:1\n"));
-    assert!(rt; wrote_nothing(&left));
+    let ran = run_over(rt.alloc(), SYNTH, ("s.c", source), &[], &[]).expect(&rt, "memory");
+    let ended = ran.expect(&rt, "names differ");
+    assert_eq!(rt; ended.status, 1);
+    assert!(rt; is(ended.out.written(), "rule 37 at 1:1\n"));
+    assert!(rt; wrote_nothing(&ended));
+}
+
+// The status and the line, where no file was written.
+fn says(line: &str, name: &str, fails: (&[u64], &[u64]), status: u8, text: &str, alloc: Global) -> bool {
+    match run_over(alloc, line, (name, SUM), fails.0, fails.1) {
+        Ok(Some(ended)) => {
+            ended.status == status && is(ended.out.written(), text) && wrote_nothing(&ended)
+        }
+        _ => false,
+    }
 }
 
 #[test]
@@ -96,57 +118,56 @@ fn other_words_are_no_command(rt: HostRuntime) {
         "synth s.c s.v s.rep --top -f",
         "synth s.c s.v s.rep --top f more",
     ] {
-        let run = left(rt.alloc(), line, ("s.c", SUM), &[], &[]).expect(&rt, "memory");
-        let left = run.expect(&rt, "names differ");
-        assert_eq!(rt; left.status, 2, "{line}");
-        assert!(rt; is(left.out.written(), "usage: hls COMMAND ARGUMENTS\n"), "{line}");
-        assert!(rt; wrote_nothing(&left), "{line}");
+        let usage = "usage: hls COMMAND ARGUMENTS\n";
+        assert!(rt; says(line, "s.c", (&[], &[]), 2, usage, rt.alloc()), "{line}");
     }
 }
 
 #[test]
 fn fault_before_a_write(rt: HostRuntime) {
-    for (name, shelf_fails, sink_fails, line) in [
-        ("s.c", &[0u64] as &[u64], &[] as &[u64], "fault\n"),
-        ("s.c", &[0], &[0], "fau"),
-        ("other.c", &[], &[], "fault\n"),
-    ] {
-        let run = left(rt.alloc(), SYNTH, (name, SUM), shelf_fails, sink_fails);
-        let left = run.expect(&rt, "memory").expect(&rt, "names differ");
-        assert_eq!(rt; left.status, 3, "{line}");
-        assert!(rt; is(left.out.written(), line), "{line}");
-        assert!(rt; wrote_nothing(&left), "{line}");
-    }
+    let alloc = rt.alloc();
+    assert!(rt; says(SYNTH, "s.c", (&[0], &[]), 3, "fault\n", alloc));
+    assert!(rt; says(SYNTH, "s.c", (&[0], &[0]), 3, "fau", alloc));
+    assert!(rt; says(SYNTH, "other.c", (&[], &[]), 3, "fault\n", alloc));
 }
 
 #[test]
-fn fault_of_a_write(rt: HostRuntime) {
-    let run = left(rt.alloc(), SYNTH, ("s.c", SUM), &[1], &[]).expect(&rt, "memory");
-    let at_report = run.expect(&rt, "names differ");
-    assert_eq!(rt; at_report.status, 3);
-    assert!(rt; is(at_report.out.written(), "fault\n"));
-    assert!(rt; at_report.shelf.get("s.rep").is_some_and(|report| report == half(REPORT.as_bytes())));
-    assert!(rt; at_report.shelf.get("s.v").is_none());
+fn fault_at_the_report(rt: HostRuntime) {
+    let ran = run_over(rt.alloc(), SYNTH, ("s.c", SUM), &[1], &[]).expect(&rt, "memory");
+    let ended = ran.expect(&rt, "names differ");
+    assert_eq!(rt; ended.status, 3);
+    assert!(rt; is(ended.out.written(), "fault\n"));
+    assert!(rt; has(&ended, "s.rep", half(REPORT.as_bytes())));
+    assert!(rt; ended.shelf.get("s.v").is_none());
+}
 
-    let run = left(rt.alloc(), SYNTH, ("s.c", SUM), &[2], &[]).expect(&rt, "memory");
-    let at_module = run.expect(&rt, "names differ");
-    assert_eq!(rt; at_module.status, 3);
-    assert!(rt; is(at_module.out.written(), "fault\n"));
-    assert!(rt; at_module.shelf.get("s.rep").is_some_and(|report| is(report, REPORT)));
-    let run = left(rt.alloc(), SYNTH, ("s.c", SUM), &[], &[]).expect(&rt, "memory");
-    let whole = run.expect(&rt, "names differ");
-    let module = whole.shelf.get("s.v").expect(&rt, "it was made");
-    assert!(rt; at_module.shelf.get("s.v").is_some_and(|cut| cut == half(module)));
+#[test]
+fn fault_at_the_module(rt: HostRuntime) {
+    let ran = run_over(rt.alloc(), SYNTH, ("s.c", SUM), &[2], &[]).expect(&rt, "memory");
+    let ended = ran.expect(&rt, "names differ");
+    let ran = run_over(rt.alloc(), SYNTH, ("s.c", SUM), &[], &[]).expect(&rt, "memory");
+    let whole = ran.expect(&rt, "names differ");
+    assert_eq!(rt; ended.status, 3);
+    assert!(rt; is(ended.out.written(), "fault\n"));
+    assert!(rt; has(&ended, "s.rep", REPORT.as_bytes()));
+    assert!(rt; has(&ended, "s.v", half(module_of(&whole))));
+}
+
+// The bytes put where the puts of these numbers fail, and both files are whole.
+fn puts(sink_fails: &[u64], text: &str, alloc: Global) -> bool {
+    match run_over(alloc, SYNTH, ("s.c", SUM), &[], sink_fails) {
+        Ok(Some(ended)) => {
+            ended.status == 3
+                && is(ended.out.written(), text)
+                && has(&ended, "s.rep", REPORT.as_bytes())
+                && module_of(&ended).ends_with(b"endmodule\n")
+        }
+        _ => false,
+    }
 }
 
 #[test]
 fn fault_of_the_line(rt: HostRuntime) {
-    for (sink_fails, line) in [(&[0u64] as &[u64], "made fault\n"), (&[0, 1], "made fau")] {
-        let run = left(rt.alloc(), SYNTH, ("s.c", SUM), &[], sink_fails);
-        let left = run.expect(&rt, "memory").expect(&rt, "names differ");
-        assert_eq!(rt; left.status, 3, "{line}");
-        assert!(rt; is(left.out.written(), line), "{line}");
-        assert!(rt; left.shelf.get("s.rep").is_some_and(|report| is(report, REPORT)), "{line}");
-        assert!(rt; left.shelf.get("s.v").is_some(), "{line}");
-    }
+    assert!(rt; puts(&[0], "made fault\n", rt.alloc()));
+    assert!(rt; puts(&[0, 1], "made fau", rt.alloc()));
 }
