@@ -35,7 +35,7 @@ same_fields c d e1 e2 e3 e4 =
 pub one_command : (words : List (List ℕ)) (c d : Command) → IsCommand words c → IsCommand words d → d ≡ c
 one_command words c d first second =
     let e : six (codes "synth") d.source d.module_file d.report (codes "--top") d.top ≡ six (codes "synth") c.source c.module_file c.report (codes "--top") c.top
-        = sym second.words_are ∙ first.words_are in
+    = sym second.words_are ∙ first.words_are in
     let e1 : d.source ≡ c.source = cc in
     let e2 : d.module_file ≡ c.module_file = cc in
     let e3 : d.report ≡ c.report = cc in
@@ -52,7 +52,7 @@ pub no_command : (words : List (List ℕ)) (c : Command) → words ≡ six (code
     (HasPlainWords c → NamesThreeFiles c → ⊥) → (d : Command) → IsSynth words d → ⊥
 no_command words c e none d is =
     let f : six (codes "synth") d.source d.module_file d.report (codes "--top") d.top ≡ six (codes "synth") c.source c.module_file c.report (codes "--top") c.top
-        = sym is.command.words_are ∙ e in
+    = sym is.command.words_are ∙ e in
     let e1 : d.source ≡ c.source = cc in
     let e2 : d.module_file ≡ c.module_file = cc in
     let e3 : d.report ≡ c.report = cc in

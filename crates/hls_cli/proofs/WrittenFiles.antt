@@ -33,8 +33,8 @@ pub second_cut : {E : Type 0} (r : Result (Unit {0}) E) (c : Command) (m p name 
 second_cut (Ok x) c m p name text name2 text2 old between new e1 e2 e3 e4 first second = second
 second_cut (Err e) c m p name text name2 text2 old between new e1 e2 e3 e4 first second =
     module_cut c m p old between new
-      (subst (λ t. WhereTold (IsWritten c.report t) old between) e2 (subst (λ n. WhereTold (IsWritten n text) old between) e1 first))
-      (subst (λ t. WhereTold (IsCutShort c.module_file t) between new) e4 (subst (λ n. WhereTold (IsCutShort n text2) between new) e3 second))
+    (subst (λ t. WhereTold (IsWritten c.report t) old between) e2 (subst (λ n. WhereTold (IsWritten n text) old between) e1 first))
+    (subst (λ t. WhereTold (IsCutShort c.module_file t) between new) e4 (subst (λ n. WhereTold (IsCutShort n text2) between new) e3 second))
 
 -- ---- a read and what follows
 
@@ -53,9 +53,9 @@ after_read : {R S : Files → Files → Type 0} → (c : Command) (name source :
     AreFirstBytes old name 65537 source → read ≡ old → WhereTold R read new → ((x y : Files) → IsSourceOf c x source → R x y → S x y) → WhereTold S old new
 after_read {R} {S} c name source old read new e bytes same told f =
     told_at old new (subst (λ o. WhereTold R o new) same told)
-      (λ x y at r.
-        let here : AreFirstBytes (Some x) name 65537 source = subst (λ o. AreFirstBytes o name 65537 source) at bytes in
-        f x y (source_of c x name source (x name) e refl here) r)
+    (λ x y at r.
+    let here : AreFirstBytes (Some x) name 65537 source = subst (λ o. AreFirstBytes o name 65537 source) at bytes in
+    f x y (source_of c x name source (x name) e refl here) r)
 
 made : (c : Command) (source m p : List ℕ) → NamesThreeFiles c → SynthesisIsCorrect source (settings_of c) m p → (x y : Files) → IsSourceOf c x source → AreWritten c m p x y → IsMade c x y
 made c source m p names correct x y is w = record {

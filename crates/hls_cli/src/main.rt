@@ -10,9 +10,8 @@ mod work;
 
 use crate::run::run;
 use hls_base::real::{RealShelf, RealSink};
-use std::env;
-use std::io;
 use std::process::ExitCode;
+use std::{env, io};
 
 // The words after the program's name.
 fn words_of(rt: &HostRuntime) -> io::Result<Vec<String>> {

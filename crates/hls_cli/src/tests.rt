@@ -9,7 +9,8 @@ const SUM: &str = "unsigned f(unsigned a,unsigned b){return a+b;}";
 
 const SYNTH: &str = "synth s.c s.v s.rep --top f";
 
-const REPORT: &str = "hls-report 1\ntop f\nsettings mul 1 div 1 ports 1 plain 0\nbase 1\ncost 2 begin 1:10 -\nunits mul32 0 mul64 0 div32 0 div64 0\nregisters 4\nend\n";
+const REPORT: &str =
+    "hls-report 1\ntop f\nsettings mul 1 div 1 ports 1 plain 0\nbase 1\ncost 2 begin 1:10 -\nunits mul32 0 mul64 0 div32 0 div64 0\nregisters 4\nend\n";
 
 // What a run left.
 #[derive(Drop)]
@@ -100,7 +101,14 @@ fn other_source_is_refused(rt: HostRuntime) {
 }
 
 // The status and the line, where no file was written.
-fn says(line: &str, name: &str, fails: (&[u64], &[u64]), status: u8, text: &str, alloc: Global) -> bool {
+fn says(
+    line: &str,
+    name: &str,
+    fails: (&[u64], &[u64]),
+    status: u8,
+    text: &str,
+    alloc: Global,
+) -> bool {
     match run_over(alloc, line, (name, SUM), fails.0, fails.1) {
         Ok(Some(ended)) => {
             ended.status == status && is(ended.out.written(), text) && wrote_nothing(&ended)
@@ -119,7 +127,10 @@ fn other_words_are_no_command(rt: HostRuntime) {
         "synth s.c s.v s.rep --top f more",
     ] {
         let usage = "usage: hls COMMAND ARGUMENTS\n";
-        assert!(rt; says(line, "s.c", (&[], &[]), 2, usage, rt.alloc()), "{line}");
+        assert!(rt;
+            says(line, "s.c", (&[], &[]), 2, usage, rt.alloc()),
+            "{line}"
+        );
     }
 }
 

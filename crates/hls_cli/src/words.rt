@@ -95,6 +95,9 @@ pub fn read_words<'a>(words: &'a [String]) -> Option<Command<'a>>
         report: report.as_str(),
         top: top.as_str(),
     };
-    if is_allowed(&command) { Some(command) } else { None }
+    if is_allowed(&command) {
+        Some(command)
+    } else {
+        None
+    }
 }
-

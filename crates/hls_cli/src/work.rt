@@ -51,11 +51,7 @@ fn write_files<F: Shelf>(command: &Command, made: &Made, shelf: &mut F) -> Resul
 }
 
 /// Compiles the source, and writes the report and then the module.
-pub fn work<F: Shelf>(
-    alloc: Global,
-    command: &Command,
-    shelf: &mut F,
-) -> Result<Answer, ShelfError>
+pub fn work<F: Shelf>(alloc: Global, command: &Command, shelf: &mut F) -> Result<Answer, ShelfError>
     requires { NamesThreeFiles command.now }
     ensures answer { IsWork command.now (F.files shelf.old) (F.files shelf.new) result }
     ensures failed { IsErrOf result ShelfError.Failed →
