@@ -87,7 +87,7 @@ fn sum_is_made(rt: HostRuntime) {
     assert!(rt; is(ended.out.written(), "made hls_f\n"));
     assert!(rt; has(&ended, "s.c", SUM.as_bytes()));
     assert!(rt; has(&ended, "s.rep", REPORT.as_bytes()));
-    assert!(rt; module_of(&ended).starts_with(b"module hls_f("));
+    assert!(rt; module_of(&ended).starts_with(b"module hls_f ("));
 }
 
 #[test]
