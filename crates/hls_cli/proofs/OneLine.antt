@@ -1,5 +1,5 @@
 -- One line that is put, and perhaps the last line after it.
-use Rattle.std.proofs.Common.{◌≡◌, ℕ, List, ◌++◌, take, Option, Some, None, Result, Ok, Err, OnOk, OnErr, sym, ap, ◌∙◌, append_assoc}
+use Rattle.std.proofs.Common.{ℕ, List, ◌++◌, take, Option, Result, Ok, Err, OnOk, OnErr, ap, ◌∙◌, append_assoc}
 use Rattle.hls_base.specs.Outside.{WhereTold, PutsAll, PutsPrefix}
 use Rattle.hls_base.proofs.OutsideLemmas.{WhereTold-then, WhereTold-weaker, PutsPrefix-whole}
 use Rattle.hls_cli.specs.SynthRun.{PutsCutLine}

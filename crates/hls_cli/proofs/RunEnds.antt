@@ -1,10 +1,10 @@
 -- What a run's status says, from what its work gave and what the last put gave.
-use Rattle.std.proofs.Common.{◌≡◌, ◌≢◌, ◌≤◌, ◌⊎◌, ℕ, zero, suc, List, Option, Some, None, inl, inr, refl, sym, ap, ◌∙◌, subst, arith}
+use Rattle.std.proofs.Common.{◌≡◌, ◌⊎◌, ℕ, List, Option, Some, None, inl, inr, sym, ◌∙◌, subst}
 use Rattle.hls_base.specs.declared.refusal.Refusal.{Refusal}
-use Rattle.hls_base.specs.Outside.{Files, HasRisen, WhereTold, IsAbsent, PutsAll, PutsPrefix}
+use Rattle.hls_base.specs.Outside.{Files, HasRisen, WhereTold}
 use Rattle.hls_flow.specs.FirstFault.{IsAccepted, IsFirstFault}
-use Rattle.hls_cli.specs.Command.{Command, IsSynth, IsUsage}
-use Rattle.hls_cli.specs.Lines.{made_line, refusal_line, usage_line, fault_line, memory_line}
+use Rattle.hls_cli.specs.Command.{Command, IsSynth}
+use Rattle.hls_cli.specs.Lines.{made_line, refusal_line}
 use Rattle.hls_cli.specs.SynthRun.{IsSourceOf, SameFiles, IsMade, IsRefused, IsStopped, PutsCutLine, Outside, RanToModule, RanToRefusal, RanToUsage, IsCutOff, HasFault, IsComplete}
 use Rattle.hls_cli.specs.SynthRun as run
 use Rattle.hls_cli.proofs.SixWords.{one_command}

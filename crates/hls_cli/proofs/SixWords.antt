@@ -1,7 +1,6 @@
 -- Six words, and the one command that they can be.
-use Rattle.std.proofs.Common.{◌≡◌, ◌≢◌, ℕ, ◌<◌, ◌≤◌, List, [], ◌∷◌, length, map, get_or, codes, refl, sym, ap, ◌∙◌, subst, arith}
-use Rattle.std.specs.List.{All}
-use Rattle.hls_cli.specs.Command.{Command, IsPlain, HasPlainWords, IsCommand, NamesThreeFiles, IsSynth}
+use Rattle.std.proofs.Common.{◌≡◌, ℕ, ◌<◌, ◌≤◌, List, [], ◌∷◌, length, map, get_or, codes, sym, ap, ◌∙◌, subst, arith}
+use Rattle.hls_cli.specs.Command.{Command, HasPlainWords, IsCommand, NamesThreeFiles, IsSynth}
 
 abbrev pub six : {A : Type 0} → A → A → A → A → A → A → List A
 six a b c d e g = a ∷ b ∷ c ∷ d ∷ e ∷ g ∷ []

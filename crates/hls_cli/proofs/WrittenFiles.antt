@@ -1,11 +1,11 @@
 -- How a read of the source and two writes are joined to what they left.
-use Rattle.std.proofs.Common.{◌≡◌, ◌≢◌, ◌⊎◌, ℕ, List, take, Option, Some, None, Result, Ok, Err, OnOk, OnErr, inl, inr, refl, sym, ap, ◌∙◌, subst}
-use Rattle.std.specs.Prelude.{IfSome, IsSomeAnd}
+use Rattle.std.proofs.Common.{◌≡◌, ℕ, List, take, Option, Some, None, Result, Ok, Err, OnErr, refl, sym, ◌∙◌, subst}
+use Rattle.std.specs.Prelude.{IsSomeAnd}
 use Rattle.std.specs.Result.{IsErr}
 use Rattle.hls_base.specs.declared.outside.ShelfError.{ShelfError}
 use Rattle.hls_base.specs.declared.refusal.Refusal.{Refusal}
-use Rattle.hls_base.specs.Outside.{Files, WhereTold, AreFirstBytes, OthersStay, IsWritten, IsCutShort}
-use Rattle.hls_base.proofs.OutsideLemmas.{WhereTold-then, WhereTold-weaker, WhereTold-same}
+use Rattle.hls_base.specs.Outside.{Files, WhereTold, AreFirstBytes, IsWritten, IsCutShort}
+use Rattle.hls_base.proofs.OutsideLemmas.{WhereTold-then, WhereTold-same}
 use Rattle.hls_flow.specs.FirstFault.{IsFirstFault}
 use Rattle.hls_flow.specs.Synthesis.{SynthesisIsCorrect}
 use Rattle.hls_cli.specs.Command.{Command, NamesThreeFiles, settings_of}

@@ -1,5 +1,5 @@
 -- What a run of the program leaves: the files, and the bytes that it put.
-use Rattle.std.specs.Prelude.{◌≡◌, ◌≢◌, ◌⊎◌, ℕ, List, ◌++◌, take, Option, None, Some}
+use Rattle.std.specs.Prelude.{◌≡◌, ◌≢◌, ◌⊎◌, ℕ, List, ◌++◌, take, Option, Some}
 use Rattle.hls_base.specs.declared.refusal.Refusal.{Refusal}
 use Rattle.hls_base.specs.Outside.{Files, HasRisen, WhereTold, IsAbsent, IsWritten, IsCutShort, PutsAll, PutsPrefix}
 use Rattle.hls_flow.specs.FirstFault.{IsAccepted, IsFirstFault}

@@ -62,9 +62,21 @@ fn half(bytes: &[u8]) -> &[u8] {
     &bytes[..bytes.len() / 2]
 }
 
+fn has(ended: &Ended, name: &str, bytes: &[u8]) -> bool {
+    match ended.shelf.get(name) {
+        Some(found) => found == bytes,
+        None => false,
+    }
+}
+
 // No file was written.
 fn wrote_nothing(ended: &Ended) -> bool {
     ended.shelf.get("s.v").is_none() && ended.shelf.get("s.rep").is_none()
+}
+
+// The bytes of the module that a run without a fault writes.
+fn module_of(ended: &Ended) -> &[u8] {
+    ended.shelf.get("s.v").unwrap_or(b"")
 }
 
 #[test]
@@ -73,19 +85,9 @@ fn sum_is_made(rt: HostRuntime) {
     let ended = ran.expect(&rt, "names differ");
     assert_eq!(rt; ended.status, 0);
     assert!(rt; is(ended.out.written(), "made hls_f\n"));
-    assert!(rt;
-        ended
-            .shelf
-            .get("s.rep")
-            .is_some_and(|report| is(report, REPORT))
-    );
-    assert!(rt;
-        ended
-            .shelf
-            .get("s.v")
-            .is_some_and(|module| module.starts_with(b"module hls_f ("))
-    );
-    assert!(rt; ended.shelf.get("s.c").is_some_and(|source| is(source, SUM)));
+    assert!(rt; has(&ended, "s.c", SUM.as_bytes()));
+    assert!(rt; has(&ended, "s.rep", REPORT.as_bytes()));
+    assert!(rt; module_of(&ended).starts_with(b"module hls_f ("));
 }
 
 #[test]
@@ -98,6 +100,23 @@ fn other_source_is_refused(rt: HostRuntime) {
     assert!(rt; wrote_nothing(&ended));
 }
 
+// The status and the line, where no file was written.
+fn says(
+    line: &str,
+    name: &str,
+    fails: (&[u64], &[u64]),
+    status: u8,
+    text: &str,
+    alloc: Global,
+) -> bool {
+    match run_over(alloc, line, (name, SUM), fails.0, fails.1) {
+        Ok(Some(ended)) => {
+            ended.status == status && is(ended.out.written(), text) && wrote_nothing(&ended)
+        }
+        _ => false,
+    }
+}
+
 #[test]
 fn other_words_are_no_command(rt: HostRuntime) {
     for line in [
@@ -107,81 +126,59 @@ fn other_words_are_no_command(rt: HostRuntime) {
         "synth s.c s.v s.rep --top -f",
         "synth s.c s.v s.rep --top f more",
     ] {
-        let ran = run_over(rt.alloc(), line, ("s.c", SUM), &[], &[]).expect(&rt, "memory");
-        let ended = ran.expect(&rt, "names differ");
-        assert_eq!(rt; ended.status, 2, "{line}");
+        let usage = "usage: hls COMMAND ARGUMENTS\n";
         assert!(rt;
-            is(ended.out.written(), "usage: hls COMMAND ARGUMENTS\n"),
+            says(line, "s.c", (&[], &[]), 2, usage, rt.alloc()),
             "{line}"
         );
-        assert!(rt; wrote_nothing(&ended), "{line}");
     }
 }
 
 #[test]
 fn fault_before_a_write(rt: HostRuntime) {
-    for (name, shelf_fails, sink_fails, line) in [
-        ("s.c", &[0u64] as &[u64], &[] as &[u64], "fault\n"),
-        ("s.c", &[0], &[0], "fau"),
-        ("other.c", &[], &[], "fault\n"),
-    ] {
-        let ran = run_over(rt.alloc(), SYNTH, (name, SUM), shelf_fails, sink_fails);
-        let ended = ran.expect(&rt, "memory").expect(&rt, "names differ");
-        assert_eq!(rt; ended.status, 3, "{line}");
-        assert!(rt; is(ended.out.written(), line), "{line}");
-        assert!(rt; wrote_nothing(&ended), "{line}");
-    }
+    let alloc = rt.alloc();
+    assert!(rt; says(SYNTH, "s.c", (&[0], &[]), 3, "fault\n", alloc));
+    assert!(rt; says(SYNTH, "s.c", (&[0], &[0]), 3, "fau", alloc));
+    assert!(rt; says(SYNTH, "other.c", (&[], &[]), 3, "fault\n", alloc));
 }
 
 #[test]
-fn fault_of_a_write(rt: HostRuntime) {
+fn fault_at_the_report(rt: HostRuntime) {
     let ran = run_over(rt.alloc(), SYNTH, ("s.c", SUM), &[1], &[]).expect(&rt, "memory");
-    let at_report = ran.expect(&rt, "names differ");
-    assert_eq!(rt; at_report.status, 3);
-    assert!(rt; is(at_report.out.written(), "fault\n"));
-    assert!(rt;
-        at_report
-            .shelf
-            .get("s.rep")
-            .is_some_and(|report| report == half(REPORT.as_bytes()))
-    );
-    assert!(rt; at_report.shelf.get("s.v").is_none());
+    let ended = ran.expect(&rt, "names differ");
+    assert_eq!(rt; ended.status, 3);
+    assert!(rt; is(ended.out.written(), "fault\n"));
+    assert!(rt; has(&ended, "s.rep", half(REPORT.as_bytes())));
+    assert!(rt; ended.shelf.get("s.v").is_none());
+}
 
+#[test]
+fn fault_at_the_module(rt: HostRuntime) {
     let ran = run_over(rt.alloc(), SYNTH, ("s.c", SUM), &[2], &[]).expect(&rt, "memory");
-    let at_module = ran.expect(&rt, "names differ");
-    assert_eq!(rt; at_module.status, 3);
-    assert!(rt; is(at_module.out.written(), "fault\n"));
-    assert!(rt;
-        at_module
-            .shelf
-            .get("s.rep")
-            .is_some_and(|report| is(report, REPORT))
-    );
+    let ended = ran.expect(&rt, "names differ");
     let ran = run_over(rt.alloc(), SYNTH, ("s.c", SUM), &[], &[]).expect(&rt, "memory");
     let whole = ran.expect(&rt, "names differ");
-    let module = whole.shelf.get("s.v").expect(&rt, "it was made");
-    assert!(rt;
-        at_module
-            .shelf
-            .get("s.v")
-            .is_some_and(|cut| cut == half(module))
-    );
+    assert_eq!(rt; ended.status, 3);
+    assert!(rt; is(ended.out.written(), "fault\n"));
+    assert!(rt; has(&ended, "s.rep", REPORT.as_bytes()));
+    assert!(rt; has(&ended, "s.v", half(module_of(&whole))));
+}
+
+// The bytes put where the puts of these numbers fail, and both files are whole.
+fn puts(sink_fails: &[u64], text: &str, alloc: Global) -> bool {
+    match run_over(alloc, SYNTH, ("s.c", SUM), &[], sink_fails) {
+        Ok(Some(ended)) => {
+            ended.status == 3
+                && is(ended.out.written(), text)
+                && has(&ended, "s.rep", REPORT.as_bytes())
+                && module_of(&ended).ends_with(b"endmodule\n")
+        }
+        _ => false,
+    }
 }
 
 #[test]
 fn fault_of_the_line(rt: HostRuntime) {
-    for (sink_fails, line) in [(&[0u64] as &[u64], "made fault\n"), (&[0, 1], "made fau")] {
-        let ran = run_over(rt.alloc(), SYNTH, ("s.c", SUM), &[], sink_fails);
-        let ended = ran.expect(&rt, "memory").expect(&rt, "names differ");
-        assert_eq!(rt; ended.status, 3, "{line}");
-        assert!(rt; is(ended.out.written(), line), "{line}");
-        assert!(rt;
-            ended
-                .shelf
-                .get("s.rep")
-                .is_some_and(|report| is(report, REPORT)),
-            "{line}"
-        );
-        assert!(rt; ended.shelf.get("s.v").is_some(), "{line}");
-    }
+    assert!(rt; puts(&[0], "made fault\n", rt.alloc()));
+    assert!(rt; puts(&[0, 1], "made fau", rt.alloc()));
 }

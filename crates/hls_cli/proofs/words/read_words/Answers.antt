@@ -1,6 +1,5 @@
 use Rattle.std.proofs.Common.{rules, map, ◌≡◌, refl, true, false, codes}
 use Rattle.std.specs.String.{string_bytes}
-use Rattle.hls_cli.specs.Command.{Command, HasPlainWords, NamesThreeFiles}
 use Rattle.hls_cli.proofs.SixWords.{six, mapped_six, words_of, no_command}
 use Rattle.hls_cli.proofs.words.read_words.Goals as goal
 use Rattle.hls_cli.proofs.words.read_words.Goals.{After-is_allowed}
