@@ -49,7 +49,7 @@ pub printed : (h i r l u m w d e last : List ℕ) → last ≡ w ++ (d ++ e) →
     t ≡ h ++ (i ++ (r ++ (l ++ (u ++ (m ++ last)))))
 printed h i r l u m w d e last flat o x1 x2 x3 x4 x5 x6 y z t none e1 e2 e3 e4 e5 e6 e7 e8 e9 =
     let all : z ≡ o ++ (h ++ (i ++ (r ++ (l ++ (u ++ (m ++ (w ++ (d ++ e)))))))) =
-        then_text o x1 z h _ e1 (then_text x1 x2 z i _ e2 (then_text x2 x3 z r _ e3 (then_text x3 x4 z l _ e4 (then_text x4 x5 z u _ e5 (then_text x5 x6 z m _ e6 (then_number x6 y z w d e e7 e8)))))) in
+    then_text o x1 z h _ e1 (then_text x1 x2 z i _ e2 (then_text x2 x3 z r _ e3 (then_text x3 x4 z l _ e4 (then_text x4 x5 z u _ e5 (then_text x5 x6 z m _ e6 (then_number x6 y z w d e e7 e8)))))) in
     e9 ∙ (all ∙ (ap (λ v. v ++ (h ++ (i ++ (r ++ (l ++ (u ++ (m ++ (w ++ (d ++ e))))))))) none ∙ ap (λ v. h ++ (i ++ (r ++ (l ++ (u ++ (m ++ v)))))) (sym flat)))
 
 pub mapped_more : {A B : Type 0} (P : B → Type 0) (f : A → B) (rows : List A) (row : A) (i : ℕ) → i < length rows → row ≡ get_or rows i row →

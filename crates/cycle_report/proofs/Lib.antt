@@ -1,3 +1,6 @@
 pub mod Appends
-pub mod Texts
+pub mod Cuts
+pub mod Readings
 pub mod Tallies
+pub mod Texts
+pub mod Whole

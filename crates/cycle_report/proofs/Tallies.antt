@@ -1,9 +1,8 @@
 -- Counts of a tally, and products of costs and counts.
-use Rattle.std.proofs.Common.{◌≡◌, ℕ, ◌+◌, ◌*◌, ◌^◌, ◌<◌, ◌≤◌, Bool, true, false, cond, List, [], ◌∷◌, length, take, get_or, sym, ap, ◌∙◌, subst, refl, arith}
+use Rattle.std.proofs.Common.{◌≡◌, ℕ, ◌+◌, ◌*◌, ◌^◌, ◌<◌, ◌≤◌, Bool, true, false, cond, List, [], ◌∷◌, length, take, get_or, ap, arith}
 use Rattle.std.specs.List.{All, sum_by}
 use Rattle.std.proofs.lemmas.List.Elements.{All-head, All-tail}
 use Rattle.std.proofs.lemmas.List.Sums.{sum_by_more}
-use Rattle.std.proofs.Math.Nat.{mul-le-mul_left}
 use Rattle.hls_base.specs.declared.point.Point.{Point}
 use Rattle.cycle_report.specs.declared.report.Cost.{Cost}
 use Rattle.cycle_report.specs.FormulaValue.{count_at, same_point, cycles}

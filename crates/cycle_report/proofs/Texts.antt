@@ -1,5 +1,5 @@
 -- The lines of a report, as one piece after another.
-use Rattle.std.proofs.Common.{◌≡◌, ℕ, zero, suc, Bool, true, false, List, [], ◌∷◌, ◌++◌, codes, sym, ap, ◌∙◌, refl, append_assoc}
+use Rattle.std.proofs.Common.{◌≡◌, ℕ, zero, suc, Bool, true, false, List, ◌∷◌, ◌++◌, codes, refl, append_assoc}
 use Rattle.std.specs.Fmt.{decimal}
 use Rattle.hls_base.specs.declared.settings.Settings.{Settings}
 use Rattle.hls_base.specs.PlaceText.{part_text}

@@ -1,13 +1,11 @@
 -- Two reports and their texts, and the cycles that a formula gives.
-use Rattle.std.specs.Prelude.{ℕ, ◌≡◌, false, List, [], ◌∷◌, ◌++◌, codes, refl}
+use Rattle.std.specs.Prelude.{ℕ, ◌≡◌, false, [], ◌∷◌, codes, refl}
 use Rattle.std.specs.Fmt.{digits}
-use Rattle.hls_base.specs.declared.place.Place.{Place}
 use Rattle.hls_base.specs.declared.point.Point.{Point}
 use Rattle.hls_base.specs.declared.point.PointKind.{PointKind}
 use Rattle.hls_base.specs.declared.point.PointKind.TheVariants as kind
 use Rattle.hls_base.specs.declared.settings.Settings.{Settings}
-use Rattle.cycle_report.specs.declared.report.Cost.{Cost}
-use Rattle.cycle_report.specs.PlainReport.{PlainLoop, PlainUnits, PlainReport}
+use Rattle.cycle_report.specs.PlainReport.{PlainUnits, PlainReport}
 use Rattle.cycle_report.specs.ReportText.{report_text}
 use Rattle.cycle_report.specs.FormulaValue.{cycles}
 

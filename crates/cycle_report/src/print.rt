@@ -2,7 +2,7 @@
 
 ghost use Rattle.std.specs.Prelude.{List, ◌≡◌, ◌<◌, ◌^◌, IfOk, OnOk, ◌++◌, codes, decimal, map};
 ghost use Rattle.hls_base.specs.PlaceText.{place_text};
-ghost use Rattle.cycle_report.specs.PlainReport.{plain_of, loop_of, units_of};
+ghost use Rattle.cycle_report.specs.PlainReport.{PlainReport, plain_of, loop_of, units_of};
 ghost use Rattle.cycle_report.specs.ReportText as text;
 ghost use Rattle.cycle_report.specs.ReportForm.{HasForm, IsReport, FitsPlace, FitsCost, FitsEdge, FitsLoop, FitsUnits, FitsMemory};
 ghost use Rattle.std.specs.List.{All};
@@ -20,6 +20,7 @@ pub fn print(alloc: Global, report: &Report) -> Result<Text, AllocError>
     requires { HasForm (plain_of report.now) }
     ensures text { IfOk result (λ t. t ≡ text.report_text (plain_of report.now)) }
     ensures related { IfOk result (λ t. IsReport t (plain_of report.now)) }
+    ensures only { IfOk result (λ t. (other : PlainReport) → IsReport t other → other ≡ plain_of report.now) }
 {
     let mut out = Vec::new(alloc);
     print_head(&mut out, &report.settings, report.formula.base)?;

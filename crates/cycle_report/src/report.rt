@@ -58,4 +58,3 @@ pub struct Report {
     pub memories: Vec<MemoryRow>,
     pub registers: u64,
 }
-

@@ -4,3 +4,4 @@ pub mod FileScope
 pub mod ArrayAddress
 pub mod Outside
 pub mod Memory
+pub mod Refusals

@@ -1,9 +1,7 @@
 -- Which sources are compiled, and why another one is refused.
-use Rattle.std.specs.Prelude.{◌≡◌, ◌≢◌, ℕ, ◌≤◌, List, length, Result, Ok, Err}
+use Rattle.std.specs.Prelude.{◌≡◌, ◌≢◌, ℕ, ◌≤◌, List, length}
 use Rattle.hls_base.specs.declared.place.Place.{Place}
 use Rattle.hls_base.specs.declared.refusal.Refusal.{Refusal}
-use Rattle.hls_base.specs.declared.refusal.Fail.{Fail}
-use Rattle.hls_base.specs.declared.refusal.Fail.TheVariants.{Refused, Memory}
 use Rattle.sum_program.specs.declared.program.Sum.{Sum}
 use Rattle.sum_program.specs.SourceRow.{IsWord}
 use Rattle.sum_program.specs.SumSource.{IsSumSource}
@@ -22,12 +20,6 @@ pub record IsFirstFault (source top : List ℕ) (fault : Refusal) : Type 0 where
   pub rule : fault.rule ≡ 37
   pub place : fault.place ≡ beginning
   pub other : (program : Sum) → IsSumSource source program → program.name ≢ top
-
--- what holds of a refusal, where the answer is one
-abbrev pub IfRefused : {A : Type 0} → Result A Fail → (Refusal → Type 0) → Type 0
-IfRefused (Ok x) P = Unit {0}
-IfRefused (Err (Refused refusal)) P = P refusal
-IfRefused (Err Memory) P = Unit {0}
 
 -- what holds of the program that was found: it is the source's, its function has the name, and it is written within some lines and columns
 pub record IsFound (source top : List ℕ) (program : Sum) : Type 0 where

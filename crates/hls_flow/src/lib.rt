@@ -2,3 +2,5 @@
 #![tactic(auto)]
 
 pub mod synth;
+#[cfg(test)]
+mod tests;

@@ -1,8 +1,9 @@
 ghost use Rattle.std.specs.Prelude.{◌≡◌, ◌≤◌, IfOk, [], length};
+ghost use Rattle.hls_base.specs.Refusals.{IfRefused};
 ghost use Rattle.hls_base.specs.declared.settings.Settings.{Settings};
 ghost use Rattle.cycle_report.specs.PlainReport.{plain_of};
 ghost use Rattle.sum_program.specs.SourceRow.{IsWord};
-ghost use Rattle.hls_flow.specs.FirstFault.{IsFirstFault, IfRefused, IsFound};
+ghost use Rattle.hls_flow.specs.FirstFault.{IsFirstFault, IsFound};
 ghost use Rattle.hls_flow.specs.Synthesis.{AreInRange, SynthesisIsCorrect};
 ghost use Rattle.hls_flow.specs.SumReport.{sum_report};
 
@@ -72,7 +73,12 @@ fn report_of(alloc: Global, program: &Sum, settings: &Settings) -> Result<Report
         at: program.at,
         kind: PointKind::Begin,
     };
-    let rows = vec![in alloc; Cost { point: begin, cost: 2 }]?;
+    let rows = vec![in alloc;
+        Cost {
+            point: begin,
+            cost: 2
+        },
+    ]?;
     Ok(Report {
         settings: copy_settings(alloc, settings)?,
         formula: Formula { base: 1, rows },

@@ -111,7 +111,7 @@ data Shape : List ℕ → Type 0 where
 
 shape_of : (name : List ℕ) (left right : Operand) (pins : List ℕ) → ArePins (netlist_with name left right) pins → Shape pins
 shape_of name left right pins
-  (fit_one _ reset _ _ _ (fit_one _ start _ _ lt (fit_one _ en _ _ _ (fit_one _ we _ _ _ (fit_one _ sel _ _ _ (fit_one _ addr _ _ _ (fit_one _ sent _ _ _ (fit_one _ x _ _ _ (fit_one _ y _ _ _ fit_none))))))))) =
+    (fit_one _ reset _ _ _ (fit_one _ start _ _ lt (fit_one _ en _ _ _ (fit_one _ we _ _ _ (fit_one _ sel _ _ _ (fit_one _ addr _ _ _ (fit_one _ sent _ _ _ (fit_one _ x _ _ _ (fit_one _ y _ _ _ fit_none))))))))) =
     shape reset start (record { start = start; enable = en; write = we; select = sel; address = addr; sent = sent; first = x; second = y }) lt
 
 cycle_of : (pins : List ℕ) → Shape pins → reset_of pins ≡ 0 → Cycle pins
@@ -152,9 +152,10 @@ Low s pins = ArePins (sum_netlist s) pins × (reset_of pins ≡ 0)
 follows : (s : Sum) (rest : List (List ℕ)) (st : State) (b : Box) → Matches s.left s.right st b → All (Low s) rest → Follows (sum_netlist s) sum_interface (sum_answers s) st b rest
 follows s [] st b m low = tt
 follows s (pins ∷ rest) st b m low = λ not_broken.
-  let now : Low s pins = All-head (Low s) pins rest low in
-  (shows s.name s.left s.right st b pins m,
-   λ next step. follows s rest _ next (moves s st b next pins m (cycle_of pins (shape_of s.name s.left s.right pins now.0) now.1) step) (All-tail (Low s) pins rest low))
+    let now : Low s pins = All-head (Low s) pins rest low in (
+      shows s.name s.left s.right st b pins m,
+      λ next step. follows s rest _ next (moves s st b next pins m (cycle_of pins (shape_of s.name s.left s.right pins now.0) now.1) step) (All-tail (Low s) pins rest low),
+    )
 
 after_first : (s : Sum) (file_scope : FileScope) (regs : List ℕ) (mems : List (List ℕ)) (first : List ℕ) → Fit (2 ∷ 32 ∷ 32 ∷ 32 ∷ []) regs → AreMemories [] mems → Shape first → reset_of first ≡ 1
     → Matches s.left s.right (stepped (sum_netlist s) (record { regs = regs; mems = mems }) first) (box Idle file_scope)
@@ -170,5 +171,5 @@ sum_agrees s file_scope = record {
   outputs = refl;
   arrays = tt;
   follows = λ power_up first rest state pins high low.
-    follows s rest _ _ (after_first s file_scope power_up.regs power_up.mems first state.regs state.mems (shape_of s.name s.left s.right first pins) high) low;
+      follows s rest _ _ (after_first s file_scope power_up.regs power_up.mems first state.regs state.mems (shape_of s.name s.left s.right first pins) high) low;
 }

@@ -17,54 +17,170 @@ use Rattle.sum_circuit.specs.SumCircuit.{sum_inputs, sum_outputs, sum_registers,
 use Rattle.sum_circuit.proofs.Names.{each, all_by, is_name, name_by, name_behind, distinct_by}
 
 wires_fit : (name : List ℕ) (left right : Operand) → WiresFit (netlist_with name left right) [] (sum_wires left right)
-wires_fit name First First =
-    ((lit≤ tt, lit≤ tt), (refl, (2, refl, (refl, (lit≤ tt, lit≤ tt), lit< tt))),
-    ((lit≤ tt, lit≤ tt), (refl, (2, refl, (refl, (lit≤ tt, lit≤ tt), lit< tt))),
-    ((lit≤ tt, lit≤ tt), (refl, refl),
-    ((lit≤ tt, lit≤ tt), (refl, refl),
-    ((lit≤ tt, lit≤ tt), (refl, (2, refl, (refl, (lit≤ tt, lit≤ tt), lit< tt))),
-    ((lit≤ tt, lit≤ tt), (refl, (refl, (lit≤ tt, lit≤ tt), lit< tt)),
-    ((lit≤ tt, lit≤ tt), (refl, (refl, (lit≤ tt, lit≤ tt), lit< tt), refl),
-    ((lit≤ tt, lit≤ tt), (refl, refl, refl),
-    ((lit≤ tt, lit≤ tt), (refl, (refl, (lit≤ tt, lit≤ tt), lit< tt), refl),
-    ((lit≤ tt, lit≤ tt), (refl, refl),
-    tt))))))))))
-wires_fit name First Second =
-    ((lit≤ tt, lit≤ tt), (refl, (2, refl, (refl, (lit≤ tt, lit≤ tt), lit< tt))),
-    ((lit≤ tt, lit≤ tt), (refl, (2, refl, (refl, (lit≤ tt, lit≤ tt), lit< tt))),
-    ((lit≤ tt, lit≤ tt), (refl, refl),
-    ((lit≤ tt, lit≤ tt), (refl, refl),
-    ((lit≤ tt, lit≤ tt), (refl, (2, refl, (refl, (lit≤ tt, lit≤ tt), lit< tt))),
-    ((lit≤ tt, lit≤ tt), (refl, (refl, (lit≤ tt, lit≤ tt), lit< tt)),
-    ((lit≤ tt, lit≤ tt), (refl, (refl, (lit≤ tt, lit≤ tt), lit< tt), refl),
-    ((lit≤ tt, lit≤ tt), (refl, refl, refl),
-    ((lit≤ tt, lit≤ tt), (refl, (refl, (lit≤ tt, lit≤ tt), lit< tt), refl),
-    ((lit≤ tt, lit≤ tt), (refl, refl),
-    tt))))))))))
-wires_fit name Second First =
-    ((lit≤ tt, lit≤ tt), (refl, (2, refl, (refl, (lit≤ tt, lit≤ tt), lit< tt))),
-    ((lit≤ tt, lit≤ tt), (refl, (2, refl, (refl, (lit≤ tt, lit≤ tt), lit< tt))),
-    ((lit≤ tt, lit≤ tt), (refl, refl),
-    ((lit≤ tt, lit≤ tt), (refl, refl),
-    ((lit≤ tt, lit≤ tt), (refl, (2, refl, (refl, (lit≤ tt, lit≤ tt), lit< tt))),
-    ((lit≤ tt, lit≤ tt), (refl, (refl, (lit≤ tt, lit≤ tt), lit< tt)),
-    ((lit≤ tt, lit≤ tt), (refl, (refl, (lit≤ tt, lit≤ tt), lit< tt), refl),
-    ((lit≤ tt, lit≤ tt), (refl, refl, refl),
-    ((lit≤ tt, lit≤ tt), (refl, (refl, (lit≤ tt, lit≤ tt), lit< tt), refl),
-    ((lit≤ tt, lit≤ tt), (refl, refl),
-    tt))))))))))
-wires_fit name Second Second =
-    ((lit≤ tt, lit≤ tt), (refl, (2, refl, (refl, (lit≤ tt, lit≤ tt), lit< tt))),
-    ((lit≤ tt, lit≤ tt), (refl, (2, refl, (refl, (lit≤ tt, lit≤ tt), lit< tt))),
-    ((lit≤ tt, lit≤ tt), (refl, refl),
-    ((lit≤ tt, lit≤ tt), (refl, refl),
-    ((lit≤ tt, lit≤ tt), (refl, (2, refl, (refl, (lit≤ tt, lit≤ tt), lit< tt))),
-    ((lit≤ tt, lit≤ tt), (refl, (refl, (lit≤ tt, lit≤ tt), lit< tt)),
-    ((lit≤ tt, lit≤ tt), (refl, (refl, (lit≤ tt, lit≤ tt), lit< tt), refl),
-    ((lit≤ tt, lit≤ tt), (refl, refl, refl),
-    ((lit≤ tt, lit≤ tt), (refl, (refl, (lit≤ tt, lit≤ tt), lit< tt), refl),
-    ((lit≤ tt, lit≤ tt), (refl, refl),
-    tt))))))))))
+wires_fit name First First = (
+  (lit≤ tt, lit≤ tt),
+  (refl, (2, refl, (refl, (lit≤ tt, lit≤ tt), lit< tt))),
+  (
+    (lit≤ tt, lit≤ tt),
+    (refl, (2, refl, (refl, (lit≤ tt, lit≤ tt), lit< tt))),
+    (
+      (lit≤ tt, lit≤ tt),
+      (refl, refl),
+      (
+        (lit≤ tt, lit≤ tt),
+        (refl, refl),
+        (
+          (lit≤ tt, lit≤ tt),
+          (refl, (2, refl, (refl, (lit≤ tt, lit≤ tt), lit< tt))),
+          (
+            (lit≤ tt, lit≤ tt),
+            (refl, (refl, (lit≤ tt, lit≤ tt), lit< tt)),
+            (
+              (lit≤ tt, lit≤ tt),
+              (refl, (refl, (lit≤ tt, lit≤ tt), lit< tt), refl),
+              (
+                (lit≤ tt, lit≤ tt),
+                (refl, refl, refl),
+                (
+                  (lit≤ tt, lit≤ tt),
+                  (refl, (refl, (lit≤ tt, lit≤ tt), lit< tt), refl),
+                  (
+                    (lit≤ tt, lit≤ tt),
+                    (refl, refl),
+                    tt,
+                  ),
+                ),
+              ),
+            ),
+          ),
+        ),
+      ),
+    ),
+  ),
+)
+wires_fit name First Second = (
+  (lit≤ tt, lit≤ tt),
+  (refl, (2, refl, (refl, (lit≤ tt, lit≤ tt), lit< tt))),
+  (
+    (lit≤ tt, lit≤ tt),
+    (refl, (2, refl, (refl, (lit≤ tt, lit≤ tt), lit< tt))),
+    (
+      (lit≤ tt, lit≤ tt),
+      (refl, refl),
+      (
+        (lit≤ tt, lit≤ tt),
+        (refl, refl),
+        (
+          (lit≤ tt, lit≤ tt),
+          (refl, (2, refl, (refl, (lit≤ tt, lit≤ tt), lit< tt))),
+          (
+            (lit≤ tt, lit≤ tt),
+            (refl, (refl, (lit≤ tt, lit≤ tt), lit< tt)),
+            (
+              (lit≤ tt, lit≤ tt),
+              (refl, (refl, (lit≤ tt, lit≤ tt), lit< tt), refl),
+              (
+                (lit≤ tt, lit≤ tt),
+                (refl, refl, refl),
+                (
+                  (lit≤ tt, lit≤ tt),
+                  (refl, (refl, (lit≤ tt, lit≤ tt), lit< tt), refl),
+                  (
+                    (lit≤ tt, lit≤ tt),
+                    (refl, refl),
+                    tt,
+                  ),
+                ),
+              ),
+            ),
+          ),
+        ),
+      ),
+    ),
+  ),
+)
+wires_fit name Second First = (
+  (lit≤ tt, lit≤ tt),
+  (refl, (2, refl, (refl, (lit≤ tt, lit≤ tt), lit< tt))),
+  (
+    (lit≤ tt, lit≤ tt),
+    (refl, (2, refl, (refl, (lit≤ tt, lit≤ tt), lit< tt))),
+    (
+      (lit≤ tt, lit≤ tt),
+      (refl, refl),
+      (
+        (lit≤ tt, lit≤ tt),
+        (refl, refl),
+        (
+          (lit≤ tt, lit≤ tt),
+          (refl, (2, refl, (refl, (lit≤ tt, lit≤ tt), lit< tt))),
+          (
+            (lit≤ tt, lit≤ tt),
+            (refl, (refl, (lit≤ tt, lit≤ tt), lit< tt)),
+            (
+              (lit≤ tt, lit≤ tt),
+              (refl, (refl, (lit≤ tt, lit≤ tt), lit< tt), refl),
+              (
+                (lit≤ tt, lit≤ tt),
+                (refl, refl, refl),
+                (
+                  (lit≤ tt, lit≤ tt),
+                  (refl, (refl, (lit≤ tt, lit≤ tt), lit< tt), refl),
+                  (
+                    (lit≤ tt, lit≤ tt),
+                    (refl, refl),
+                    tt,
+                  ),
+                ),
+              ),
+            ),
+          ),
+        ),
+      ),
+    ),
+  ),
+)
+wires_fit name Second Second = (
+  (lit≤ tt, lit≤ tt),
+  (refl, (2, refl, (refl, (lit≤ tt, lit≤ tt), lit< tt))),
+  (
+    (lit≤ tt, lit≤ tt),
+    (refl, (2, refl, (refl, (lit≤ tt, lit≤ tt), lit< tt))),
+    (
+      (lit≤ tt, lit≤ tt),
+      (refl, refl),
+      (
+        (lit≤ tt, lit≤ tt),
+        (refl, refl),
+        (
+          (lit≤ tt, lit≤ tt),
+          (refl, (2, refl, (refl, (lit≤ tt, lit≤ tt), lit< tt))),
+          (
+            (lit≤ tt, lit≤ tt),
+            (refl, (refl, (lit≤ tt, lit≤ tt), lit< tt)),
+            (
+              (lit≤ tt, lit≤ tt),
+              (refl, (refl, (lit≤ tt, lit≤ tt), lit< tt), refl),
+              (
+                (lit≤ tt, lit≤ tt),
+                (refl, refl, refl),
+                (
+                  (lit≤ tt, lit≤ tt),
+                  (refl, (refl, (lit≤ tt, lit≤ tt), lit< tt), refl),
+                  (
+                    (lit≤ tt, lit≤ tt),
+                    (refl, refl),
+                    tt,
+                  ),
+                ),
+              ),
+            ),
+          ),
+        ),
+      ),
+    ),
+  ),
+)
 
 abbrev is_width : ℕ → Bool
 is_width n = nat_le 1 n && nat_le n 64
@@ -73,18 +189,28 @@ width_by : (n : ℕ) → is_width n ≡ true → IsBetween 1 64 n
 width_by n e = grind (arith, nat_tests)
 
 registers_fit : (s : Sum) → All (RegisterFits (widths (sum_netlist s))) sum_registers
-registers_fit s = each (RegisterFits (widths (sum_netlist s))) sum_registers
-    (record { bits = (lit≤ tt, lit≤ tt); enable = (refl, (lit≤ tt, lit≤ tt), lit< tt); next = refl },
-    (record { bits = (lit≤ tt, lit≤ tt); enable = refl; next = refl },
-    (record { bits = (lit≤ tt, lit≤ tt); enable = refl; next = refl },
-    (record { bits = (lit≤ tt, lit≤ tt); enable = refl; next = refl }, tt))))
+registers_fit s = each (RegisterFits (widths (sum_netlist s))) sum_registers (
+  record { bits = (lit≤ tt, lit≤ tt); enable = (refl, (lit≤ tt, lit≤ tt), lit< tt); next = refl },
+  (
+    record { bits = (lit≤ tt, lit≤ tt); enable = refl; next = refl },
+    (
+      record { bits = (lit≤ tt, lit≤ tt); enable = refl; next = refl },
+      (record { bits = (lit≤ tt, lit≤ tt); enable = refl; next = refl }, tt),
+    ),
+  ),
+)
 
 outputs_fit : (s : Sum) → All (OutputFits (widths (sum_netlist s))) sum_outputs
-outputs_fit s = each (OutputFits (widths (sum_netlist s))) sum_outputs
-    (record { bits = (lit≤ tt, lit≤ tt); from = refl },
-    (record { bits = (lit≤ tt, lit≤ tt); from = refl },
-    (record { bits = (lit≤ tt, lit≤ tt); from = (refl, (lit≤ tt, lit≤ tt), lit< tt) },
-    (record { bits = (lit≤ tt, lit≤ tt); from = refl }, tt))))
+outputs_fit s = each (OutputFits (widths (sum_netlist s))) sum_outputs (
+  record { bits = (lit≤ tt, lit≤ tt); from = refl },
+  (
+    record { bits = (lit≤ tt, lit≤ tt); from = refl },
+    (
+      record { bits = (lit≤ tt, lit≤ tt); from = (refl, (lit≤ tt, lit≤ tt), lit< tt) },
+      (record { bits = (lit≤ tt, lit≤ tt); from = refl }, tt),
+    ),
+  ),
+)
 
 pub sum_valid : (s : Sum) → IsIdentifier s.name → IsValid (sum_netlist s)
 sum_valid s h = record {

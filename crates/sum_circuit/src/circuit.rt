@@ -87,10 +87,26 @@ fn registers(alloc: Global) -> Result<Vec<Reg>, AllocError>
     let always = Atom::Constant { bits: 1, value: 1 };
     let taken = Atom::Wire(3);
     let all = vec![in alloc;
-        Reg { bits: 2, enable: always, next: Atom::Wire(8) },
-        Reg { bits: 32, enable: taken, next: Atom::Input(7) },
-        Reg { bits: 32, enable: taken, next: Atom::Input(8) },
-        Reg { bits: 32, enable: Atom::Wire(4), next: Atom::Wire(9) },
+        Reg {
+            bits: 2,
+            enable: always,
+            next: Atom::Wire(8)
+        },
+        Reg {
+            bits: 32,
+            enable: taken,
+            next: Atom::Input(7)
+        },
+        Reg {
+            bits: 32,
+            enable: taken,
+            next: Atom::Input(8)
+        },
+        Reg {
+            bits: 32,
+            enable: Atom::Wire(4),
+            next: Atom::Wire(9)
+        },
     ]?;
     Ok(all)
 }
@@ -117,15 +133,42 @@ fn wires(alloc: Global, left: Operand, right: Operand) -> Result<Vec<Wire>, Allo
     let (start, reset) = (Atom::Input(1), Atom::Input(0));
     let sum = Net::Two(Pair::Add, operand_register(left), operand_register(right));
     let all = vec![in alloc;
-        Wire { bits: 1, net: Net::Two(Pair::Equal, old, phase(0)) },
-        Wire { bits: 1, net: Net::Two(Pair::Equal, old, phase(3)) },
-        Wire { bits: 1, net: Net::Two(Pair::Or, Atom::Wire(0), Atom::Wire(1)) },
-        Wire { bits: 1, net: Net::Two(Pair::And, ready, start) },
-        Wire { bits: 1, net: Net::Two(Pair::Equal, old, phase(1)) },
-        Wire { bits: 2, net: Net::Two(Pair::Add, old, phase(1)) },
-        Wire { bits: 2, net: Net::Pick(taken, phase(1), old) },
-        Wire { bits: 2, net: Net::Pick(ready, Atom::Wire(6), Atom::Wire(5)) },
-        Wire { bits: 2, net: Net::Pick(reset, phase(0), Atom::Wire(7)) },
+        Wire {
+            bits: 1,
+            net: Net::Two(Pair::Equal, old, phase(0))
+        },
+        Wire {
+            bits: 1,
+            net: Net::Two(Pair::Equal, old, phase(3))
+        },
+        Wire {
+            bits: 1,
+            net: Net::Two(Pair::Or, Atom::Wire(0), Atom::Wire(1))
+        },
+        Wire {
+            bits: 1,
+            net: Net::Two(Pair::And, ready, start)
+        },
+        Wire {
+            bits: 1,
+            net: Net::Two(Pair::Equal, old, phase(1))
+        },
+        Wire {
+            bits: 2,
+            net: Net::Two(Pair::Add, old, phase(1))
+        },
+        Wire {
+            bits: 2,
+            net: Net::Pick(taken, phase(1), old)
+        },
+        Wire {
+            bits: 2,
+            net: Net::Pick(ready, Atom::Wire(6), Atom::Wire(5))
+        },
+        Wire {
+            bits: 2,
+            net: Net::Pick(reset, phase(0), Atom::Wire(7))
+        },
         Wire { bits: 32, net: sum },
     ]?;
     Ok(all)

@@ -1,5 +1,5 @@
 -- What the printed assignments and blocks mean, and that they can be written.
-use Rattle.std.proofs.Common.{◌≡◌, ◌⊎◌, inl, inr, ℕ, zero, suc, ◌+◌, ◌-◌, ◌^◌, ◌<◌, ◌≤◌, ◌∙◌, sym, refl, ap, subst, List, [], ◌∷◌, ◌++◌, map, length, Option, Some, arith}
+use Rattle.std.proofs.Common.{◌≡◌, ℕ, suc, ◌<◌, ◌∙◌, sym, refl, ap, subst, List, [], ◌∷◌, ◌++◌, map, length, Some, arith}
 use Rattle.std.specs.Prelude.{slice_get}
 use Rattle.std.specs.List.{All}
 use Rattle.std.proofs.lemmas.Option.{slice_get_within}
@@ -10,10 +10,10 @@ use Rattle.rtl_core.specs.declared.design.Reg.{Reg}
 use Rattle.rtl_core.specs.declared.design.Port.{Port}
 use Rattle.rtl_core.specs.Netlist.{Netlist, Memory}
 use Rattle.rtl_core.specs.ClockStep.{widths}
-use Rattle.rtl_core.specs.Valid.{IsName, RegisterFits, OutputFits, IsValid, pin_names}
-use Rattle.rtl_core.specs.ModuleSyntax.{DeclaredMemory, Write, Always, Register, Writes}
-use Rattle.rtl_core.specs.ModuleText.{names_in, declared_name, target, InOrder, AssignMeans, WriteMeans, RegisterMeans, WritesMean, BlockMeans}
-use Rattle.verilog_print.specs.PrintedSyntax.{register_name, memory_name, numbered, operand_of, register_of, memory_at, assign_of, register_block, write_of, ports_block, memory_blocks, syntax_of}
+use Rattle.rtl_core.specs.Valid.{IsName, RegisterFits, OutputFits, IsValid}
+use Rattle.rtl_core.specs.ModuleSyntax.{DeclaredMemory, Always, Writes}
+use Rattle.rtl_core.specs.ModuleText.{declared_name, target, InOrder, AssignMeans, WriteMeans, BlockMeans}
+use Rattle.verilog_print.specs.PrintedSyntax.{memory_name, numbered, register_of, memory_at, assign_of, register_block, write_of, ports_block, memory_blocks, syntax_of}
 use Rattle.verilog_print.proofs.Items.{CanAssign, CanWritePort, CanWriteBlock}
 use Rattle.verilog_print.proofs.Lists.{All-right, All-place, Behind, Behind-first, Behind-next, Behind-whole, by_places, numbered_all, in_order_map, map_numbered}
 use Rattle.verilog_print.proofs.Fitting.{atom_there, PortIsThere, MemoryIsThere, all_memories_there}
@@ -119,10 +119,11 @@ module _ (d : Netlist) (v : IsValid d) (counted : AreCounted d) where
 
   can_write_register : (k : ℕ) (r : Reg) → slice_get d.regs k ≡ Some r → CanWriteBlock (register_block d.inputs k r)
   can_write_register k r found =
-      let fits = register_fits d v k r found in
-      (can_write d v counted r.enable (atom_there d 1 r.enable fits.enable),
-      register_identifier k (omega (arith, slice_get_within d.regs k r found, counted.regs)),
-      can_write d v counted r.next (atom_there d r.bits r.next fits.next))
+      let fits = register_fits d v k r found in (
+        can_write d v counted r.enable (atom_there d 1 r.enable fits.enable),
+        register_identifier k (omega (arith, slice_get_within d.regs k r found, counted.regs)),
+        can_write d v counted r.next (atom_there d r.bits r.next fits.next),
+      )
 
   can_write_port : (k : ℕ) → k < length d.mems → (p : Port) → PortIsThere d p → CanWritePort (write_of d.inputs k p)
   can_write_port k few p h =
@@ -133,8 +134,8 @@ module _ (d : Netlist) (v : IsValid d) (counted : AreCounted d) where
   can_write_ports k few (p ∷ ps) h =
       let first = can_write_port k few p (All-head (PortIsThere d) p ps h) in
       let others =
-          All-map CanWritePort (write_of d.inputs k) ps
-          (All-weaker (PortIsThere d) (λ p. CanWritePort (write_of d.inputs k p)) (can_write_port k few) ps (All-tail (PortIsThere d) p ps h)) in
+      All-map CanWritePort (write_of d.inputs k) ps
+      (All-weaker (PortIsThere d) (λ p. CanWritePort (write_of d.inputs k p)) (can_write_port k few) ps (All-tail (PortIsThere d) p ps h)) in
       All-cons CanWriteBlock (Writes (write_of d.inputs k p) (map (write_of d.inputs k) ps)) [] (first, others) (All-nil CanWriteBlock)
 
   pub can_write_blocks : All CanWriteBlock (syntax_of d).blocks

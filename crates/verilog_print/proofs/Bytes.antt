@@ -1,11 +1,10 @@
 -- Which bytes tokens are made of, and that no token goes on over a byte that is not of its kind.
-use Rattle.std.proofs.Common.{◌≡◌, ◌⊎◌, inl, inr, ℕ, suc, ◌+◌, ◌<◌, ◌≤◌, ◌∙◌, sym, refl, ap, subst, Bool, true, false, ◌&&◌, ◌||◌, List, [], ◌∷◌, ◌++◌, length, get_or, append_assoc, arith}
+use Rattle.std.proofs.Common.{◌≡◌, ◌⊎◌, inl, inr, ℕ, ◌<◌, ◌∙◌, sym, refl, ap, subst, Bool, true, false, ◌&&◌, ◌||◌, List, [], ◌∷◌, ◌++◌, length, arith}
 use Rattle.std.specs.Prelude.{codes, nat_le, ◌==◌, not}
 use Rattle.std.specs.List.{All, Contains, list_all}
-use Rattle.std.proofs.lemmas.List.{get_or_at}
 use Rattle.std.proofs.lemmas.List.Folds.{list_all_at}
 use Rattle.std.proofs.lemmas.List.Elements.{All-append, All-cons, All-head, All-tail, All-weaker}
-use Rattle.std.proofs.lemmas.Bool.{both_ways, not_from_true}
+use Rattle.std.proofs.lemmas.Bool.{both_ways}
 use Rattle.rtl_core.specs.Valid.{IsLetter, IsDigit, IsIdentifier}
 use Rattle.rtl_core.specs.ModuleTokens.{Token, Word, Number, Constant, Sign, signs, IsHexDigit, IsToken, IsConstantText, IsLongest}
 
@@ -83,8 +82,8 @@ solid_longest [] rest some all br more after longer e t = absurd (omega arith)
 solid_longest (c ∷ cs) rest some all br [] after longer e t = refl
 solid_longest (c ∷ cs) rest some all br (m ∷ ms) after longer e t =
     absurd (elim (token_bytes (c ∷ cs ++ m ∷ ms) longer t) [
-      inl every ↦ both_ways (is_solid m) (next_is rest m (ms ++ after) e br) (All-middle IsSolid (c ∷ cs) m ms every)
-    | inr is_sign ↦ contained_passes (λ s. not (begins_solid s)) signs (c ∷ cs ++ m ∷ ms) is_sign refl (ap not (All-head IsSolid c cs all))
+      | inl every ↦ both_ways (is_solid m) (next_is rest m (ms ++ after) e br) (All-middle IsSolid (c ∷ cs) m ms every)
+      | inr is_sign ↦ contained_passes (λ s. not (begins_solid s)) signs (c ∷ cs ++ m ∷ ms) is_sign refl (ap not (All-head IsSolid c cs all))
     ])
 
 -- whether the second text goes on behind the first one
@@ -113,8 +112,8 @@ pub closed_longest : (s rest : List ℕ) → begins_solid s ≡ false → IsClos
 closed_longest s rest b closed [] after longer e t = refl
 closed_longest s rest b closed (m ∷ ms) after longer e t =
     absurd (elim (token_bytes (s ++ m ∷ ms) longer t) [
-      inl every ↦ sign_solid s (m ∷ ms) b every
-    | inr is_sign ↦ contained_passes (λ u. not (goes_on s u)) signs (s ++ m ∷ ms) is_sign closed (ap not (goes_on_more s m ms))
+      | inl every ↦ sign_solid s (m ∷ ms) b every
+      | inr is_sign ↦ contained_passes (λ u. not (goes_on s u)) signs (s ++ m ∷ ms) is_sign closed (ap not (goes_on_more s m ms))
     ])
 
 -- no sign has a space
@@ -130,6 +129,6 @@ spaced_longest s rest b [] after longer e t = refl
 spaced_longest s rest b (m ∷ ms) after longer e t =
     let is_space : 32 ≡ m = cc in
     absurd (elim (token_bytes (s ++ m ∷ ms) longer t) [
-      inl every ↦ sign_solid s (m ∷ ms) b every
-    | inr is_sign ↦ contained_passes has_no_space signs (s ++ m ∷ ms) is_sign refl (subst (λ x. has_no_space (s ++ x ∷ ms) ≡ false) is_space (space_found s ms))
+      | inl every ↦ sign_solid s (m ∷ ms) b every
+      | inr is_sign ↦ contained_passes has_no_space signs (s ++ m ∷ ms) is_sign refl (subst (λ x. has_no_space (s ++ x ∷ ms) ≡ false) is_space (space_found s ms))
     ])

@@ -1,14 +1,13 @@
 -- What decimal and hexadecimal digits write.
-use Rattle.std.proofs.Common.{◌≡◌, ◌⊎◌, inl, inr, ℕ, suc, ◌+◌, ◌-◌, ◌*◌, ◌^◌, ◌<◌, ◌≤◌, ◌∙◌, sym, refl, ap, subst, Bool, true, false, List, [], ◌∷◌, ◌++◌, length, arith}
+use Rattle.std.proofs.Common.{◌≡◌, inl, inr, ℕ, ◌+◌, ◌*◌, ◌^◌, ◌<◌, ◌≤◌, ◌∙◌, sym, refl, ap, false, List, [], ◌∷◌, length, arith}
 use Rattle.std.specs.Fmt.{decimal, digits}
 use Rattle.std.specs.Char.{digit_value as std_value}
-use Rattle.std.specs.Str.Parse.{AllDigits, IsNumeral, digits_value, digits_value_after}
+use Rattle.std.specs.Str.Parse.{AllDigits, digits_value_after}
 use Rattle.std.specs.List.{All}
 use Rattle.std.proofs.lemmas.Fmt.{digits_is_IsNumeral, decimal_is_IsNumeral_wide}
-use Rattle.std.proofs.lemmas.Str.{digit_value_digit}
 use Rattle.std.proofs.lemmas.Str.Parse.{digit_from_value}
 use Rattle.std.proofs.lemmas.Bool.{cases_lt}
-use Rattle.std.proofs.lemmas.List.Elements.{All-nil, All-cons, All-weaker}
+use Rattle.std.proofs.lemmas.List.Elements.{All-nil, All-cons}
 use Rattle.rtl_core.specs.Valid.{IsDigit}
 use Rattle.rtl_core.specs.ModuleTokens.{IsHexDigit, IsNumber, digit_value, value_behind, number_value}
 
@@ -18,12 +17,12 @@ same_digit c h = grind arith
 
 hex_digit : (c : ℕ) → std_value c < 16 → IsHexDigit c
 hex_digit c h = elim (cases_lt c 58) [
-    inl low ↦ inl (grind arith)
+  | inl low ↦ inl (grind arith)
   | inr high ↦ elim (cases_lt c 97) [
-      inl capital ↦ inr (inl (grind arith))
+    | inl capital ↦ inr (inl (grind arith))
     | inr small ↦ inr (inr (grind arith))
-    ]
   ]
+]
 
 value_same : (radix n : ℕ) (ds : List ℕ) → radix ≤ 16 → AllDigits radix ds → value_behind radix n ds ≡ digits_value_after radix n ds
 value_same radix n [] le h = refl

@@ -1,15 +1,14 @@
 -- The example circuits are valid, and their names can be printed.
-use Rattle.std.proofs.Common.{◌≡◌, ◌≢◌, ◌⊎◌, inl, inr, ℕ, ◌+◌, ◌^◌, ◌<◌, ◌≤◌, true, refl, ap, List, [], ◌∷◌, ◌++◌, length, get_or, arith}
-use Rattle.std.specs.Prelude.{codes, nat_lt, slice_get, Some}
-use Rattle.std.specs.List.{All}
+use Rattle.std.proofs.Common.{◌≡◌, ◌≢◌, ◌⊎◌, inl, inr, ℕ, ◌<◌, ◌≤◌, true, refl, ap, List, [], ◌∷◌, length, get_or, arith}
+use Rattle.std.specs.Prelude.{codes, nat_lt}
 use Rattle.std.proofs.lemmas.Bool.{ltb-true}
 use Rattle.std.proofs.lemmas.List.Elements.{All-nil, All-from_recursion, All-weaker}
 use Rattle.rtl_core.specs.declared.design.Pin.{Pin}
-use Rattle.rtl_core.specs.declared.design.Atom.TheVariants as atom
 use Rattle.rtl_core.specs.ClockStep.{widths}
-use Rattle.rtl_core.specs.Valid.{IsLetter, IsDigit, IsName, IsBetween, IsIdentifier, reserved_words, pin_names, RegisterFits, PortFits, MemoryFits, OutputFits, IsValid}
+use Rattle.rtl_core.specs.Valid.{IsLetter, IsDigit, IsName, IsBetween, reserved_words, pin_names, RegisterFits, PortFits, MemoryFits, OutputFits, IsValid}
 use Rattle.verilog_print.specs.PrintableNames.{IsNumbered, HasPrintableNames}
 use Rattle.verilog_print.specs.Examples.{counter, machine, first_port, store}
+use Rattle.verilog_print.proofs.Names.{not_numbered}
 use Rattle.verilog_print.proofs.Lists.{all_pass}
 
 one_letter : (c : ℕ) → IsLetter c → IsName (c ∷ [])
@@ -22,9 +21,6 @@ one_letter c letter = record {
 
 small_letter : (c : ℕ) → (97 ≤ c) × (c ≤ 122) → IsName (c ∷ [])
 small_letter c h = one_letter c (inr (inl h))
-
-not_numbered : (c : ℕ) → ¬ IsNumbered (c ∷ [])
-not_numbered c h = let none = h.1.0 in omega (arith, none)
 
 differ : (c d : ℕ) → c ≢ d → c ∷ [] ≢ d ∷ []
 differ c d h same = h (ap (λ s. get_or s 0 0) same)
@@ -48,7 +44,7 @@ counter_valid = record {
 }
 
 pub counter_names : HasPrintableNames counter
-counter_names = All-from_recursion IsFree (pin_names counter) (not_numbered 97, (not_numbered 121, tt))
+counter_names = All-from_recursion IsFree (pin_names counter) (not_numbered (codes "a") refl, (not_numbered (codes "y") refl, tt))
 
 pub machine_valid : IsValid machine
 machine_valid = record {
@@ -56,20 +52,43 @@ machine_valid = record {
   names =
       All-from_recursion IsName (pin_names machine)
       (small_letter 97 (omega arith, omega arith), (small_letter 116 (omega arith, omega arith), (small_letter 121 (omega arith, omega arith), (small_letter 122 (omega arith, omega arith), tt))));
-  distinct =
-      (All-from_recursion (λ y. codes "a" ≢ y) (codes "t" ∷ codes "y" ∷ codes "z" ∷ []) (letters_differ 97 116 (omega arith), (letters_differ 97 121 (omega arith), (letters_differ 97 122 (omega arith), tt))),
-      (All-from_recursion (λ y. codes "t" ≢ y) (codes "y" ∷ codes "z" ∷ []) (letters_differ 116 121 (omega arith), (letters_differ 116 122 (omega arith), tt)),
-      (All-from_recursion (λ y. codes "y" ≢ y) (codes "z" ∷ []) (letters_differ 121 122 (omega arith), tt), (All-nil (λ x. codes "z" ≢ x), tt))));
+  distinct = (
+    All-from_recursion (λ y. codes "a" ≢ y) (codes "t" ∷ codes "y" ∷ codes "z" ∷ []) (letters_differ 97 116 (omega arith), (letters_differ 97 121 (omega arith), (letters_differ 97 122 (omega arith), tt))),
+    (
+      All-from_recursion (λ y. codes "t" ≢ y) (codes "y" ∷ codes "z" ∷ []) (letters_differ 116 121 (omega arith), (letters_differ 116 122 (omega arith), tt)),
+      (All-from_recursion (λ y. codes "y" ≢ y) (codes "z" ∷ []) (letters_differ 121 122 (omega arith), tt), (All-nil (λ x. codes "z" ≢ x), tt)),
+    ),
+  );
   inputs = All-from_recursion (λ (p : Pin). IsBetween 1 64 p.bits) machine.inputs ((omega arith, omega arith), ((omega arith, omega arith), tt));
-  wires =
-      ((omega arith, omega arith), ((λ c. c), (8, refl, omega arith, omega arith, refl)),
-      ((omega arith, omega arith), (store, refl, record { bits = refl; wide = refl; port = (0, first_port, refl, refl) }),
-      ((omega arith, omega arith), (refl, refl, refl),
-      ((omega arith, omega arith), (refl, (2, refl)),
-      ((omega arith, omega arith), (8, 8, refl, refl, refl),
-      ((omega arith, omega arith), (refl, (omega arith, omega arith), omega arith),
-      ((omega arith, omega arith), (refl, (128, refl, (refl, (omega arith, omega arith), omega arith))),
-      ((omega arith, omega arith), refl, tt))))))));
+  wires = (
+    (omega arith, omega arith),
+    ((λ c. c), (8, refl, omega arith, omega arith, refl)),
+    (
+      (omega arith, omega arith),
+      (store, refl, record { bits = refl; wide = refl; port = (0, first_port, refl, refl) }),
+      (
+        (omega arith, omega arith),
+        (refl, refl, refl),
+        (
+          (omega arith, omega arith),
+          (refl, (2, refl)),
+          (
+            (omega arith, omega arith),
+            (8, 8, refl, refl, refl),
+            (
+              (omega arith, omega arith),
+              (refl, (omega arith, omega arith), omega arith),
+              (
+                (omega arith, omega arith),
+                (refl, (128, refl, (refl, (omega arith, omega arith), omega arith))),
+                ((omega arith, omega arith), refl, tt),
+              ),
+            ),
+          ),
+        ),
+      ),
+    ),
+  );
   regs = All-from_recursion (RegisterFits (widths machine)) machine.regs (record { bits = (omega arith, omega arith); enable = refl; next = refl }, tt);
   mems = All-from_recursion (MemoryFits (widths machine)) machine.mems (memory_fits, tt);
   outputs =
@@ -83,10 +102,11 @@ machine_valid = record {
       depth = (omega arith, omega arith);
       some = omega arith;
       ports =
-          All-from_recursion (PortFits (widths machine) store) store.ports
-          (record { addr = refl; enable = refl; value = refl },
-          (record { addr = (refl, (omega arith, omega arith), omega arith); enable = (refl, (omega arith, omega arith), omega arith); value = refl }, tt));
+          All-from_recursion (PortFits (widths machine) store) store.ports (
+            record { addr = refl; enable = refl; value = refl },
+            (record { addr = (refl, (omega arith, omega arith), omega arith); enable = (refl, (omega arith, omega arith), omega arith); value = refl }, tt),
+          );
     }
 
 pub machine_names : HasPrintableNames machine
-machine_names = All-from_recursion IsFree (pin_names machine) (not_numbered 97, (not_numbered 116, (not_numbered 121, (not_numbered 122, tt))))
+machine_names = All-from_recursion IsFree (pin_names machine) (not_numbered (codes "a") refl, (not_numbered (codes "t") refl, (not_numbered (codes "y") refl, (not_numbered (codes "z") refl, tt))))

@@ -1,13 +1,11 @@
 -- What a valid circuit says of its atoms and expressions: each names something that there is, and constants fit 128 bits.
-use Rattle.std.proofs.Common.{◌≡◌, ◌⊎◌, inl, inr, ℕ, zero, suc, ◌+◌, ◌^◌, ◌<◌, ◌≤◌, ◌∙◌, sym, refl, ap, subst, List, [], ◌∷◌, ◌++◌, map, length, Option, Some, append_assoc, length-append, arith}
+use Rattle.std.proofs.Common.{◌≡◌, ℕ, ◌^◌, ◌<◌, ◌≤◌, ◌∙◌, sym, refl, ap, subst, List, [], ◌∷◌, ◌++◌, map, length, append_assoc, length-append, arith}
 use Rattle.std.proofs.Math.Nat.{pow-le-pow_right}
-use Rattle.std.specs.Prelude.{slice_get}
 use Rattle.std.specs.List.{All}
 use Rattle.std.proofs.lemmas.Option.{slice_get_within}
 use Rattle.std.proofs.lemmas.List.{length-map}
-use Rattle.std.proofs.lemmas.List.Elements.{All-nil, All-cons, All-head, All-tail, All-append, All-weaker, All-push}
+use Rattle.std.proofs.lemmas.List.Elements.{All-nil, All-cons, All-weaker, All-push}
 use Rattle.rtl_core.specs.declared.design.Pin.{Pin}
-use Rattle.rtl_core.specs.declared.design.OutPin.{OutPin}
 use Rattle.rtl_core.specs.declared.design.Atom.{Atom}
 use Rattle.rtl_core.specs.declared.design.Atom.TheVariants as atom
 use Rattle.rtl_core.specs.declared.design.Pair.{Pair}
@@ -19,7 +17,7 @@ use Rattle.rtl_core.specs.declared.design.Reg.{Reg}
 use Rattle.rtl_core.specs.declared.design.Port.{Port}
 use Rattle.rtl_core.specs.Netlist.{Netlist, Memory}
 use Rattle.rtl_core.specs.ClockStep.{widths_after, widths}
-use Rattle.rtl_core.specs.Valid.{IsBetween, HasBits, IsConstant, OperandsFit, NetFits, WiresFit, RegisterFits, PortFits, MemoryFits, OutputFits, IsValid}
+use Rattle.rtl_core.specs.Valid.{IsBetween, HasBits, IsConstant, OperandsFit, NetFits, WiresFit, RegisterFits, PortFits, MemoryFits, IsValid}
 use Rattle.verilog_print.proofs.Lists.{All-mapped}
 
 -- the atom names something of the circuit, or is a constant of at most 128 bits

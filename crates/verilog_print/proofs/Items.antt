@@ -1,19 +1,19 @@
 -- Each printed item spells the item's tokens.
-use Rattle.std.proofs.Common.{◌≡◌, ◌⊎◌, inl, inr, ℕ, ◌+◌, ◌^◌, ◌<◌, ◌≤◌, ◌∙◌, sym, refl, ap, subst, Bool, true, false, ◌&&◌, ◌||◌, List, [], ◌∷◌, ◌++◌, length, append_assoc, arith}
+use Rattle.std.proofs.Common.{◌≡◌, ◌⊎◌, inl, inr, ℕ, ◌^◌, ◌<◌, refl, subst, Bool, true, ◌&&◌, ◌||◌, List, [], ◌∷◌, ◌++◌, append_assoc, arith}
 use Rattle.std.specs.Prelude.{codes, nat_le, ◌==◌}
-use Rattle.std.specs.Fmt.{decimal, digits}
-use Rattle.std.specs.List.{All, Contains, list_all, flat_map}
+use Rattle.std.specs.Fmt.{decimal}
+use Rattle.std.specs.List.{All, list_all, flat_map}
 use Rattle.std.proofs.lemmas.Bool.{or_cases, and_parts, leb-true, eqb-true}
 use Rattle.std.proofs.lemmas.List.Elements.{All-nil, All-cons, All-head, All-tail, All-weaker}
 use Rattle.rtl_core.specs.declared.design.Pair.{Pair}
 use Rattle.rtl_core.specs.declared.design.Pair.TheVariants as pair
 use Rattle.rtl_core.specs.Valid.{IsIdentifier, IsLetter, IsDigit, IsBetween}
-use Rattle.rtl_core.specs.ModuleTokens.{Token, Word, Number, Constant, Sign, signs, IsNumber, IsConstantText, Spells}
-use Rattle.rtl_core.specs.ModuleSyntax.{Operand, Named, Fixed, Expression, Alone, Inverted, Between, Chosen, Joined, Slice, WordOf, Declared, DeclaredMemory, DeclaredWire, Assign, Write, Always, Register, Writes, Syntax, word, sign, number, operator, operand_tokens, expression_tokens, range_tokens, declared_tokens, memory_tokens, wire_tokens, assign_tokens, test_tokens, write_tokens, all_tokens, block_tokens, always_tokens, header_tokens, syntax_tokens}
+use Rattle.rtl_core.specs.ModuleTokens.{Word, IsNumber, IsConstantText, Spells}
+use Rattle.rtl_core.specs.ModuleSyntax.{Operand, Named, Fixed, Expression, Alone, Inverted, Between, Chosen, Joined, Slice, WordOf, Declared, DeclaredMemory, DeclaredWire, Assign, Write, Always, Register, Writes, Syntax, word, sign, number, operator, operand_tokens, expression_tokens, declared_tokens, memory_tokens, wire_tokens, assign_tokens, test_tokens, write_tokens, all_tokens, block_tokens, always_tokens, header_tokens, syntax_tokens}
 use Rattle.verilog_print.specs.PrintedText.{hexadecimal, operand_text, expression_text, declared_text, memory_text, wire_text, assign_text, test_text, write_text, block_text, always_text, header_text, syntax_text}
 use Rattle.verilog_print.proofs.Bytes.{Breaks}
 use Rattle.verilog_print.proofs.Digits.{IsNumber-decimal, number_value-decimal, hexadecimal_text}
-use Rattle.verilog_print.proofs.Spelling.{Reads, Anything, StartsBreak, breaks_onto, join, then, break, nothing, loosely, space, line_end, word_reads, number_reads, constant_reads, sign_reads, spaced_sign_reads, each_reads, spells_all}
+use Rattle.verilog_print.proofs.Spelling.{Reads, Anything, StartsBreak, join, then, break, nothing, loosely, space, line_end, word_reads, number_reads, constant_reads, sign_reads, spaced_sign_reads, each_reads, spells_all}
 
 -- ---- words of which each byte is known
 
@@ -22,12 +22,12 @@ is_letter c = (nat_le 65 c && nat_le c 90) || ((nat_le 97 c && nat_le c 122) || 
 
 is_letter-true : (c : ℕ) → is_letter c ≡ true → IsLetter c
 is_letter-true c h = elim (or_cases (nat_le 65 c && nat_le c 90) ((nat_le 97 c && nat_le c 122) || (c == 95)) h) [
-    inl capital ↦ inl (let p = and_parts (nat_le 65 c) (nat_le c 90) capital in (leb-true 65 c p.0, leb-true c 90 p.1))
+  | inl capital ↦ inl (let p = and_parts (nat_le 65 c) (nat_le c 90) capital in (leb-true 65 c p.0, leb-true c 90 p.1))
   | inr other ↦ elim (or_cases (nat_le 97 c && nat_le c 122) (c == 95) other) [
-      inl small ↦ inr (inl (let p = and_parts (nat_le 97 c) (nat_le c 122) small in (leb-true 97 c p.0, leb-true c 122 p.1)))
+    | inl small ↦ inr (inl (let p = and_parts (nat_le 97 c) (nat_le c 122) small in (leb-true 97 c p.0, leb-true c 122 p.1)))
     | inr line ↦ inr (inr (eqb-true c 95 line))
-    ]
   ]
+]
 
 all_letters : (cs : List ℕ) → list_all is_letter cs ≡ true → All (λ c. IsLetter c ⊎ IsDigit c) cs
 all_letters [] h = All-nil (λ c. IsLetter c ⊎ IsDigit c)
@@ -141,7 +141,7 @@ expression_reads (Alone a) h = operand_reads a h
 expression_reads (Inverted a) h = then tilde (operand_reads a h)
 expression_reads (Between op a b) h =
     let behind : Reads Breaks (operator op ++ (codes " " ++ operand_text b)) (sign (operator op) ++ operand_tokens b) =
-        subst (λ text. Reads Breaks text (sign (operator op) ++ operand_tokens b)) (append_assoc (operator op) (codes " ") (operand_text b)) (then (operator_reads op) (operand_reads b h.1)) in
+    subst (λ text. Reads Breaks text (sign (operator op) ++ operand_tokens b)) (append_assoc (operator op) (codes " ") (operand_text b)) (then (operator_reads op) (operand_reads b h.1)) in
     break (operand_reads a h.0) (then space behind) refl
 expression_reads (Chosen test a b) h =
     break (operand_reads test h.0) (then question (break (operand_reads a h.1) (then space (then colon (then space (operand_reads b h.2)))) refl)) refl
@@ -282,8 +282,8 @@ items_read s h =
     let blocks = each_reads always_text always_tokens s.blocks (All-weaker CanWriteBlock (λ x. Reads Anything (always_text x) (always_tokens x)) always_reads s.blocks h.blocks) in
     let ends = break (keyword 101 (codes "ndmodule") refl) line_end refl in
     let items =
-        then (all_declared 105 (codes "nput") refl s.inputs h.inputs) (then (all_declared 111 (codes "utput") refl s.outputs h.outputs)
-        (then (all_declared 114 (codes "eg") refl s.regs h.regs) (then mems (then wires (then assigns (then blocks ends)))))) in
+    then (all_declared 105 (codes "nput") refl s.inputs h.inputs) (then (all_declared 111 (codes "utput") refl s.outputs h.outputs)
+    (then (all_declared 114 (codes "eg") refl s.regs h.regs) (then mems (then wires (then assigns (then blocks ends)))))) in
     break (keyword 109 (codes "odule") refl) (then space (break (word_reads s.name h.name)
     (break opens_header (break (header_reads s.header h.header) (then ends_header items) refl) (header_starts s.header _)) refl)) refl
 

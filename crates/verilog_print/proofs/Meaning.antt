@@ -1,8 +1,7 @@
 -- What the printed operands and expressions mean, and that they can be written.
-use Rattle.std.proofs.Common.{◌≡◌, ◌⊎◌, inl, inr, ℕ, zero, suc, ◌+◌, ◌-◌, ◌^◌, ◌<◌, ◌≤◌, ◌∙◌, sym, refl, ap, subst, List, [], ◌∷◌, ◌++◌, map, length, get_or, Option, Some, arith}
-use Rattle.std.specs.Prelude.{slice_get, codes}
+use Rattle.std.proofs.Common.{◌≡◌, inl, inr, ℕ, suc, ◌+◌, ◌-◌, ◌^◌, ◌<◌, ◌∙◌, sym, refl, ap, [], map, length, Some, arith}
+use Rattle.std.specs.Prelude.{slice_get}
 use Rattle.std.specs.Fmt.{decimal}
-use Rattle.std.specs.List.{All}
 use Rattle.std.proofs.lemmas.Option.{slice_get-get_or}
 use Rattle.std.proofs.lemmas.List.{length-map}
 use Rattle.std.proofs.lemmas.List.Elements.{All-get_or}
@@ -13,13 +12,12 @@ use Rattle.rtl_core.specs.declared.design.Atom.TheVariants as atom
 use Rattle.rtl_core.specs.declared.design.Net.{Net}
 use Rattle.rtl_core.specs.declared.design.Net.TheVariants as net
 use Rattle.rtl_core.specs.declared.design.Wire.{Wire}
-use Rattle.rtl_core.specs.declared.design.Reg.{Reg}
-use Rattle.rtl_core.specs.Netlist.{Netlist, Memory}
+use Rattle.rtl_core.specs.Netlist.{Netlist}
 use Rattle.rtl_core.specs.Valid.{IsName, IsIdentifier, IsBetween, IsConstant, IsValid}
 use Rattle.rtl_core.specs.ModuleTokens.{number_value}
-use Rattle.rtl_core.specs.ModuleSyntax.{Operand, Named, Fixed, Expression, DeclaredMemory, DeclaredWire}
+use Rattle.rtl_core.specs.ModuleSyntax.{Named, DeclaredMemory, DeclaredWire}
 use Rattle.rtl_core.specs.ModuleText.{Names, names_in, declared_name, OperandMeans, ExpressionMeans, WireMeans}
-use Rattle.verilog_print.specs.PrintedSyntax.{register_name, memory_name, wire_name, high_bit, numbered, name_at, operand_of, name_of, expression_of, input_of, register_of, memory_at, wire_of, syntax_of}
+use Rattle.verilog_print.specs.PrintedSyntax.{register_name, memory_name, wire_name, high_bit, name_at, operand_of, name_of, expression_of, input_of, register_of, memory_at, wire_of, syntax_of}
 use Rattle.verilog_print.proofs.Digits.{IsNumber-decimal, number_value-decimal}
 use Rattle.verilog_print.proofs.Items.{CanWrite, CanWriteNet, CanDeclareWire}
 use Rattle.verilog_print.proofs.Lists.{All-left, map_map, numbered_get}

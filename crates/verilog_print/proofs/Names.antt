@@ -1,16 +1,16 @@
 -- The names of registers, memories and wires: they are names, and none is another's or a pin's.
-use Rattle.std.proofs.Common.{◌≡◌, ◌≢◌, ◌⊎◌, inl, inr, ℕ, zero, suc, ◌+◌, ◌^◌, ◌<◌, ◌≤◌, ◌∙◌, sym, refl, ap, subst, Bool, true, false, ◌&&◌, List, [], ◌∷◌, ◌++◌, map, length, get_or, append_assoc, arith}
+use Rattle.std.proofs.Common.{◌≡◌, ◌≢◌, ◌⊎◌, inr, ℕ, suc, ◌+◌, ◌^◌, ◌<◌, ◌≤◌, ◌∙◌, sym, refl, ap, subst, Bool, true, false, ◌&&◌, List, [], ◌∷◌, length, get_or, arith}
 use Rattle.std.specs.Prelude.{codes, nat_le, not}
 use Rattle.std.specs.Fmt.{decimal}
-use Rattle.std.specs.List.{All, Contains, list_all}
-use Rattle.std.proofs.lemmas.Bool.{both_ways, not_from_true, le-leb, and_from}
-use Rattle.std.proofs.lemmas.List.Elements.{All-nil, All-cons, All-head, All-tail, All-append, All-weaker}
+use Rattle.std.specs.List.{All, Contains}
+use Rattle.std.proofs.lemmas.Bool.{both_ways, le-leb, and_from}
+use Rattle.std.proofs.lemmas.List.Elements.{All-nil, All-cons, All-head, All-weaker}
 use Rattle.rtl_core.specs.Valid.{IsLetter, IsDigit, IsIdentifier, IsName, reserved_words, AreDistinct}
 use Rattle.rtl_core.specs.ModuleTokens.{IsNumber}
 use Rattle.verilog_print.specs.PrintedSyntax.{numbered}
 use Rattle.verilog_print.specs.PrintableNames.{IsNumbered}
 use Rattle.verilog_print.proofs.Digits.{IsNumber-decimal, decimal-same}
-use Rattle.verilog_print.proofs.Lists.{all_pass, distinct_append, all_apart}
+use Rattle.verilog_print.proofs.Lists.{all_pass}
 
 -- a letter and the digits of a number
 abbrev pub name_with : ℕ → ℕ → List ℕ
@@ -20,7 +20,7 @@ pub name_is_identifier : (c k : ℕ) → IsLetter c → k < 10 ^ 64 → IsIdenti
 name_is_identifier c k letter small = (letter, All-weaker IsDigit (λ c. IsLetter c ⊎ IsDigit c) (λ c d. inr d) (decimal k) (IsNumber-decimal k small).1)
 
 -- a digit stands behind the first byte
-abbrev has_digit : List ℕ → Bool
+abbrev pub has_digit : List ℕ → Bool
 has_digit [] = false
 has_digit (c ∷ []) = false
 has_digit (c ∷ d ∷ ds) = nat_le 48 d && nat_le d 57
@@ -28,6 +28,11 @@ has_digit (c ∷ d ∷ ds) = nat_le 48 d && nat_le d 57
 digits_begin : (c : ℕ) (ds : List ℕ) → IsNumber ds → has_digit (c ∷ ds) ≡ true
 digits_begin c [] h = absurd (let none = h.0 in omega arith)
 digits_begin c (d ∷ ds) h = let first = All-head IsDigit d ds h.1 in and_from (nat_le 48 d) (nat_le d 57) (le-leb 48 d first.0) (le-leb d 57 first.1)
+
+-- a name without a digit behind its first byte is none of a register, a memory or a wire
+pub not_numbered : (name : List ℕ) → has_digit name ≡ false → ¬ IsNumbered name
+not_numbered [] none h = h
+not_numbered (c ∷ cs) none h = both_ways (has_digit (c ∷ cs)) none (digits_begin c cs h.1)
 
 not_true : (b : Bool) → not b ≡ true → b ≡ false
 not_true true h = sym h
@@ -59,11 +64,12 @@ rest_same c d xs ys e = cc
 
 pub names_distinct : {X : Type 0} (c j : ℕ) (xs : List X) → j + length xs < 10 ^ 64 → AreDistinct (names_by_number c j xs)
 names_distinct c j [] h = tt
-names_distinct c j (x ∷ xs) h =
-    (All-weaker (IsNameFrom c (suc j)) (λ y. name_with c j ≢ y)
-    (λ y named same. let numbers : j ≡ named.0 = decimal-same j named.0 (omega arith) named.2 (rest_same c c (decimal j) (decimal named.0) (same ∙ named.3)) in omega (arith, named.1))
-    (names_by_number c (suc j) xs) (names_from c (suc j) (suc j) xs (omega arith) (omega arith)),
-    names_distinct c (suc j) xs (omega arith))
+names_distinct c j (x ∷ xs) h = (
+  All-weaker (IsNameFrom c (suc j)) (λ y. name_with c j ≢ y)
+      (λ y named same. let numbers : j ≡ named.0 = decimal-same j named.0 (omega arith) named.2 (rest_same c c (decimal j) (decimal named.0) (same ∙ named.3)) in omega (arith, named.1))
+      (names_by_number c (suc j) xs) (names_from c (suc j) (suc j) xs (omega arith) (omega arith)),
+  names_distinct c (suc j) xs (omega arith),
+)
 
 pub letters_differ : (c d : ℕ) → c ≢ d → (x y : List ℕ) → IsNameFrom c 0 x → IsNameFrom d 0 y → x ≢ y
 letters_differ c d differ x y p q same =

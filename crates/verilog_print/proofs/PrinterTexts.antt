@@ -1,5 +1,5 @@
 -- The parts of the printed text, put together.
-use Rattle.std.proofs.Common.{◌≡◌, ℕ, ◌+◌, ◌^◌, ◌<◌, ◌≤◌, ◌∙◌, sym, refl, ap, List, [], ◌∷◌, ◌++◌, map, length, append_assoc, arith}
+use Rattle.std.proofs.Common.{◌≡◌, ℕ, ◌≤◌, ◌∙◌, sym, refl, ap, List, [], ◌∷◌, ◌++◌, map, append_assoc, arith}
 use Rattle.std.specs.Prelude.{Result, Ok, Err, OnOk}
 use Rattle.std.specs.List.{All, flat_map}
 use Rattle.std.proofs.lemmas.Grind.{flat_map-append}
@@ -7,7 +7,7 @@ use Rattle.std.proofs.lemmas.List.{length-map}
 use Rattle.std.proofs.lemmas.List.Elements.{All-nil, All-cons, All-head, All-tail}
 use Rattle.rtl_core.specs.declared.design.Mem.{Mem}
 use Rattle.rtl_core.specs.declared.design.Design.{Design}
-use Rattle.rtl_core.specs.Netlist.{Netlist, Memory, memory_of, netlist_of}
+use Rattle.rtl_core.specs.Netlist.{memory_of, netlist_of}
 use Rattle.rtl_core.specs.ClockStep.{Widths}
 use Rattle.rtl_core.specs.Valid.{MemoryFits}
 use Rattle.verilog_print.proofs.Meaning.{AreCounted}

@@ -1,35 +1,19 @@
 -- All names of a printed text are names, and none stands twice.
-use Rattle.std.proofs.Common.{◌≡◌, ◌≢◌, ◌⊎◌, inl, inr, ℕ, zero, suc, ◌+◌, ◌-◌, ◌^◌, ◌<◌, ◌≤◌, ◌∙◌, sym, refl, ap, subst, List, [], ◌∷◌, ◌++◌, map, length, get_or, Option, Some, append_assoc, arith}
-use Rattle.std.proofs.Math.Path.{subst₂}
-use Rattle.std.specs.Prelude.{slice_get, codes, IsPermutation}
-use Rattle.std.specs.Fmt.{decimal}
+use Rattle.std.proofs.Common.{◌≡◌, ◌≢◌, inl, inr, ℕ, suc, ◌≤◌, ◌∙◌, sym, refl, ap, subst, List, [], ◌∷◌, ◌++◌, map, get_or, append_assoc, arith}
+use Rattle.std.specs.Prelude.{codes}
 use Rattle.std.specs.List.{All, Contains}
-use Rattle.std.proofs.lemmas.Option.{slice_get_within}
-use Rattle.std.proofs.lemmas.Nat.{pow_pos}
-use Rattle.std.proofs.lemmas.List.{map-append}
-use Rattle.std.proofs.lemmas.List.Sorted.{IsPermutation-refl}
-use Rattle.std.proofs.lemmas.List.Elements.{All-nil, All-cons, All-head, All-tail, All-append, All-map, All-weaker}
+use Rattle.std.proofs.lemmas.List.Elements.{All-append, All-weaker}
 use Rattle.rtl_core.specs.declared.design.Pin.{Pin}
 use Rattle.rtl_core.specs.declared.design.OutPin.{OutPin}
-use Rattle.rtl_core.specs.declared.design.Wire.{Wire}
-use Rattle.rtl_core.specs.declared.design.Reg.{Reg}
-use Rattle.rtl_core.specs.declared.design.Port.{Port}
-use Rattle.rtl_core.specs.Netlist.{Netlist, Memory}
-use Rattle.rtl_core.specs.ClockStep.{widths}
-use Rattle.rtl_core.specs.Interface.{outer}
-use Rattle.rtl_core.specs.Valid.{IsName, IsIdentifier, IsBetween, AreDistinct, pin_names, RegisterFits, OutputFits, IsValid}
-use Rattle.rtl_core.specs.ModuleTokens.{number_value}
-use Rattle.rtl_core.specs.ModuleSyntax.{Declared, DeclaredMemory, DeclaredWire, Assign, Write, Always, Register, Writes, syntax_tokens}
-use Rattle.rtl_core.specs.ModuleText.{names_in, output_names, all_names, declared_name, declared_pin, target, InOrder, WireMeans, MemoryMeans, AssignMeans, WriteMeans, BlockMeans, Means, IsModuleText}
-use Rattle.verilog_print.specs.PrintedSyntax.{register_name, memory_name, wire_name, high_bit, numbered, operand_of, input_of, output_of, register_of, memory_at, wire_of, assign_of, register_block, write_of, ports_block, memory_blocks, syntax_of}
-use Rattle.verilog_print.specs.PrintedText.{module_text}
+use Rattle.rtl_core.specs.Netlist.{Netlist}
+use Rattle.rtl_core.specs.Valid.{IsName, AreDistinct, pin_names, IsValid}
+use Rattle.rtl_core.specs.ModuleSyntax.{DeclaredMemory, DeclaredWire}
+use Rattle.rtl_core.specs.ModuleText.{names_in, output_names, all_names, declared_name}
+use Rattle.verilog_print.specs.PrintedSyntax.{register_name, memory_name, wire_name, numbered, output_of, register_of, memory_at, wire_of, syntax_of}
 use Rattle.verilog_print.specs.PrintableNames.{IsNumbered, HasPrintableNames}
-use Rattle.verilog_print.proofs.Digits.{IsNumber-decimal, number_value-decimal}
-use Rattle.verilog_print.proofs.Items.{CanDeclare, CanDeclareMemory, CanDeclareWire, CanAssign, CanWritePort, CanWriteBlock, CanPrint, spelled}
-use Rattle.verilog_print.proofs.Lists.{All-left, All-right, All-place, Behind, Behind-first, Behind-next, Behind-whole, by_places, numbered_all, in_order, in_order_map, map_map, map_numbered, distinct_append, all_apart}
+use Rattle.verilog_print.proofs.Lists.{All-left, All-right, map_map, distinct_append, all_apart}
 use Rattle.verilog_print.proofs.Names.{name_is_name, IsNameFrom, names_by_number, names_from, names_distinct, letters_differ, pins_differ}
-use Rattle.verilog_print.proofs.Fitting.{all_wires_there, atom_there, PortIsThere, MemoryIsThere, all_memories_there, WireIsThere}
-use Rattle.verilog_print.proofs.Meaning.{AreCounted, printed_names, input_names, register_named, memory_named, operand_means, high_bit_means, wire_means, register_identifier, memory_identifier, can_write, can_declare_wire}
+use Rattle.verilog_print.proofs.Meaning.{AreCounted, input_names}
 
 -- ---- the printed names
 
@@ -118,10 +102,10 @@ module _ (d : Netlist) (v : IsValid d) (free : HasPrintableNames d) (counted : A
       let w = wires_of d in
       let mw = distinct_append m w (names_distinct 109 0 d.mems (omega (arith, counted.mems))) (names_distinct 119 0 d.wires (omega (arith, counted.wires))) (letters_apart 109 119 (λ e. absurd (omega arith)) m w from_m from_w) in
       let rmw =
-          distinct_append r (m ++ w) (names_distinct 114 0 d.regs (omega (arith, counted.regs))) mw
-          (from_both r m w (letters_apart 114 109 (λ e. absurd (omega arith)) r m from_r from_m) (letters_apart 114 119 (λ e. absurd (omega arith)) r w from_r from_w)) in
+      distinct_append r (m ++ w) (names_distinct 114 0 d.regs (omega (arith, counted.regs))) mw
+      (from_both r m w (letters_apart 114 109 (λ e. absurd (omega arith)) r m from_r from_m) (letters_apart 114 119 (λ e. absurd (omega arith)) r w from_r from_w)) in
       let all =
-          distinct_append (pin_names d) (r ++ (m ++ w)) v.distinct rmw
-          (from_both (pin_names d) r (m ++ w) (pins_apart 114 r_letter r from_r)
-          (from_both (pin_names d) m w (pins_apart 109 m_letter m from_m) (pins_apart 119 w_letter w from_w))) in
+      distinct_append (pin_names d) (r ++ (m ++ w)) v.distinct rmw
+      (from_both (pin_names d) r (m ++ w) (pins_apart 114 r_letter r from_r)
+      (from_both (pin_names d) m w (pins_apart 109 m_letter m from_m) (pins_apart 119 w_letter w from_w))) in
       subst AreDistinct (append_assoc (inputs_of d) (outputs_of d) (r ++ (m ++ w)) ∙ sym (all_names_are d)) all

@@ -1,14 +1,14 @@
 -- Texts that spell tokens whatever follows, and how they join.
-use Rattle.std.proofs.Common.{◌≡◌, ℕ, ◌+◌, ◌<◌, ◌∙◌, sym, refl, ap, subst, Bool, true, false, List, [], ◌∷◌, ◌++◌, length, append_assoc, length-append, inl, inr, arith}
+use Rattle.std.proofs.Common.{◌≡◌, ℕ, ◌<◌, sym, refl, ap, subst, false, List, [], ◌∷◌, ◌++◌, length, append_assoc, length-append, inl, inr, arith}
 use Rattle.std.proofs.Math.Path.{subst₂}
 use Rattle.std.specs.Prelude.{codes}
 use Rattle.std.specs.List.{All, Contains, flat_map}
 use Rattle.std.proofs.lemmas.List.{append-nil}
 use Rattle.std.proofs.lemmas.List.Elements.{All-head, All-tail}
 use Rattle.rtl_core.specs.Valid.{IsIdentifier}
-use Rattle.rtl_core.specs.ModuleTokens.{Token, Word, Number, Constant, Sign, signs, IsNumber, IsToken, IsConstantText, IsLongest, IsWhite, Spells, over, white, a_token}
+use Rattle.rtl_core.specs.ModuleTokens.{Token, Word, Number, Constant, Sign, signs, IsNumber, IsConstantText, Spells, over, white, a_token}
 use Rattle.rtl_core.specs.ModuleSyntax.{all_tokens}
-use Rattle.verilog_print.proofs.Bytes.{IsSolid, is_solid, Breaks, begins_solid, IsClosed, identifier_solid, digits_solid, constant_solid, solid_longest, closed_longest, spaced_longest}
+use Rattle.verilog_print.proofs.Bytes.{Breaks, begins_solid, IsClosed, identifier_solid, digits_solid, constant_solid, solid_longest, closed_longest, spaced_longest}
 
 -- The text spells these tokens, where what follows meets Follows.
 pub record Reads (Follows : List ℕ → Type 0) (text : List ℕ) (tokens : List Token) : Type 0 where

@@ -1,24 +1,22 @@
 -- The printed text of a valid circuit is a text of that circuit.
-use Rattle.std.proofs.Common.{◌≡◌, ◌⊎◌, inl, inr, ℕ, zero, suc, ◌+◌, ◌-◌, ◌^◌, ◌<◌, ◌≤◌, ◌∙◌, sym, refl, ap, subst, List, [], ◌∷◌, ◌++◌, map, length, Option, Some, arith}
-use Rattle.std.specs.Prelude.{slice_get, IsPermutation}
+use Rattle.std.proofs.Common.{◌≡◌, ℕ, suc, ◌-◌, ◌^◌, ◌<◌, ◌≤◌, ◌∙◌, sym, refl, ap, subst, List, [], ◌∷◌, ◌++◌, map, arith}
+use Rattle.std.specs.Prelude.{IsPermutation}
 use Rattle.std.proofs.Math.Nat.{pow-le-pow_right}
-use Rattle.std.specs.Fmt.{decimal}
 use Rattle.std.specs.List.{All}
 use Rattle.std.proofs.lemmas.Option.{slice_get_within}
 use Rattle.std.proofs.lemmas.Nat.{pow_pos}
 use Rattle.std.proofs.lemmas.List.Sorted.{IsPermutation-refl}
-use Rattle.std.proofs.lemmas.List.Elements.{All-nil, All-cons, All-head, All-tail, All-map, All-weaker}
+use Rattle.std.proofs.lemmas.List.Elements.{All-nil, All-cons, All-head, All-tail, All-weaker}
 use Rattle.rtl_core.specs.declared.design.Pin.{Pin}
 use Rattle.rtl_core.specs.declared.design.OutPin.{OutPin}
-use Rattle.rtl_core.specs.declared.design.Wire.{Wire}
 use Rattle.rtl_core.specs.declared.design.Reg.{Reg}
 use Rattle.rtl_core.specs.Netlist.{Netlist, Memory}
 use Rattle.rtl_core.specs.ClockStep.{widths}
 use Rattle.rtl_core.specs.Interface.{outer}
 use Rattle.rtl_core.specs.Valid.{IsName, IsIdentifier, IsBetween, pin_names, RegisterFits, OutputFits, IsValid}
 use Rattle.rtl_core.specs.ModuleTokens.{number_value}
-use Rattle.rtl_core.specs.ModuleSyntax.{Declared, DeclaredMemory, Assign, syntax_tokens}
-use Rattle.rtl_core.specs.ModuleText.{names_in, output_names, declared_name, declared_pin, target, MemoryMeans, WireMeans, Means, IsModuleText}
+use Rattle.rtl_core.specs.ModuleSyntax.{Declared, Assign, syntax_tokens}
+use Rattle.rtl_core.specs.ModuleText.{output_names, declared_pin, target, MemoryMeans, WireMeans, Means, IsModuleText}
 use Rattle.verilog_print.specs.PrintedSyntax.{high_bit, numbered, input_of, output_of, register_of, memory_at, wire_of, assign_of, syntax_of}
 use Rattle.verilog_print.specs.PrintedText.{module_text}
 use Rattle.verilog_print.specs.PrintableNames.{HasPrintableNames}
@@ -123,14 +121,16 @@ module _ (d : Netlist) (v : IsValid d) (free : HasPrintableNames d) (counted : A
     regs =
         numbered_all CanDeclare register_of d.regs
         (λ k r found.
-          let bits = All-place (λ (r : Reg). IsBetween 1 64 r.bits) d.regs k r register_bits found in
-          (IsNumber-decimal (r.bits - 1) (omega (arith, bits.1)), register_identifier k (omega (arith, slice_get_within d.regs k r found, counted.regs))));
+        let bits = All-place (λ (r : Reg). IsBetween 1 64 r.bits) d.regs k r register_bits found in
+        (IsNumber-decimal (r.bits - 1) (omega (arith, bits.1)), register_identifier k (omega (arith, slice_get_within d.regs k r found, counted.regs))));
     mems =
         numbered_all CanDeclareMemory memory_at d.mems
         (λ k m found.
-          let there = All-place (MemoryIsThere d) d.mems k m (all_memories_there d v) found in
-          (IsNumber-decimal (m.bits - 1) (omega (arith, there.bits.1)), memory_identifier k (omega (arith, slice_get_within d.mems k m found, counted.mems)),
-          IsNumber-decimal (2 ^ m.depth_log - 1) (omega (arith, deep m.depth_log there.depth.1))));
+        let there = All-place (MemoryIsThere d) d.mems k m (all_memories_there d v) found in (
+          IsNumber-decimal (m.bits - 1) (omega (arith, there.bits.1)),
+          memory_identifier k (omega (arith, slice_get_within d.mems k m found, counted.mems)),
+          IsNumber-decimal (2 ^ m.depth_log - 1) (omega (arith, deep m.depth_log there.depth.1)),
+        ));
     wires =
         numbered_all CanDeclareWire (wire_of d.inputs) d.wires
         (λ k w found. can_declare_wire d v counted k w (slice_get_within d.wires k w found) (All-place (WireIsThere d) d.wires k w (all_wires_there d v) found));

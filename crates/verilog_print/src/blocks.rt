@@ -64,7 +64,12 @@ fn push_writes(out: &mut Vec<u8>, pins: &[Pin], k: u64, ports: &[Port]) -> Resul
     Ok(())
 }
 
-fn push_ports_block(out: &mut Vec<u8>, pins: &[Pin], k: u64, ports: &[Port]) -> Result<(), AllocError>
+fn push_ports_block(
+    out: &mut Vec<u8>,
+    pins: &[Pin],
+    k: u64,
+    ports: &[Port],
+) -> Result<(), AllocError>
     ensures { OnOk result (out.new.items ≡ out.old.items ++ flat_map always_text (ports_block pins.now k ports.now)) }
 {
     if ports.is_empty() {

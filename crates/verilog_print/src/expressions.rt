@@ -20,7 +20,11 @@ fn hexadecimal_digit(digit: u8) -> u8
     requires { digit < 16 }
     ensures { result ≡ digit_glyph false digit }
 {
-    if digit < 10 { b'0' + digit } else { b'a' + (digit - 10) }
+    if digit < 10 {
+        b'0' + digit
+    } else {
+        b'a' + (digit - 10)
+    }
 }
 
 /// Appends the hexadecimal digits of a number, in lower case and without leading zeros.
@@ -109,7 +113,13 @@ fn push_two(out: &mut Vec<u8>, pins: &[Pin], op: Pair, a: Atom, b: Atom) -> Resu
     push_operand(out, pins, b)
 }
 
-fn push_pick(out: &mut Vec<u8>, pins: &[Pin], test: Atom, a: Atom, b: Atom) -> Result<(), AllocError>
+fn push_pick(
+    out: &mut Vec<u8>,
+    pins: &[Pin],
+    test: Atom,
+    a: Atom,
+    b: Atom,
+) -> Result<(), AllocError>
     ensures { OnOk result (out.new.items ≡ out.old.items ++ expression_text (expression_of pins.now (Net.Pick test a b))) }
 {
     push_operand(out, pins, test)?;

@@ -1,7 +1,9 @@
 //! The text of a circuit.
 #![tactic(auto)]
 
-pub mod blocks;
-pub mod declarations;
-pub mod expressions;
+mod blocks;
+mod declarations;
+mod expressions;
 pub mod printer;
+#[cfg(test)]
+mod tests;

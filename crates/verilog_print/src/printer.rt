@@ -9,7 +9,10 @@ ghost use Rattle.verilog_print.specs.PrintedSyntax.{syntax_of};
 ghost use Rattle.verilog_print.specs.PrintedText.{header_text, declared_text, memory_text, wire_text, assign_text, always_text, module_text};
 
 use crate::blocks::{push_memory_blocks, push_register_blocks};
-use crate::declarations::{push_assigns, push_input_names, push_inputs, push_memories, push_output_names, push_outputs, push_registers, push_wires};
+use crate::declarations::{
+    push_assigns, push_input_names, push_inputs, push_memories, push_output_names, push_outputs,
+    push_registers, push_wires,
+};
 use hls_base::text::Text;
 use rtl_core::design::Design;
 use std::alloc::{AllocError, Global};

@@ -1,11 +1,12 @@
-use Rattle.std.proofs.Common.{codes, ◌++◌, ◌∙◌, ap, sym, map, subst}
+use Rattle.std.proofs.Common.{codes, ◌++◌, ◌∙◌, ap, map, subst}
 use Rattle.std.specs.List.{All}
 use Rattle.cycle_report.specs.ReportForm.{FitsCost, FitsLoop, FitsMemory}
 use Rattle.std.specs.Fmt.{decimal}
-use Rattle.cycle_report.specs.PlainReport.{loop_of, units_of}
+use Rattle.cycle_report.specs.PlainReport.{loop_of, plain_of, units_of}
 use Rattle.cycle_report.specs.ReportText.{head_lines, init_line, units_line, lines_of, cost_line, loop_lines, memory_line, last_lines}
 use Rattle.cycle_report.proofs.Appends.{printed}
 use Rattle.cycle_report.proofs.Texts.{last_flat}
+use Rattle.cycle_report.proofs.Whole.{one_report}
 use Rattle.cycle_report.proofs.print.print.Goals as goal
 
 pub returns-clause-text : goal.returns-clause-text
@@ -34,3 +35,6 @@ returns-clause-related c = record {
   };
   text = returns-clause-text c;
 }
+
+pub returns-clause-only : goal.returns-clause-only
+returns-clause-only c = λ other is. one_report c.new.result other (plain_of c.args.report.now) is (returns-clause-related c)

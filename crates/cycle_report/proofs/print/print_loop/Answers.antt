@@ -22,9 +22,9 @@ returns-clause-text c =
 
 pub loop-edge-preserved : goal.loop-edge-preserved
 loop-edge-preserved c = record {
-  text = more_lines_at edge_line _ _ _ _ _ _ (omega (arith, c.deref-edge-items.ensures.len)) c.loop-edge.invariant.text (c.in_ok-print_edge.ensures.text ∙ ap (λ es. c.loop-edge.out.items ++ edge_line (get_or es c.loop-edge.edge-index record {from = 0; to = 0; latency = 0; distance = 0})) c.deref-edge-items.ensures.value);
-  fits = All-more FitsEdge _ _ record {from = 0; to = 0; latency = 0; distance = 0} (omega (arith, c.deref-edge-items.ensures.len)) c.loop-edge.invariant.fits
-    (subst (λ es. FitsEdge (get_or es c.loop-edge.edge-index record {from = 0; to = 0; latency = 0; distance = 0})) c.deref-edge-items.ensures.value c.in_ok-print_edge.ensures.fits);
+  text = more_lines_at edge_line _ _ _ _ _ _ (omega (arith, c.deref-edge-items.ensures.len)) c.loop-edge.invariant.text (c.in_ok-print_edge.ensures.text ∙ ap (λ es. c.loop-edge.out.items ++ edge_line (get_or es c.loop-edge.edge-index record { from = 0; to = 0; latency = 0; distance = 0 })) c.deref-edge-items.ensures.value);
+  fits = All-more FitsEdge _ _ record { from = 0; to = 0; latency = 0; distance = 0 } (omega (arith, c.deref-edge-items.ensures.len)) c.loop-edge.invariant.fits
+      (subst (λ es. FitsEdge (get_or es c.loop-edge.edge-index record { from = 0; to = 0; latency = 0; distance = 0 })) c.deref-edge-items.ensures.value c.in_ok-print_edge.ensures.fits);
 }
 
 pub returns-clause-fits : goal.returns-clause-fits

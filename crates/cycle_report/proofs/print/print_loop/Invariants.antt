@@ -1,8 +1,6 @@
-use Rattle.std.proofs.Common.{◌≡◌, ◌++◌, take, map, codes}
+use Rattle.std.proofs.Common.{◌≡◌, ◌++◌, take}
 use Rattle.std.specs.List.{All}
-use Rattle.hls_base.specs.PlaceText.{place_text}
-use Rattle.cycle_report.specs.PlainReport.{loop_of}
-use Rattle.cycle_report.specs.ReportForm.{FitsPlace, FitsCost, FitsEdge, FitsLoop, FitsMemory}
+use Rattle.cycle_report.specs.ReportForm.{FitsEdge}
 use Rattle.cycle_report.specs.ReportText as text
 use Rattle.cycle_report.proofs.print.print_loop.Given as goal
 

@@ -13,7 +13,7 @@ use Rattle.cycle_report.proofs.print.print_path.Goals as goal
 pub loop-place-preserved : goal.loop-place-preserved
 loop-place-preserved c = record {
   text = more_lines_at (λ p. codes "," ++ place_text p) _ _ _ _ _ _ (omega arith) c.loop-place.invariant.text c.in_ok-print_further.ensures.text;
-  fits = All-more FitsPlace _ _ record {line = 0; column = 0; part = 0} (omega arith) c.loop-place.invariant.fits c.in_ok-print_further.ensures.fits;
+  fits = All-more FitsPlace _ _ record { line = 0; column = 0; part = 0 } (omega arith) c.loop-place.invariant.fits c.in_ok-print_further.ensures.fits;
 }
 
 pub returns-clause-text : goal.returns-clause-text

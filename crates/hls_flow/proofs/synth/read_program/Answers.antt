@@ -12,9 +12,9 @@ returns-else-is_same-clause-refused c =
       rule = refl;
       place = refl;
       other = λ program is named.
-        let same : c.in-Some.program.name ≡ c.args.top.now = ap (λ (s : Sum). s.name) (sym (only program is)) ∙ named in
-        let clash : false ≡ true = c.if-is_same.ensures.1 same in
-        absurd (let no : ⊥ = cc in no);
+          let same : c.in-Some.program.name ≡ c.args.top.now = ap (λ (s : Sum). s.name) (sym (only program is)) ∙ named in
+          let clash : false ≡ true = c.if-is_same.ensures.1 same in
+          absurd (let no : ⊥ = cc in no);
     }
 
 pub returns-in-None-clause-refused : goal.returns-in-None-clause-refused

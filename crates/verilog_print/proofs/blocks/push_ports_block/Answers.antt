@@ -1,4 +1,4 @@
-use Rattle.std.proofs.Common.{ℕ, ◌<◌, ◌≡◌, ◌++◌, ◌∙◌, refl, length, map, arith}
+use Rattle.std.proofs.Common.{◌<◌, refl, length, map, arith}
 use Rattle.std.specs.Prelude.{codes}
 use Rattle.std.specs.List.{flat_map}
 use Rattle.verilog_print.specs.PrintedSyntax.{write_of}

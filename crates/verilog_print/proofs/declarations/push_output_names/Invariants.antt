@@ -1,11 +1,7 @@
-use Rattle.std.proofs.Common.{◌≡◌, ◌++◌, List, map, drop}
-use Rattle.std.specs.Prelude.{codes}
+use Rattle.std.proofs.Common.{◌≡◌, ◌++◌, map, drop}
 use Rattle.std.specs.List.{flat_map}
-use Rattle.rtl_core.specs.declared.design.Pin.{Pin}
 use Rattle.rtl_core.specs.declared.design.OutPin.{OutPin}
-use Rattle.rtl_core.specs.Netlist.{memory_of}
-use Rattle.verilog_print.specs.PrintedSyntax.{numbered, input_of, output_of, register_of, memory_at, wire_of, assign_of}
-use Rattle.verilog_print.specs.PrintedText.{header_text, declared_text, memory_text, wire_text, assign_text}
+use Rattle.verilog_print.specs.PrintedText.{header_text}
 use Rattle.verilog_print.proofs.declarations.push_output_names.Given as goal
 
 abbrev pub invariant-loop-output : goal.invariant-loop-output

@@ -1,5 +1,5 @@
-use Rattle.std.proofs.Common.{ℕ, List, [], ◌∷◌, refl, arith, rules, replicate}
-use Rattle.verilog_print.proofs.Hexadecimal.{written_first, written_more, all_written}
+use Rattle.std.proofs.Common.{refl, rules, replicate}
+use Rattle.verilog_print.proofs.Hexadecimal.{written_first, written_more}
 use Rattle.verilog_print.proofs.expressions.push_hexadecimal.Goals as goal
 
 pub loop-left-init : goal.loop-left-init

@@ -1,5 +1,3 @@
-use Rattle.std.proofs.Common.{◌≡◌, ◌<◌, ◌+◌, ◌^◌, drop, false}
-use Rattle.std.specs.Fmt.{digits}
 use Rattle.verilog_print.proofs.Hexadecimal.{AreWritten}
 use Rattle.verilog_print.proofs.expressions.push_hexadecimal.Given as goal
 

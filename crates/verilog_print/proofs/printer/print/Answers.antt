@@ -1,4 +1,4 @@
-use Rattle.std.proofs.Common.{◌≡◌, ◌∙◌, ◌<◌, ◌^◌, sym, subst, refl, List, ℕ, length, arith}
+use Rattle.std.proofs.Common.{◌∙◌, sym, subst}
 use Rattle.std.specs.Prelude.{codes}
 use Rattle.std.specs.List.{flat_map}
 use Rattle.rtl_core.specs.Netlist.{netlist_of}
@@ -6,7 +6,7 @@ use Rattle.rtl_core.specs.ClockStep.{widths}
 use Rattle.rtl_core.specs.Valid.{pin_names}
 use Rattle.rtl_core.specs.ModuleText.{IsModuleText}
 use Rattle.verilog_print.specs.PrintedSyntax.{syntax_of}
-use Rattle.verilog_print.specs.PrintedText.{header_text, declared_text, memory_text, wire_text, assign_text, always_text, module_text}
+use Rattle.verilog_print.specs.PrintedText.{header_text, declared_text, memory_text, wire_text, assign_text, always_text}
 use Rattle.verilog_print.proofs.PrinterTexts.{five_parts, shallow, counted}
 use Rattle.verilog_print.proofs.Theorem.{printed_is_module_text}
 use Rattle.verilog_print.proofs.printer.print.Goals as goal

@@ -1,4 +1,4 @@
-use Rattle.std.proofs.Common.{◌≡◌, ◌≤◌, ◌<◌, ◌+◌, ◌*◌, ◌^◌, length, subst, arith, ap, ◌∙◌, get_or, sym}
+use Rattle.std.proofs.Common.{◌≤◌, ◌+◌, ◌*◌, ◌^◌, length, subst, arith, ap, ◌∙◌, get_or, sym}
 use Rattle.std.specs.List.{All}
 use Rattle.cycle_report.specs.FormulaValue.{count_at}
 use Rattle.cycle_report.proofs.Tallies.{count_at-le, cycles_more, total_small}
@@ -15,6 +15,6 @@ loop-row-preserved c =
     let spent : c.spent-total.result ≤ 2 ^ 96 = c.spent-total.ensures.small few in
     record {
       value = cycles_more c.args.self.now.base c.args.self.now.rows.items c.args.tally.now c.loop-row.row-index c.row-item.result c.loop-row.total (c.loop-row.total + c.spent-total.result) (omega (arith, c.deref-row-items.ensures.len)) (c.row-item.is ∙ ap (λ rows. get_or rows c.loop-row.row-index c.row-item.result) c.deref-row-items.ensures.value) c.loop-row.invariant.value
-        (ap (λ n. c.loop-row.total + n) (c.spent-total.ensures.value ∙ ap (λ n. c.row-item.result.cost * n) (c.count_at-count.ensures ∙ ap (λ es. count_at es c.row-item.result.point) c.items.ensures.same)));
+          (ap (λ n. c.loop-row.total + n) (c.spent-total.ensures.value ∙ ap (λ n. c.row-item.result.cost * n) (c.count_at-count.ensures ∙ ap (λ es. count_at es c.row-item.result.point) c.items.ensures.same)));
       small = omega arith;
     }

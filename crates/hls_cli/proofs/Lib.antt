@@ -1,0 +1,4 @@
+pub mod OneLine
+pub mod RunEnds
+pub mod SixWords
+pub mod WrittenFiles

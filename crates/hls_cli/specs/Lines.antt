@@ -1,0 +1,21 @@
+-- The lines that the program puts.
+use Rattle.std.specs.Prelude.{ℕ, List, ◌++◌, codes}
+use Rattle.std.specs.Fmt.{decimal}
+use Rattle.hls_base.specs.declared.refusal.Refusal.{Refusal}
+use Rattle.hls_base.specs.PlaceText.{place_text}
+use Rattle.hls_cli.specs.Command.{Command}
+
+abbrev pub made_line : Command → List ℕ
+made_line c = codes "made hls_" ++ (c.top ++ codes "\n")
+
+abbrev pub refusal_line : Refusal → List ℕ
+refusal_line r = codes "rule " ++ (decimal r.rule ++ (codes " at " ++ (place_text r.place ++ codes "\n")))
+
+abbrev pub usage_line : List ℕ
+usage_line = codes "usage: hls COMMAND ARGUMENTS\n"
+
+abbrev pub fault_line : List ℕ
+fault_line = codes "fault\n"
+
+abbrev pub memory_line : List ℕ
+memory_line = codes "memory\n"

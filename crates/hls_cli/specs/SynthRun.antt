@@ -1,0 +1,108 @@
+-- What a run of the program leaves: the files, and the bytes that it put.
+use Rattle.std.specs.Prelude.{◌≡◌, ◌≢◌, ◌⊎◌, ℕ, List, ◌++◌, take, Option, Some}
+use Rattle.hls_base.specs.declared.refusal.Refusal.{Refusal}
+use Rattle.hls_base.specs.Outside.{Files, HasRisen, WhereTold, IsAbsent, IsWritten, IsCutShort, PutsAll, PutsPrefix}
+use Rattle.hls_flow.specs.FirstFault.{IsAccepted, IsFirstFault}
+use Rattle.hls_flow.specs.Synthesis.{SynthesisIsCorrect}
+use Rattle.hls_cli.specs.Command.{Command, IsSynth, IsUsage, settings_of}
+use Rattle.hls_cli.specs.Lines.{made_line, refusal_line, usage_line}
+
+-- what is read of a source: one byte more than the largest source has
+abbrev pub read_bytes : ℕ
+read_bytes = 65537
+
+-- the source file is there, and its first bytes are these
+pub record IsSourceOf (c : Command) (files : Files) (source : List ℕ) : Type 0 where
+  pub whole : List ℕ
+  pub found : files c.source ≡ Some whole
+  pub first : source ≡ take read_bytes whole
+
+-- no file changed
+abbrev pub SameFiles : Files → Files → Type 0
+SameFiles old new = (name : List ℕ) → new name ≡ old name
+
+-- The module and the report were written, of a correct synthesis, and every other file is as before.
+pub record IsMade (c : Command) (old new : Files) : Type 0 where
+  pub source : List ℕ
+  pub source_is : IsSourceOf c old source
+  pub module_bytes : List ℕ
+  pub report_bytes : List ℕ
+  pub correct : SynthesisIsCorrect source (settings_of c) module_bytes report_bytes
+  pub module_is : new c.module_file ≡ Some module_bytes
+  pub report_is : new c.report ≡ Some report_bytes
+  pub others : (name : List ℕ) → name ≢ c.module_file → name ≢ c.report → new name ≡ old name
+
+-- The source was refused with this fault, and no file changed.
+pub record IsRefused (c : Command) (fault : Refusal) (old new : Files) : Type 0 where
+  pub source : List ℕ
+  pub source_is : IsSourceOf c old source
+  pub first_fault : IsFirstFault source c.top fault
+  pub same : SameFiles old new
+
+-- The work stopped before the first put: nothing was written, or the report was cut short, or after the whole report the module was. What was not written is as before, and each cut is a prefix of the bytes of a correct synthesis.
+pub data IsStopped (c : Command) (old new : Files) : Type 0 where
+  unwritten : SameFiles old new → IsStopped c old new
+  report_cut : (source module_bytes report_bytes : List ℕ) → IsSourceOf c old source → SynthesisIsCorrect source (settings_of c) module_bytes report_bytes
+      → IsCutShort c.report report_bytes old new → IsStopped c old new
+  module_cut : (source module_bytes report_bytes : List ℕ) (between : Files) → IsSourceOf c old source → SynthesisIsCorrect source (settings_of c) module_bytes report_bytes
+      → IsWritten c.report report_bytes old between → IsCutShort c.module_file module_bytes between new → IsStopped c old new
+
+-- a prefix of the answer's line, and then a prefix of the last line
+abbrev pub PutsCutLine : List ℕ → List ℕ → List ℕ → List ℕ → Type 0
+PutsCutLine line last old new = (n : ℕ) × (k : ℕ) × (new ≡ old ++ (take n line ++ take k last))
+
+-- what stands outside before and after a run: the files and the bytes put, each where it is told
+pub record Outside : Type 0 where
+  pub old_files : Option Files
+  pub new_files : Option Files
+  pub old_bytes : Option (List ℕ)
+  pub new_bytes : Option (List ℕ)
+
+abbrev pub outside : Option Files → Option Files → Option (List ℕ) → Option (List ℕ) → Outside
+outside old_files new_files old_bytes new_bytes = record { old_files = old_files; new_files = new_files; old_bytes = old_bytes; new_bytes = new_bytes }
+
+-- The run ended for a fault or for want of memory, and put a prefix of the line that says so: before any line of an answer, or after a prefix of the line of the answer that its whole work gave.
+pub data IsCutOff (words : List (List ℕ)) (last : List ℕ) (o : Outside) : Type 0 where
+  stopped : (c : Command) → IsSynth words c → WhereTold (IsStopped c) o.old_files o.new_files → WhereTold (PutsPrefix last) o.old_bytes o.new_bytes → IsCutOff words last o
+  at_usage : IsUsage words → WhereTold SameFiles o.old_files o.new_files → WhereTold (PutsCutLine usage_line last) o.old_bytes o.new_bytes → IsCutOff words last o
+  at_refusal : (c : Command) (fault : Refusal) → IsSynth words c → WhereTold (IsRefused c fault) o.old_files o.new_files
+      → WhereTold (PutsCutLine (refusal_line fault) last) o.old_bytes o.new_bytes → IsCutOff words last o
+  at_made : (c : Command) → IsSynth words c → WhereTold (IsMade c) o.old_files o.new_files → WhereTold (PutsCutLine (made_line c) last) o.old_bytes o.new_bytes → IsCutOff words last o
+
+-- ---- what each status says
+
+-- 0: the module and the report were made, and the line says so
+pub record RanToModule (words : List (List ℕ)) (o : Outside) : Type 0 where
+  pub command : Command
+  pub is : IsSynth words command
+  pub files : WhereTold (IsMade command) o.old_files o.new_files
+  pub bytes : WhereTold (PutsAll (made_line command)) o.old_bytes o.new_bytes
+
+-- 1: the source has this fault, and the line names it
+pub record RanToRefusal (words : List (List ℕ)) (o : Outside) : Type 0 where
+  pub command : Command
+  pub is : IsSynth words command
+  pub fault : Refusal
+  pub files : WhereTold (IsRefused command fault) o.old_files o.new_files
+  pub bytes : WhereTold (PutsAll (refusal_line fault)) o.old_bytes o.new_bytes
+
+-- 2: the words are no command
+pub record RanToUsage (words : List (List ℕ)) (o : Outside) : Type 0 where
+  pub usage : IsUsage words
+  pub files : WhereTold SameFiles o.old_files o.new_files
+  pub bytes : WhereTold (PutsAll usage_line) o.old_bytes o.new_bytes
+
+-- 3: the shelf or the sink failed, or the source is not there
+abbrev pub HasFault : List (List ℕ) → Option Files → ℕ → ℕ → ℕ → ℕ → Type 0
+HasFault words old_files shelf_old shelf_new sink_old sink_new =
+    HasRisen shelf_old shelf_new ⊎ (HasRisen sink_old sink_new ⊎ ((c : Command) × IsSynth words c × IsAbsent old_files c.source))
+
+-- the words are a command whose source is there and is accepted
+pub record IsComplete (words : List (List ℕ)) (old_files : Option Files) : Type 0 where
+  pub command : Command
+  pub is : IsSynth words command
+  pub files : Files
+  pub told : old_files ≡ Some files
+  pub source : List ℕ
+  pub source_is : IsSourceOf command files source
+  pub accepted : IsAccepted source command.top

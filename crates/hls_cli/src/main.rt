@@ -1,0 +1,34 @@
+//! The program `hls`.
+#![tactic(auto)]
+
+mod lines;
+mod run;
+#[cfg(test)]
+mod tests;
+mod words;
+mod work;
+
+use crate::run::run;
+use hls_base::real::{RealShelf, RealSink};
+use std::process::ExitCode;
+use std::{env, io};
+
+// The words after the program's name.
+fn words_of(rt: &HostRuntime) -> io::Result<Vec<String>> {
+    let mut words = env::args(rt)?;
+    words.next();
+    Ok(words.collect(rt.alloc())?)
+}
+
+fn main(rt: HostRuntime) -> ExitCode {
+    let status = match words_of(&rt) {
+        Ok(words) => {
+            let mut shelf = RealShelf::new(&rt);
+            let mut out = RealSink::new(&rt);
+            run(rt.alloc(), &words, &mut shelf, &mut out)
+        }
+        Err(e) if e.kind() == io::ErrorKind::OutOfMemory => 4,
+        Err(_) => 3,
+    };
+    ExitCode::from(status)
+}
