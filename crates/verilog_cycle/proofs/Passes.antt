@@ -47,9 +47,9 @@ pin_written whole inputs pins buffer k v d h p b is e =
     let room : k < length buffer = omega arith in
     written whole (rest_of_pins inputs pins (k + 1)) buffer k v room
     (e
-      ∙ (ap (λ i. take k buffer ++ modulo_widths (map (λ (p : Pin). p.bits) i) (drop k pins)) (drop_next inputs k d h)
-        ∙ (ap (λ x. take k buffer ++ modulo_widths (map (λ (p : Pin). p.bits) (get_or inputs k d ∷ drop (k + 1) inputs)) x) (drop_next pins k 0 here)
-          ∙ ap (λ x. take k buffer ++ (x ∷ rest_of_pins inputs pins (k + 1))) (sym is))))
+    ∙ (ap (λ i. take k buffer ++ modulo_widths (map (λ (p : Pin). p.bits) i) (drop k pins)) (drop_next inputs k d h)
+    ∙ (ap (λ x. take k buffer ++ modulo_widths (map (λ (p : Pin). p.bits) (get_or inputs k d ∷ drop (k + 1) inputs)) x) (drop_next pins k 0 here)
+    ∙ ap (λ x. take k buffer ++ (x ∷ rest_of_pins inputs pins (k + 1))) (sym is))))
 
 pub pins_written : (whole : List ℕ) (inputs : List Pin) (pins buffer : List ℕ) (k : ℕ) → length inputs ≤ k → k ≤ length inputs → length buffer ≡ length inputs
     → whole ≡ take k buffer ++ rest_of_pins inputs pins k → buffer ≡ whole
@@ -67,9 +67,9 @@ register_written value whole rs xs buffer k v d h p b is e =
     let room : k < length buffer = omega arith in
     written whole (clocked_registers value (drop (k + 1) rs) (drop (k + 1) xs)) buffer k v room
     (e
-      ∙ (ap (λ r. take k buffer ++ clocked_registers value r (drop k xs)) (drop_next rs k d h)
-        ∙ (ap (λ x. take k buffer ++ clocked_registers value (get_or rs k d ∷ drop (k + 1) rs) x) (drop_next xs k 0 here)
-          ∙ ap (λ x. take k buffer ++ (x ∷ clocked_registers value (drop (k + 1) rs) (drop (k + 1) xs))) (sym is))))
+    ∙ (ap (λ r. take k buffer ++ clocked_registers value r (drop k xs)) (drop_next rs k d h)
+    ∙ (ap (λ x. take k buffer ++ clocked_registers value (get_or rs k d ∷ drop (k + 1) rs) x) (drop_next xs k 0 here)
+    ∙ ap (λ x. take k buffer ++ (x ∷ clocked_registers value (drop (k + 1) rs) (drop (k + 1) xs))) (sym is))))
 
 pub registers_written : (value : Atom → ℕ) (whole : List ℕ) (rs : List Reg) (xs buffer : List ℕ) (k : ℕ) → length rs ≤ k → k ≤ length rs → length buffer ≡ length rs
     → whole ≡ take k buffer ++ clocked_registers value (drop k rs) (drop k xs) → buffer ≡ whole
@@ -86,8 +86,8 @@ output_written value whole outputs buffer k v d h b is e =
     let room : k < length buffer = omega arith in
     written whole (map (λ (o : OutPin). value o.from) (drop (k + 1) outputs)) buffer k v room
     (e
-      ∙ (ap (λ r. take k buffer ++ map (λ (o : OutPin). value o.from) r) (drop_next outputs k d h)
-        ∙ ap (λ x. take k buffer ++ (x ∷ map (λ (o : OutPin). value o.from) (drop (k + 1) outputs))) (sym is)))
+    ∙ (ap (λ r. take k buffer ++ map (λ (o : OutPin). value o.from) r) (drop_next outputs k d h)
+    ∙ ap (λ x. take k buffer ++ (x ∷ map (λ (o : OutPin). value o.from) (drop (k + 1) outputs))) (sym is)))
 
 pub outputs_written : (value : Atom → ℕ) (whole : List ℕ) (outputs : List OutPin) (buffer : List ℕ) (k : ℕ) → length outputs ≤ k → k ≤ length outputs → length buffer ≡ length outputs
     → whole ≡ take k buffer ++ map (λ (o : OutPin). value o.from) (drop k outputs) → buffer ≡ whole
@@ -132,10 +132,10 @@ memory_written value whole ms xs buffer k v d w h p b same is e =
     let room : k < length buffer = omega arith in
     written whole (clocked_memories value (drop (k + 1) ms) (drop (k + 1) xs)) buffer k v room
     (e
-      ∙ (ap (λ r. take k buffer ++ clocked_memories value r (drop k xs)) (drop_next ms k d h)
-        ∙ (ap (λ x. take k buffer ++ clocked_memories value (get_or ms k d ∷ drop (k + 1) ms) x) (sym same ∙ drop_next buffer k w room)
-          ∙ (ap (λ x. take k buffer ++ (x ∷ clocked_memories value (drop (k + 1) ms) (drop (k + 1) buffer))) (sym is)
-            ∙ ap (λ x. take k buffer ++ (v ∷ clocked_memories value (drop (k + 1) ms) x)) (drop_same buffer xs k w w room here same)))))
+    ∙ (ap (λ r. take k buffer ++ clocked_memories value r (drop k xs)) (drop_next ms k d h)
+    ∙ (ap (λ x. take k buffer ++ clocked_memories value (get_or ms k d ∷ drop (k + 1) ms) x) (sym same ∙ drop_next buffer k w room)
+    ∙ (ap (λ x. take k buffer ++ (x ∷ clocked_memories value (drop (k + 1) ms) (drop (k + 1) buffer))) (sym is)
+    ∙ ap (λ x. take k buffer ++ (v ∷ clocked_memories value (drop (k + 1) ms) x)) (drop_same buffer xs k w w room here same)))))
 
 pub rest_kept : (xs buffer : List (List ℕ)) (k : ℕ) (v : List ℕ) → k < length xs → length buffer ≡ length xs → drop k buffer ≡ drop k xs → drop (k + 1) (set buffer k v) ≡ drop (k + 1) xs
 rest_kept xs buffer k v h b same =

@@ -30,8 +30,8 @@ register_powered whole regs numbers held k v d h n is e =
     let here : k < length numbers = omega (arith, h, n) in
     e
     ∙ (ap (λ i. held ++ modulo_widths (map (λ (r : Reg). r.bits) i) (drop k numbers)) (drop_next regs k d h)
-      ∙ (ap (λ x. held ++ modulo_widths (map (λ (r : Reg). r.bits) (get_or regs k d ∷ drop (k + 1) regs)) x) (drop_next numbers k 0 here)
-        ∙ (ap (λ x. held ++ (x ∷ rest_of_registers regs numbers (k + 1))) (sym is) ∙ sym (append_assoc held (v ∷ []) (rest_of_registers regs numbers (k + 1))))))
+    ∙ (ap (λ x. held ++ modulo_widths (map (λ (r : Reg). r.bits) (get_or regs k d ∷ drop (k + 1) regs)) x) (drop_next numbers k 0 here)
+    ∙ (ap (λ x. held ++ (x ∷ rest_of_registers regs numbers (k + 1))) (sym is) ∙ sym (append_assoc held (v ∷ []) (rest_of_registers regs numbers (k + 1))))))
 
 pub registers_powered : (whole : List ℕ) (regs : List Reg) (numbers held : List ℕ) (k : ℕ) → length regs ≤ k → whole ≡ held ++ rest_of_registers regs numbers k → held ≡ whole
 registers_powered whole regs numbers held k h e =

@@ -92,13 +92,13 @@ wire_settled d s pins buffer k w v all fit r count l is value e =
     let next_value : take (k + 1) (set buffer k v) ≡ take k buffer ++ (v ∷ []) = take_more_set buffer k v room in
     let lengths : length (wire_widths (take k d.wires)) ≡ length (take k buffer) = length-map (take k d.wires) (λ (w : Wire). w.bits) ∙ same_takes d.wires buffer k count in
     let kept = net_kept before d.mems s.mems s.mems (bits_of before) (bits_of (widths d)) (value_of pins s.regs (take k buffer)) (value_of pins s.regs buffer)
-        (width_kept before (widths d) (longer_at d k))
-        (value_kept before pins s.regs s.regs [] (take k buffer) buffer (drop k buffer) r lengths (sym (append-nil s.regs)) (sym (take-append-drop k buffer)))
-        (λ k m e. refl) w.bits w.net at.1 in
+    (width_kept before (widths d) (longer_at d k))
+    (value_kept before pins s.regs s.regs [] (take k buffer) buffer (drop k buffer) r lengths (sym (append-nil s.regs)) (sym (take-append-drop k buffer)))
+    (λ k m e. refl) w.bits w.net at.1 in
     ap (λ b. values_behind d s pins b (take (k + 1) (set buffer k v)) (drop (k + 1) d.wires)) next_wire
     ∙ (ap (λ b. values_behind d s pins (take k d.wires ++ (w ∷ [])) b (drop (k + 1) d.wires)) next_value
-      ∙ (ap (λ x. values_behind d s pins (take k d.wires ++ (w ∷ [])) (take k buffer ++ (x ∷ [])) (drop (k + 1) d.wires)) (value ∙ kept)
-        ∙ (sym (ap (values_behind d s pins (take k d.wires) (take k buffer)) behind) ∙ e)))
+    ∙ (ap (λ x. values_behind d s pins (take k d.wires ++ (w ∷ [])) (take k buffer ++ (x ∷ [])) (drop (k + 1) d.wires)) (value ∙ kept)
+    ∙ (sym (ap (values_behind d s pins (take k d.wires) (take k buffer)) behind) ∙ e)))
 
 -- all wires have their values
 pub wires_settled : (d : Netlist) (s : State) (pins : List ℕ) (buffer : List ℕ) (k : ℕ) (all : List ℕ) → length d.wires ≡ length buffer → length d.wires ≤ k

@@ -67,7 +67,10 @@ fn net_value(design: &Design, mems: &[Contents], values: &Values, wire: Wire) ->
         Net::Two(op, a, b) => pair_value(op, wire.bits, values.value(a), values.value(b)),
         Net::Pick(test, a, b) => picked(values, test, a, b),
         Net::Join(high, low) => joined(values.value(high), values.value(low), bits_of(design, low)),
-        Net::Part { of, low, .. } => low_bits(shifted_right(values.value(of), u128::from(low)), wire.bits),
+        Net::Part { of, low, .. } => low_bits(
+            shifted_right(values.value(of), u128::from(low)),
+            wire.bits,
+        ),
         Net::Word { mem, addr } => word_at(mems, mem, values.value(addr)),
     }
 }

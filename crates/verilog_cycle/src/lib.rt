@@ -6,4 +6,6 @@ mod contents;
 mod edge;
 mod expression;
 pub mod sim;
+#[cfg(test)]
+mod tests;
 mod values;

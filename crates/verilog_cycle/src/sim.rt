@@ -66,7 +66,11 @@ fn powered_memory(alloc: Global, bits: u8, numbers: &[u64]) -> Result<Contents, 
 }
 
 /// The words of all memories after a power-up with these numbers.
-fn powered_memories(alloc: Global, mems: &[Mem], numbers: &[u64]) -> Result<Vec<Contents>, AllocError>
+fn powered_memories(
+    alloc: Global,
+    mems: &[Mem],
+    numbers: &[u64],
+) -> Result<Vec<Contents>, AllocError>
     requires bits { All (λ (m : Mem). IsBetween 1 64 m.bits) mems.now }
     requires depths { All (λ (m : Mem). IsBetween 1 16 m.depth_log) mems.now }
     requires count { length numbers.now ≡ word_count (map memory_of mems.now) }
@@ -112,7 +116,13 @@ fn begin(design: &Design, values: &mut Values, mems: &[Contents], pins: &[u64])
 }
 
 /// Writes the outputs of a cycle and takes the edge.
-fn clock_once(design: &Design, values: &mut Values, mems: &mut [Contents], pins: &[u64], outs: &mut [u64])
+fn clock_once(
+    design: &Design,
+    values: &mut Values,
+    mems: &mut [Contents],
+    pins: &[u64],
+    outs: &mut [u64],
+)
     requires ready { IsReady (netlist_of design.now) values.old mems.old }
     requires pins { length pins.now ≡ length design.now.inputs.items }
     requires outs { length outs.old ≡ length design.now.outputs.items }

@@ -7,4 +7,4 @@ pub returns-in-Left : goal.returns-in-Left
 returns-in-Left c =
     c.low_bits.ensures
     ∙ (ap (λ n. n % 2 ^ c.args.bits) c.shifted_left.ensures
-      ∙ (shorter 128 (c.args.x * 2 ^ c.args.y) c.args.bits c.requires.within ∙ sym (ap (λ op. pair_value op c.args.bits c.args.x c.args.y) c.in-Left.is)))
+    ∙ (shorter 128 (c.args.x * 2 ^ c.args.y) c.args.bits c.requires.within ∙ sym (ap (λ op. pair_value op c.args.bits c.args.x c.args.y) c.in-Left.is)))

@@ -20,7 +20,7 @@ write_ports-requires c =
     let words = get_or c.loop-k.mems c.loop-k.k c.index-mems-k.result in
     subst (All (PortIsInside v (length words))) (sym c.deref.ensures.value)
     (ports_at d v c.args.mems.now c.loop-k.mems c.requires.values c.requires.words c.requires.valid.mems c.loop-k.k m c.index-mems-k.result inside
-      (memory_at c.args.design.now.mems.items c.loop-k.k c.index.result.now c.index.ensures) (c.loop-k.invariant.room ∙ sym maps) c.loop-k.invariant.rest)
+    (memory_at c.args.design.now.mems.items c.loop-k.k c.index.result.now c.index.ensures) (c.loop-k.invariant.room ∙ sym maps) c.loop-k.invariant.rest)
 
 pub loop-k-init : goal.loop-k-init
 loop-k-init c =

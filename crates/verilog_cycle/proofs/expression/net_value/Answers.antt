@@ -91,7 +91,7 @@ joined-requires c =
     let lt = below_power (value_in v high * 2 ^ bits_of (widths d) low + value_in v low) n 128 (net_within d v c.args.mems.now c.requires.values c.requires.words n (net.Join high low) fits) c.requires.within in
     subst (λ x. x * 2 ^ c.bits_of.result + c.value-in-Join-2.result < 2 ^ 128) (sym c.value-in-Join.ensures)
     (subst (λ k. value_in v high * 2 ^ k + c.value-in-Join-2.result < 2 ^ 128) (sym c.bits_of.ensures)
-      (subst (λ y. value_in v high * 2 ^ bits_of (widths d) low + y < 2 ^ 128) (sym c.value-in-Join-2.ensures) lt))
+    (subst (λ y. value_in v high * 2 ^ bits_of (widths d) low + y < 2 ^ 128) (sym c.value-in-Join-2.ensures) lt))
 
 pub value-requires-in-Part : goal.value-requires-in-Part
 value-requires-in-Part c =
@@ -134,7 +134,7 @@ returns-in-Two c =
     let n = c.args.wire.bits in
     is_net (netlist_of c.args.design.now) v c.args.mems.now n _ c.args.wire.net (net.Two c.in-Two.op c.in-Two.a c.in-Two.b) c.in-Two.is
     (c.pair_value.ensures
-      ∙ (ap (λ x. pair_value c.in-Two.op n x c.value-in-Two-2.result) c.value-in-Two.ensures ∙ ap (λ y. pair_value c.in-Two.op n (value_in v c.in-Two.a) y) c.value-in-Two-2.ensures))
+    ∙ (ap (λ x. pair_value c.in-Two.op n x c.value-in-Two-2.result) c.value-in-Two.ensures ∙ ap (λ y. pair_value c.in-Two.op n (value_in v c.in-Two.a) y) c.value-in-Two-2.ensures))
 
 pub returns-in-Pick : goal.returns-in-Pick
 returns-in-Pick c =
@@ -148,8 +148,8 @@ returns-in-Join c =
     let low = c.in-Join.low in
     is_net d v c.args.mems.now c.args.wire.bits _ c.args.wire.net (net.Join high low) c.in-Join.is
     (c.joined.ensures
-      ∙ (ap (λ x. x * 2 ^ c.bits_of.result + c.value-in-Join-2.result) c.value-in-Join.ensures
-        ∙ (ap (λ k. value_in v high * 2 ^ k + c.value-in-Join-2.result) c.bits_of.ensures ∙ ap (λ y. value_in v high * 2 ^ bits_of (widths d) low + y) c.value-in-Join-2.ensures)))
+    ∙ (ap (λ x. x * 2 ^ c.bits_of.result + c.value-in-Join-2.result) c.value-in-Join.ensures
+    ∙ (ap (λ k. value_in v high * 2 ^ k + c.value-in-Join-2.result) c.bits_of.ensures ∙ ap (λ y. value_in v high * 2 ^ bits_of (widths d) low + y) c.value-in-Join-2.ensures)))
 
 pub returns-in-Part : goal.returns-in-Part
 returns-in-Part c =
@@ -163,7 +163,7 @@ returns-in-Part c =
     let same : n ≡ high + 1 - low = omega (arith, wide) in
     is_net d v c.args.mems.now n _ c.args.wire.net (net.Part c.in-Part.of high low) c.in-Part.is
     (c.low_bits.ensures
-      ∙ (ap (λ x. x % 2 ^ n) (c.shifted_right.ensures ∙ (ap (λ k. c.value-in-Part.result / 2 ^ k) c.from.ensures ∙ ap (λ x. x / 2 ^ low) c.value-in-Part.ensures)) ∙ ap (λ m. value_in v c.in-Part.of / 2 ^ low % 2 ^ m) same))
+    ∙ (ap (λ x. x % 2 ^ n) (c.shifted_right.ensures ∙ (ap (λ k. c.value-in-Part.result / 2 ^ k) c.from.ensures ∙ ap (λ x. x / 2 ^ low) c.value-in-Part.ensures)) ∙ ap (λ m. value_in v c.in-Part.of / 2 ^ low % 2 ^ m) same))
 
 pub returns-in-Word : goal.returns-in-Word
 returns-in-Word c =

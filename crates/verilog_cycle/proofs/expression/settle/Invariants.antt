@@ -7,7 +7,7 @@ use Rattle.verilog_cycle.proofs.expression.settle.Given as goal
 abbrev pub invariant-loop-k : goal.invariant-loop-k
 invariant-loop-k l = record {
   behind :
-    values_behind (netlist_of l.design) (state_of l.values l.mems) l.values.pins.items (take l.k l.design.wires.items) (take l.k l.values.wires.items) (drop l.k l.design.wires.items)
+      values_behind (netlist_of l.design) (state_of l.values l.mems) l.values.pins.items (take l.k l.design.wires.items) (take l.k l.values.wires.items) (drop l.k l.design.wires.items)
       ≡ wire_values (netlist_of l.design) (state_of l.values l.mems) l.values.pins.items;
   room : length l.values.wires.items ≡ length l.design.wires.items;
   values : AreValues (netlist_of l.design) l.values;

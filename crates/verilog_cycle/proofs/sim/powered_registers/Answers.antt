@@ -7,7 +7,7 @@ pub loop-k-preserved : goal.loop-k-preserved
 loop-k-preserved c = record {
   whole = rw c.in_ok-push.ensures.items
       (register_powered _ c.args.regs.now c.args.numbers.now c.loop-k.held.items c.loop-k.k c.low_bits_of_word.result no_register c.loop-k-test.true c.requires.count c.low_bits_of_word.ensures
-        c.loop-k.invariant.whole);
+      c.loop-k.invariant.whole);
 }
 
 pub returns : goal.returns

@@ -29,7 +29,7 @@ loop-k-preserved c =
     let held : c.index.result.now ≡ get_or now.regs.items c.loop-k.k 0 = c.index.ensures ∙ get_or_default_zero now.regs.items c.loop-k.k c.index.result.now inside in
     let found = c.next_value.ensures ∙ ap (λ x. if value_in now reg.enable == 1 then value_in now reg.next else x) held in
     let is = moved (λ p r w. c.next_value.result ≡ (if value_of p r w reg.enable == 1 then value_of p r w reg.next else get_or r c.loop-k.k 0))
-        now.pins.items old.pins.items now.regs.items old.regs.items now.wires.items old.wires.items (sym i.pins) (sym i.regs) (sym i.wires) found in
+    now.pins.items old.pins.items now.regs.items old.regs.items now.wires.items old.wires.items (sym i.pins) (sym i.regs) (sym i.wires) found in
     record {
       whole = register_written (value_in old) _ c.args.regs.now old.regs.items now.next.items c.loop-k.k c.next_value.result no_register c.loop-k-test.true c.requires.held i.room is i.whole;
       room = length-set now.next.items c.loop-k.k c.next_value.result ∙ i.room;

@@ -6,7 +6,7 @@ use Rattle.verilog_cycle.proofs.values.Values.find_next.Given as goal
 abbrev pub invariant-loop-k : goal.invariant-loop-k
 invariant-loop-k l = record {
   whole :
-    clocked_registers (value_in l.initial.self) l.regs l.initial.self.regs.items
+      clocked_registers (value_in l.initial.self) l.regs l.initial.self.regs.items
       ≡ take l.k l.self.next.items ++ clocked_registers (value_in l.initial.self) (drop l.k l.regs) (drop l.k l.initial.self.regs.items);
   room : length l.self.next.items ≡ length l.regs;
   pins : l.self.pins.items ≡ l.initial.self.pins.items;
