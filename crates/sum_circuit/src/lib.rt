@@ -2,3 +2,5 @@
 #![tactic(auto)]
 
 pub mod circuit;
+#[cfg(test)]
+mod tests;
