@@ -1,0 +1,9 @@
+pub mod Runs
+pub mod Comments
+pub mod LongestSigns
+pub mod Tokens
+pub mod Digits
+pub mod Openings
+pub mod Progress
+pub mod Typed
+pub mod Found

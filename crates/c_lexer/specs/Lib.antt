@@ -1,0 +1,4 @@
+pub mod Constant
+pub mod Runs
+pub mod Signs
+pub mod Views

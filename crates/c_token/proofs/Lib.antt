@@ -1,0 +1,5 @@
+mod Examples
+pub mod Fronts
+pub mod Signs
+pub mod Unique
+pub mod Divided

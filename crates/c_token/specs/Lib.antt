@@ -1,0 +1,7 @@
+pub mod Characters
+pub mod Longest
+pub mod Spelling
+pub mod Constants
+pub mod SourceText
+pub mod Replacement
+pub mod Refusals
