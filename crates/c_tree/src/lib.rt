@@ -7,4 +7,5 @@ pub mod function;
 pub mod object;
 pub mod operator;
 pub mod program;
+pub mod specifier;
 pub mod statement;

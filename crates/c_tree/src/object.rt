@@ -1,3 +1,7 @@
+ghost use Rattle.std.specs.Prelude.{◌≡◌};
+ghost use Rattle.c_tree.specs.Tree as tree;
+ghost use Rattle.c_tree.specs.View.{tree_of, init_of, inits_of};
+
 use crate::expression::Expr;
 use c_token::ctype::CType;
 use hls_base::place::Place;
@@ -19,4 +23,19 @@ pub struct Object {
     pub constant: bool,
     pub lengths: Vec<Option<Expr>>,
     pub init: Option<Init>,
+}
+
+impl Init {
+    pub fn single(value: Expr) -> Init
+        ensures { init_of result ≡ tree.single (tree_of value) }
+    {
+        Init::Single(value)
+    }
+
+    /// Initialisers in braces.
+    pub fn list(items: Vec<Init>, at: Place) -> Init
+        ensures { init_of result ≡ tree.braced (inits_of items.items) at }
+    {
+        Init::List(items, at)
+    }
 }
