@@ -237,7 +237,7 @@ mutual
           (tree.do_ body test at)
     a_for : (at opens ends closes : Place) (is ts ss us : List Terminal) (init : FirstTree) (test : Option Tree) (step : List ActionTree) (body : StmtTree) → DerivesFirst is init
         → DerivesOptional comma_level ts test → DerivesActions ss step → DerivesStatement us body
-        → DerivesStatement (keyword (codes "for") at ∷ sign p.LeftParen opens ∷ (is ++ (ts ++ sign p.Semicolon ends ∷ (ss ++ sign p.RightParen closes ∷ us))))
+        → DerivesStatement (keyword (codes "for") at ∷ sign p.LeftParen opens ∷ ((is ++ (ts ++ sign p.Semicolon ends ∷ ss)) ++ sign p.RightParen closes ∷ us))
           (tree.for_ init test step body at)
     -- C11 6.8.6
     a_break : (at ends : Place) → DerivesStatement (keyword (codes "break") at ∷ sign p.Semicolon ends ∷ []) (tree.break_ at)

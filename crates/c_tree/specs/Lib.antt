@@ -3,3 +3,5 @@ pub mod View
 pub mod Terminals
 pub mod Kinds
 pub mod Grammar
+pub mod Limits
+pub mod Refusal
