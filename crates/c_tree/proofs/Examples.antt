@@ -152,7 +152,7 @@ source_tree = tree.function (record {
 abbrev source_derived : DerivesItems source (source_tree ∷ [])
 source_derived = g.more_items source [] source_tree []
     (g.a_function (Some int_type) false (word (codes "int") (place 1) ∷ []) params body (codes "f") (place 5) (place 6) (place 12) (param_tree ∷ []) (Some (tree.more_stmts returned_tree tree.no_stmt))
-      (int_derived 1) refl params_derived body_derived)
+    (int_derived 1) refl params_derived body_derived)
     g.no_item
 
 -- the parameter list and the statement hold their tokens, and the block of the body holds none

@@ -178,7 +178,7 @@ pub data DerivesObject : CType → Bool → List Terminal → ObjectTree → Typ
   an_object : (kind : CType) (constant : Bool) (text : List ℕ) (at : Place) (ts us : List Terminal) (lengths : List (Option Tree)) (init : Option InitTree)
       → is_keyword text ≡ false → DerivesLengths ts lengths → DerivesInitialiser us init
       → DerivesObject kind constant (word text at ∷ (ts ++ us))
-        (record { name = text; at = at; kind = kind; constant = constant; lengths = lengths; init = init })
+      (record { name = text; at = at; kind = kind; constant = constant; lengths = lengths; init = init })
 
 -- one object or more, with commas between
 pub data DerivesObjects : CType → Bool → List Terminal → List ObjectTree → Type 0 where
@@ -221,7 +221,7 @@ mutual
     an_if_else : (at opens closes other : Place) (ts ys ns : List Terminal) (test : Tree) (body second : StmtTree) → Derives comma_level ts test → DerivesStatement ys body
         → ends_open body ≡ false → DerivesStatement ns second
         → DerivesStatement (keyword (codes "if") at ∷ sign p.LeftParen opens ∷ (ts ++ sign p.RightParen closes ∷ (ys ++ keyword (codes "else") other ∷ ns)))
-          (tree.if_ test body (tree.else_ other second) at)
+        (tree.if_ test body (tree.else_ other second) at)
     a_switch : (at opens closes : Place) (ts us : List Terminal) (test : Tree) (body : StmtTrees) → Derives comma_level ts test → DerivesBlock us body
         → DerivesStatement (keyword (codes "switch") at ∷ sign p.LeftParen opens ∷ (ts ++ sign p.RightParen closes ∷ us)) (tree.switch_ test body at)
     -- C11 6.8.1
@@ -234,11 +234,11 @@ mutual
         → DerivesStatement (keyword (codes "while") at ∷ sign p.LeftParen opens ∷ (ts ++ sign p.RightParen closes ∷ us)) (tree.while_ test body at)
     a_do : (at again opens closes ends : Place) (us ts : List Terminal) (body : StmtTree) (test : Tree) → DerivesStatement us body → Derives comma_level ts test
         → DerivesStatement (keyword (codes "do") at ∷ (us ++ keyword (codes "while") again ∷ sign p.LeftParen opens ∷ (ts ++ sign p.RightParen closes ∷ sign p.Semicolon ends ∷ [])))
-          (tree.do_ body test at)
+        (tree.do_ body test at)
     a_for : (at opens ends closes : Place) (is ts ss us : List Terminal) (init : FirstTree) (test : Option Tree) (step : List ActionTree) (body : StmtTree) → DerivesFirst is init
         → DerivesOptional comma_level ts test → DerivesActions ss step → DerivesStatement us body
         → DerivesStatement (keyword (codes "for") at ∷ sign p.LeftParen opens ∷ ((is ++ (ts ++ sign p.Semicolon ends ∷ ss)) ++ sign p.RightParen closes ∷ us))
-          (tree.for_ init test step body at)
+        (tree.for_ init test step body at)
     -- C11 6.8.6
     a_break : (at ends : Place) → DerivesStatement (keyword (codes "break") at ∷ sign p.Semicolon ends ∷ []) (tree.break_ at)
     a_continue : (at ends : Place) → DerivesStatement (keyword (codes "continue") at ∷ sign p.Semicolon ends ∷ []) (tree.continue_ at)
@@ -271,11 +271,11 @@ pub data DerivesParam : List Terminal → ParamTree → Type 0 where
   named_param : (kind : CType) (constant : Bool) (ks ls : List Terminal) (text : List ℕ) (at : Place) (lengths : List (Option Tree)) → DerivesKind ks (Some kind) constant
       → is_keyword text ≡ false → DerivesLengths ls lengths
       → DerivesParam (ks ++ word text at ∷ ls)
-        (record { object = record { name = text; at = at; kind = kind; constant = constant; lengths = lengths; init = None }; named = true })
+      (record { object = record { name = text; at = at; kind = kind; constant = constant; lengths = lengths; init = None }; named = true })
   unnamed_param : (kind : CType) (constant : Bool) (t : Terminal) (ks ls : List Terminal) (lengths : List (Option Tree)) → DerivesKind (t ∷ ks) (Some kind) constant
       → DerivesLengths ls lengths
       → DerivesParam (t ∷ (ks ++ ls))
-        (record { object = record { name = []; at = t.at; kind = kind; constant = constant; lengths = lengths; init = None }; named = false })
+      (record { object = record { name = []; at = t.at; kind = kind; constant = constant; lengths = lengths; init = None }; named = false })
 
 -- one parameter or more, with commas between
 pub data DerivesParamList : List Terminal → List ParamTree → Type 0 where
@@ -301,7 +301,7 @@ pub data DerivesItem : List Terminal → ItemTree → Type 0 where
   a_function : (result : Option CType) (constant : Bool) (ks ps bs : List Terminal) (text : List ℕ) (at opens closes : Place) (all : List ParamTree) (body : Option StmtTrees)
       → DerivesKind ks result constant → is_keyword text ≡ false → DerivesParams ps all → DerivesDefinition bs body
       → DerivesItem (ks ++ word text at ∷ sign p.LeftParen opens ∷ (ps ++ sign p.RightParen closes ∷ bs))
-        (tree.function (record { name = text; at = at; result = result; params = all; body = body }))
+      (tree.function (record { name = text; at = at; result = result; params = all; body = body }))
 
 pub data DerivesItems : List Terminal → List ItemTree → Type 0 where
   no_item : DerivesItems [] []

@@ -38,8 +38,8 @@ tree_step (Expr-F.Unary op arg at) = tree.unary op arg.value at
 tree_step (Expr-F.Binary op left right at) = tree.binary op left.value right.value at
 tree_step (Expr-F.Choice test left right at colon) = tree.choice test.value left.value right.value at colon
 tree_step (Expr-F.Cast to arg at) = tree.cast to arg.value at
-tree_step (Expr-F.Assign target op value at) = tree.assign target op value.value at
-tree_step (Expr-F.Bump target up post at) = tree.bump target up post at
+tree_step (Expr-F.Assign t op value at) = tree.assign t op value.value at
+tree_step (Expr-F.Bump t up post at) = tree.bump t up post at
 tree_step (Expr-F.Comma left right at) = tree.comma left.value right.value at
 
 abbrev pub target_step : Target-F Tree TargetTree → TargetTree
@@ -57,8 +57,8 @@ trees_of es = row (map tree_of es)
 -- ---- actions, initialisers, objects
 
 abbrev pub action_of : Action → ActionTree
-action_of (a.Assign target op value at) = tree.assignment (target_of target) op (tree_of value) at
-action_of (a.Bump target up at) = tree.bumping (target_of target) up at
+action_of (a.Assign t op value at) = tree.assignment (target_of t) op (tree_of value) at
+action_of (a.Bump t up at) = tree.bumping (target_of t) up at
 action_of (a.Value value) = tree.evaluation (tree_of value)
 
 abbrev pub init_step : Init-F InitTree → InitTree

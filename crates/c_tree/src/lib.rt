@@ -9,3 +9,5 @@ pub mod operator;
 pub mod program;
 pub mod specifier;
 pub mod statement;
+#[cfg(test)]
+mod tests;
