@@ -10,12 +10,12 @@ use Rattle.c_token.specs.Replacement.{is_in}
 use Rattle.c_tree.specs.declared.operator.Binary.TheVariants as b
 use Rattle.c_tree.specs.declared.specifier.Specifier.TheVariants as s
 use Rattle.c_tree.specs.declared.specifier.Specifier.{Specifier}
-use Rattle.c_tree.specs.Tree.{Tree, StmtTree, ParamTree, ItemTree}
+use Rattle.c_tree.specs.Tree.{Tree, TargetTree, ActionTree, StmtTree, ParamTree, ItemTree}
 use Rattle.c_tree.specs.Tree as tree
 use Rattle.c_tree.specs.Terminals.{Terminal, terminal, sign, word}
 use Rattle.c_tree.specs.Kinds.{DerivesWords, DerivesKind, type_of_words, specifier_of}
 use Rattle.c_tree.specs.Kinds as kinds
-use Rattle.c_tree.specs.Grammar.{Derives, DerivesItem, DerivesItems, DerivesStatement, DerivesParams, DerivesDefinition, DerivesLengths, choice_level, comma_level}
+use Rattle.c_tree.specs.Grammar.{Derives, DerivesItem, DerivesItems, DerivesStatement, DerivesParams, DerivesDefinition, DerivesLengths, choice_level, comma_level, DerivesChange, DerivesAction}
 use Rattle.c_tree.specs.Grammar as g
 use Rattle.c_tree.specs.Limits.{Mark, marks, whole, statement_marks, item_list_marks, mark_at, exceeds}
 use Rattle.c_tree.specs.Refusal.{Begins, Reaches, IsFull, NoneBeyond, IsFaultOf, refusal, rule_of}
@@ -205,6 +205,37 @@ operator_257 = refl
 
 an_else_is_the_inner_one : g.ends_open (tree.while_ (named (codes "a") 1) (tree.if_ (named (codes "b") 2) (tree.act []) tree.no_else (place 3)) (place 4)) ≡ true
 an_else_is_the_inner_one = refl
+
+-- ---- what is both a change and an expression
+
+abbrev bumped : List Terminal
+bumped = word (codes "a") (place 1) ∷ sign p.PlusPlus (place 2) ∷ []
+
+abbrev bumped_target : TargetTree
+bumped_target = tree.target (codes "a") tree.none (place 1)
+
+bumped_by_its_operator : DerivesChange bumped (tree.bumping bumped_target true (place 2))
+bumped_by_its_operator = g.bumped_behind p.PlusPlus true (place 2) (word (codes "a") (place 1) ∷ []) bumped_target refl
+    (g.a_target (codes "a") (place 1) [] tree.none refl g.no_subscript)
+
+no_evaluation : {ts : List Terminal} {action : ActionTree} → DerivesChange ts action → (value : Tree) → action ≡ tree.evaluation value → ⊥
+no_evaluation (g.assigned _ _ _ _ _ _ _ _ _ _) value e = cc
+no_evaluation (g.bumped_behind _ _ _ _ _ _ _) value e = cc
+no_evaluation (g.bumped_before _ _ _ _ _ _ _) value e = cc
+
+evaluations_are_no_changes : {ts : List Terminal} {action : ActionTree} → DerivesAction ts action → (value : Tree) → action ≡ tree.evaluation value → (other : ActionTree) → DerivesChange ts other → ⊥
+evaluations_are_no_changes (g.a_change _ _ d) value e other c = no_evaluation d value e
+evaluations_are_no_changes (g.a_value _ _ none d) value e other c = none other c
+
+-- the statement `a++;` is a change, and not an expression
+bumped_is_no_evaluation : (value : Tree) → DerivesAction bumped (tree.evaluation value) → ⊥
+bumped_is_no_evaluation value d = evaluations_are_no_changes d value refl _ bumped_by_its_operator
+
+-- ---- rules of tokens
+
+rules_of_tokens : (rule_of (k.Word (codes "goto")) ≡ 20) × (rule_of (k.Word (codes "while")) ≡ 6) × (rule_of (k.Punct p.ShiftLeftEqual) ≡ 23) × (rule_of (k.Punct p.MinusMinus) ≡ 23)
+    × (rule_of (k.Punct p.Comma) ≡ 6) × (rule_of (k.Punct p.EqualEqual) ≡ 6)
+rules_of_tokens = (refl, refl, refl, refl, refl, refl)
 
 -- ---- a refusal
 
