@@ -1,3 +1,8 @@
+pub mod Ends
+pub mod KindWords
+pub mod Forms
+pub mod Reading
+pub mod Atoms
 pub mod Appends
 pub mod Cuts
 pub mod Readings

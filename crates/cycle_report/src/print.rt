@@ -130,7 +130,8 @@ fn print_cost(out: &mut Vec<u8>, row: &Cost) -> Result<(), AllocError>
     Ok(())
 }
 
-fn kind_text(kind: PointKind) -> &'static [u8]
+/// The word of a kind of point.
+pub fn kind_text(kind: PointKind) -> &'static [u8]
     ensures { result.now ≡ text.kind_text kind }
 {
     match kind {

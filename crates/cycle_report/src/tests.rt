@@ -3,9 +3,11 @@ ghost use Rattle.cycle_report.specs.PlainReport.{plain_of};
 ghost use Rattle.cycle_report.specs.ReportForm.{HasForm};
 
 use crate::print::print;
+use crate::read::read;
 use crate::report::{Cost, Edge4, Formula, LoopRow, MemoryRow, Report};
 use hls_base::place::{Path, Place};
 use hls_base::point::{Point, PointKind, Tally};
+use hls_base::refusal::Fail as Failure;
 use hls_base::settings::Settings;
 use hls_base::text::Text;
 use std::alloc::{AllocError, AllocFailed, Global};
@@ -192,5 +194,190 @@ fn counts_cycles(rt: HostRuntime) -> Result<(), Fail> {
     counts.push((point(rt.alloc(), 10, PointKind::Begin), 1u64))?;
     let tally = Tally::new(counts);
     assert_eq!(rt; formula.cycles(&tally), 3);
+    Ok(())
+}
+
+/// Where the text is refused under rule 60, 0:0 where it is a report, and 9:0 where there is another answer.
+fn refused_at(alloc: Global, text: &[u8]) -> (u32, u32) {
+    match read(alloc, text) {
+        Ok(_) => (0, 0),
+        Err(Failure::Refused(why)) if why.rule == 60 && why.place.part == 0 => {
+            (why.place.line, why.place.column)
+        }
+        Err(_) => (9, 0),
+    }
+}
+
+#[test]
+fn reads_what_it_prints(rt: HostRuntime) -> Result<(), Fail> {
+    let alloc = rt.alloc();
+    let text = print(alloc, &full_report(alloc)?)?;
+    match read(alloc, text.items()) {
+        Ok(report) => {
+            assert_eq!(rt; report.settings.period, 64);
+            assert_eq!(rt; report.formula.base, 1);
+            assert_eq!(rt; report.init, 16);
+            assert_eq!(rt; report.formula.rows.len(), 1);
+            assert_eq!(rt; report.loops.len(), 1);
+            assert_eq!(rt; report.memories.len(), 1);
+            assert_eq!(rt; report.div64, 4);
+            assert_eq!(rt; report.registers, 0);
+        }
+        Err(_) => assert!(rt; false),
+    }
+    Ok(())
+}
+
+#[test]
+fn refuses_every_front_of_a_report(rt: HostRuntime) -> Result<(), Fail> {
+    let alloc = rt.alloc();
+    let text = print(alloc, &full_report(alloc)?)?;
+    let mut line = 1u32;
+    let mut column = 1u32;
+    for n in 0..text.items().len() {
+        let (front, _) = text.items().split_at(n);
+        assert_eq!(rt; refused_at(alloc, front), (line, column));
+        if text.items()[n] == b'\n' {
+            line = line.wrapping_add(1);
+            column = 1;
+        } else {
+            column = column.wrapping_add(1);
+        }
+    }
+    let (_, rest) = text.items().split_at(13);
+    assert_eq!(rt; refused_at(alloc, rest), (1, 1));
+    Ok(())
+}
+
+#[test]
+fn refuses_at_the_first_byte_that_goes_nowhere(rt: HostRuntime) {
+    let alloc = rt.alloc();
+    assert_eq!(rt; refused_at(alloc, b""), (1, 1));
+    assert_eq!(rt; refused_at(alloc, b"hls-report 2"), (1, 12));
+    assert_eq!(rt; refused_at(alloc, b"hls-report 1\ntop 1"), (2, 5));
+    assert_eq!(rt; refused_at(alloc, b"hls-report 1\ntop f\r"), (2, 6));
+    assert_eq!(rt;
+        refused_at(alloc, b"hls-report 1\ntop f\nsettings mul 9"),
+        (3, 14)
+    );
+    assert_eq!(rt;
+        refused_at(alloc, b"hls-report 1\ntop f\nsettings mul 0"),
+        (3, 14)
+    );
+    assert_eq!(rt;
+        refused_at(alloc, b"hls-report 1\ntop f\nsettings mul 10"),
+        (3, 15)
+    );
+    assert_eq!(rt;
+        refused_at(alloc, b"hls-report 1\ntop f\nsettings mul 8 div 5"),
+        (3, 20)
+    );
+    assert_eq!(rt;
+        refused_at(alloc, b"hls-report 1\ntop f\nsettings mul 8 div 4 ports 3"),
+        (3, 28)
+    );
+    assert_eq!(rt;
+        refused_at(
+            alloc,
+            b"hls-report 1\ntop f\nsettings mul 8 div 4 ports 2 plain 2"
+        ),
+        (3, 36)
+    );
+    assert_eq!(rt;
+        refused_at(
+            alloc,
+            b"hls-report 1\ntop f\nsettings mul 8 div 4 ports 2 plain 0 period 0"
+        ),
+        (3, 45)
+    );
+    assert_eq!(rt;
+        refused_at(
+            alloc,
+            b"hls-report 1\ntop f\nsettings mul 8 div 4 ports 2 plain 0 period 1001"
+        ),
+        (3, 48)
+    );
+}
+
+#[test]
+fn refuses_numbers_that_do_not_fit(rt: HostRuntime) {
+    let alloc = rt.alloc();
+    assert_eq!(rt;
+        refused_at(
+            alloc,
+            b"hls-report 1\ntop f\nsettings mul 1 div 1 ports 1 plain 0\nbase 01"
+        ),
+        (4, 7)
+    );
+    assert_eq!(rt;
+        refused_at(
+            alloc,
+            b"hls-report 1\ntop f\nsettings mul 1 div 1 ports 1 plain 0\nbase 18446744073709551616"
+        ),
+        (4, 25)
+    );
+    assert_eq!(rt;
+        refused_at(
+            alloc,
+            b"hls-report 1\ntop f\nsettings mul 1 div 1 ports 1 plain 0\nbase 1\ninit 0"
+        ),
+        (5, 6)
+    );
+    assert_eq!(rt;
+        refused_at(
+            alloc,
+            b"hls-report 1\ntop f\nsettings mul 1 div 1 ports 1 plain 0\nbase 1\ncost 1 begin 1:5.0"
+        ),
+        (5, 18)
+    );
+    assert_eq!(rt;
+        refused_at(
+            alloc,
+            b"hls-report 1\ntop f\nsettings mul 1 div 1 ports 1 plain 0\nbase 1\ncost 1 bed"
+        ),
+        (5, 10)
+    );
+    assert_eq!(rt;
+        refused_at(
+            alloc,
+            b"hls-report 1\ntop f\nsettings mul 1 div 1 ports 1 plain 0\nbase 1\nedge 0 1 1 0"
+        ),
+        (5, 1)
+    );
+    assert_eq!(rt;
+        refused_at(
+            alloc,
+            b"hls-report 1\ntop f\nsettings mul 1 div 1 ports 1 plain 0\nbase 1\nloop 1:23 - ii 1 exit 4294967296"
+        ),
+        (5, 32)
+    );
+}
+
+#[test]
+fn takes_names_of_64_letters(rt: HostRuntime) {
+    let alloc = rt.alloc();
+    assert_eq!(rt;
+        refused_at(
+            alloc,
+            b"hls-report 1\ntop abcdefghijklmnopqrstuvwxyz_ABCDEFGHIJKLMNOPQRSTUVWXYZ_0123456789\n"
+        ),
+        (3, 1)
+    );
+    assert_eq!(rt;
+        refused_at(
+            alloc,
+            b"hls-report 1\ntop abcdefghijklmnopqrstuvwxyz_ABCDEFGHIJKLMNOPQRSTUVWXYZ_0123456789a"
+        ),
+        (2, 69)
+    );
+}
+
+#[test]
+fn refuses_too_long_a_text_at_its_head(rt: HostRuntime) -> Result<(), Fail> {
+    let alloc = rt.alloc();
+    let text = vec![in alloc; b'h'; 16_777_217]?;
+    assert_eq!(rt; refused_at(alloc, &text), (1, 1));
+    let text = vec![in alloc; b'h'; 16_777_216]?;
+    assert_eq!(rt; refused_at(alloc, &text), (1, 2));
     Ok(())
 }
