@@ -3,3 +3,4 @@ pub mod Fronts
 pub mod Signs
 pub mod Unique
 pub mod Divided
+pub mod Expansion

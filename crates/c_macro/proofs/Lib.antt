@@ -1,0 +1,5 @@
+pub mod TableLemmas
+pub mod SameTokens
+pub mod Lines
+pub mod Expanding
+pub mod Taking

@@ -1,0 +1,4 @@
+pub mod Tables
+pub mod Emitted
+pub mod Views
+pub mod Steps
