@@ -1,27 +1,22 @@
 -- The printed tokens of each action of a program are this action.
-use Rattle.std.proofs.Common.{◌≡◌, ℕ, ◌≤◌, ◌∙◌, sym, refl, ap, subst, Bool, true, false, List, [], ◌∷◌, ◌++◌, map, Option, Some, None, is_some, arith}
-use Rattle.std.specs.Prelude.{◌||◌}
-use Rattle.std.specs.Option.{option_map}
+use Rattle.std.proofs.Common.{◌≡◌, ◌≤◌, ◌∙◌, sym, refl, ap, Bool, true, false, List, [], ◌∷◌, ◌++◌, map, Option, Some, arith}
 use Rattle.std.proofs.lemmas.Bool.{both_ways}
 use Rattle.hls_base.specs.declared.place.Place.{Place}
 use Rattle.c_token.specs.declared.punct.Punct.{Punct}
 use Rattle.c_token.specs.declared.punct.Punct.TheVariants as p
-use Rattle.c_token.specs.declared.token.TokenKind.{TokenKind}
 use Rattle.c_token.specs.declared.token.TokenKind.TheVariants as k
-use Rattle.c_tree.specs.declared.operator.Unary.{Unary}
-use Rattle.c_tree.specs.declared.operator.Unary.TheVariants as u
 use Rattle.c_tree.specs.declared.operator.Binary.{Binary}
 use Rattle.c_tree.specs.Tree as tree
 use Rattle.c_tree.specs.Tree.{Tree, TargetTree, Trees, ActionTree}
-use Rattle.c_tree.specs.Terminals.{Terminal, sign, word, assignment_of, bump_of}
+use Rattle.c_tree.specs.Terminals.{Terminal, sign, assignment_of}
 use Rattle.c_tree.specs.Grammar as g
 use Rattle.c_tree.specs.Grammar.{Derives, DerivesTarget, DerivesSubscripts, DerivesOptional, DerivesChange, DerivesAction, DerivesActionList, DerivesActions, choice_level, assign_level, comma_level}
 use Rattle.c_tree.specs.Places.{nowhere, unplaced, unplaced_target, unplaced_action}
 use Rattle.c_tree.specs.Rows as rows
 use Rattle.c_tree.specs.Rows.{Row, prefix_sign, assignment_sign, bump_sign, own_level, own_row, infix_row, expression_row, target_row, grouped}
-use Rattle.c_tree.specs.StatementRows.{is_plain, value_row, action_row, actions_row}
-use Rattle.c_tree.proofs.Matching.{Matches, Spelled}
-use Rattle.c_tree.proofs.Again.{split, last_token, spelled_both, Again, Printed, Fit, fit_parts}
+use Rattle.c_tree.specs.StatementRows.{is_plain, action_row, actions_row}
+use Rattle.c_tree.proofs.Matching.{Matches}
+use Rattle.c_tree.proofs.Again.{split, last_token, spelled_both, Printed, Fit, fit_parts}
 use Rattle.c_tree.proofs.NoChange.{is_change, change_is, plain_is_no_change}
 use Rattle.c_tree.proofs.Productions.{Own, At, Target, at_tokens, grouped_at, operator_level, bump-is, bump-plain, assignment-is, assignment-plain}
 use Rattle.c_tree.proofs.Expressions.{own_again, target_again, expression_again}

@@ -1,12 +1,11 @@
 -- The tokens of a row, split where the row is.
-use Rattle.std.proofs.Common.{◌≡◌, ℕ, suc, zero, ◌+◌, ◌≤◌, ◌-◌, ◌∙◌, sym, refl, ap, subst, List, [], ◌∷◌, ◌++◌, arith}
-use Rattle.hls_base.specs.declared.place.Place.{Place}
+use Rattle.std.proofs.Common.{◌≡◌, ◌∙◌, refl, ap, List, [], ◌∷◌, ◌++◌}
 use Rattle.c_token.specs.declared.token.TokenKind.{TokenKind}
 use Rattle.c_tree.specs.declared.print.row.Written.TheVariants as w
 use Rattle.c_tree.specs.Terminals.{Terminal, terminal}
 use Rattle.c_tree.specs.Rows.{Row}
 use Rattle.c_tree.specs.ProgramText.{MayStand}
-use Rattle.c_tree.proofs.Matching.{Matches, IsSpelled, Spelled}
+use Rattle.c_tree.proofs.Matching.{Matches, Spelled}
 
 -- the tokens of the first row, and those of the second
 pub record Split (xs ys : Row) (ts : List Terminal) : Type 0 where

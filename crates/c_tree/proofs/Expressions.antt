@@ -1,8 +1,6 @@
 -- The printed tokens of each expression of a program are this expression.
 use Rattle.std.proofs.Common.{ℕ, ◌-◌, false, ◌∷◌, ◌++◌, List, []}
 use Rattle.c_token.specs.declared.punct.Punct.TheVariants as p
-use Rattle.c_token.specs.declared.token.TokenKind.TheVariants as k
-use Rattle.c_tree.specs.Tree as tree
 use Rattle.c_tree.specs.Tree.{Tree, TargetTree, Trees}
 use Rattle.c_tree.specs.Terminals.{Terminal, sign}
 use Rattle.c_tree.specs.Grammar as g

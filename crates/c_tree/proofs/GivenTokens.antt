@@ -1,19 +1,13 @@
 -- The tokens that a source gives may stand in a program: what the lexer, the preprocessor and the grammar answer meets the condition of printing.
-use Rattle.std.proofs.Common.{◌≡◌, ℕ, ◌≤◌, ◌∙◌, sym, refl, ap, subst, Bool, true, false, List, [], ◌∷◌, ◌++◌, length, codes, Option, Some, None, inl, inr}
-use Rattle.std.specs.Prelude.{◌&&◌, ◌||◌, not, nat_le, nat_lt, is_none, bytes_eq, Result, Ok, Err, if◌then◌else◌}
+use Rattle.std.proofs.Common.{ℕ, sym, subst, List, [], ◌∷◌, ◌++◌, length, Option, Some, None, inl, inr}
+use Rattle.std.specs.Prelude.{◌&&◌, nat_le}
 use Rattle.std.proofs.lemmas.Bool.{cond_both, leb-true}
-use Rattle.hls_base.specs.declared.place.Place.{Place}
-use Rattle.hls_base.specs.declared.refusal.Refusal.{Refusal}
-use Rattle.c_token.specs.declared.ctype.CType.{CType}
-use Rattle.c_token.specs.declared.punct.Punct.{Punct}
 use Rattle.c_token.specs.declared.token.Token.{Token}
 use Rattle.c_token.specs.declared.token.TokenKind.{TokenKind}
-use Rattle.c_token.specs.declared.token.TokenKind.TheVariants as k
 use Rattle.c_token.specs.Characters.{Opening, at_end, at_line_end, at_space, at_line_comment, at_block_comment, at_token, opening}
 use Rattle.c_token.specs.Spelling.{IsWord}
-use Rattle.c_token.specs.Constants.{IsConstant}
-use Rattle.c_token.specs.SourceText.{Line, empty, hash, pragma_line, tokens, Standing, Piece, gap, line_end, lexeme, pragma, after, End, whole, Found, ends, next, fault, token_at, given, is_pragma, word_found, NumberFound, TokenFound, LongestToken, AtToken, At, Finds, Reads, is_hash, pragma_follows, tokens_of, start_of, Spells}
-use Rattle.c_tree.specs.Terminals.{Terminal, terminals}
+use Rattle.c_token.specs.SourceText.{Line, empty, hash, pragma_line, tokens, Standing, Piece, gap, line_end, lexeme, pragma, after, End, whole, Found, next, is_pragma, word_found, TokenFound, LongestToken, AtToken, At, Reads, is_hash, pragma_follows, tokens_of, start_of, Spells}
+use Rattle.c_tree.specs.Terminals.{terminals}
 use Rattle.c_tree.specs.ProgramText.{MayStand}
 use Rattle.c_tree.proofs.Again.{Fit}
 

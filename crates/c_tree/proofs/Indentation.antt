@@ -1,5 +1,5 @@
 -- Four spaces more.
-use Rattle.std.proofs.Common.{◌≡◌, ℕ, zero, suc, ◌+◌, ◌∙◌, sym, refl, ap, ◌++◌, codes, arith}
+use Rattle.std.proofs.Common.{◌≡◌, ℕ, zero, suc, ◌+◌, ◌∙◌, refl, ap, ◌++◌, codes, arith}
 use Rattle.c_tree.specs.RowText.{indentation}
 
 one_more : (n : ℕ) → indentation (suc n) ≡ indentation n ++ codes "    "

@@ -1,5 +1,5 @@
 -- The printed tokens of each function and of each program are it.
-use Rattle.std.proofs.Common.{◌≡◌, ℕ, ◌∙◌, sym, refl, ap, subst, Bool, true, false, List, [], ◌∷◌, ◌++◌, map, codes, Option, Some, None, append_assoc}
+use Rattle.std.proofs.Common.{◌≡◌, ℕ, ◌∙◌, sym, refl, ap, subst, Bool, true, false, List, [], ◌∷◌, ◌++◌, map, codes, Option, Some, None}
 use Rattle.std.specs.Option.{option_map}
 use Rattle.std.specs.List.{flat_map}
 use Rattle.std.proofs.lemmas.List.{append-nil}
@@ -15,19 +15,18 @@ use Rattle.c_tree.specs.Terminals.{Terminal, sign, word, is_keyword}
 use Rattle.c_tree.specs.Kinds.{DerivesKind}
 use Rattle.c_tree.specs.Grammar as g
 use Rattle.c_tree.specs.Grammar.{DerivesLengths, DerivesParam, DerivesParamList, DerivesParams, DerivesDefinition, DerivesItem, DerivesItems}
-use Rattle.c_tree.specs.Places.{nowhere, unplaced, unplaced_object, unplaced_stmts, unplaced_param, unplaced_item}
+use Rattle.c_tree.specs.Places.{nowhere, unplaced, unplaced_stmts, unplaced_param, unplaced_item}
 use Rattle.c_tree.specs.Rows as rows
 use Rattle.c_tree.specs.Rows.{Row, kind_row}
-use Rattle.c_tree.specs.StatementRows.{listed, lengths_row, block_row, param_name_row, param_row, params_row, result_row, definition_row, function_row, item_row}
-use Rattle.c_tree.proofs.Firsts.{first_begins, kind_first}
-use Rattle.c_tree.proofs.Matching.{Matches, IsSpelled, Spelled}
+use Rattle.c_tree.specs.StatementRows.{listed, lengths_row, param_row, params_row, result_row, definition_row, item_row}
+use Rattle.c_tree.proofs.Firsts.{kind_first}
+use Rattle.c_tree.proofs.Matching.{IsSpelled}
 use Rattle.c_tree.proofs.Again.{split, last_token, spelled_both, Again, Printed, Fit, fit_parts}
 use Rattle.c_tree.proofs.KindsAgain.{PrintedKind, kind_is_type, printed_kind, printed_result}
 use Rattle.c_tree.proofs.Words.{word_spelled}
 use Rattle.c_tree.proofs.Productions.{at_tokens}
 use Rattle.c_tree.proofs.Lists.{ListRules, PrintedList, one_listed, more_listed}
 use Rattle.c_tree.proofs.Objects.{Lengths, lengths_again, declaration_again}
-use Rattle.c_tree.proofs.Statements.{Block}
 use Rattle.c_tree.proofs.StatementsAgain.{block_again}
 
 -- ---- parameters

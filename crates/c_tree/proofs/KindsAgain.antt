@@ -1,6 +1,6 @@
 -- The words that a type is printed as are that type.
-use Rattle.std.proofs.Common.{◌≡◌, ℕ, ◌∙◌, sym, refl, ap, subst, Bool, true, false, List, [], ◌∷◌, ◌++◌, codes, Option, Some, None, inl, inr}
-use Rattle.std.specs.Prelude.{◌&&◌, ◌||◌, ◌==◌, bytes_eq, if◌then◌else◌}
+use Rattle.std.proofs.Common.{◌≡◌, ℕ, ◌∙◌, sym, refl, ap, subst, Bool, true, false, List, [], ◌∷◌, codes, Option, Some, None, inl, inr}
+use Rattle.std.specs.Prelude.{◌||◌, ◌==◌, bytes_eq}
 use Rattle.std.specs.List.{list_all}
 use Rattle.std.proofs.lemmas.Bool.{cond_both, and_parts, or_cases, eqb-true}
 use Rattle.c_token.specs.declared.ctype.CType.{CType}
@@ -14,7 +14,7 @@ use Rattle.c_tree.specs.declared.print.row.Written.{Written}
 use Rattle.c_tree.specs.Terminals.{Terminal, terminal, word}
 use Rattle.c_tree.specs.Kinds as kinds
 use Rattle.c_tree.specs.Kinds.{Row, rows, row_with, same_words, specifier_of, type_of_words, DerivesWords, DerivesKind}
-use Rattle.c_tree.specs.Rows.{width_word, type_words, words_row, const_row, kind_row}
+use Rattle.c_tree.specs.Rows.{type_words, words_row, kind_row}
 use Rattle.c_tree.specs.StatementRows.{result_row}
 use Rattle.c_tree.proofs.Again.{Fit, fit_parts}
 use Rattle.c_tree.proofs.Matching.{Matches, Spelled}

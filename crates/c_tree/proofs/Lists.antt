@@ -7,7 +7,7 @@ use Rattle.c_tree.specs.Terminals.{Terminal, sign}
 use Rattle.c_tree.specs.Rows.{Row, comma_row}
 use Rattle.c_tree.specs.StatementRows.{each_behind, listed}
 use Rattle.c_tree.proofs.Matching.{Matches, Spelled}
-use Rattle.c_tree.proofs.Again.{split, spelled_both, Again, Printed}
+use Rattle.c_tree.proofs.Again.{split, spelled_both, Printed}
 use Rattle.c_tree.proofs.Productions.{at_tokens}
 
 -- how a grammar's lists are made of one element or more

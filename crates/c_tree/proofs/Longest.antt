@@ -1,13 +1,13 @@
 -- A token is the longest that begins at its place, by the byte behind it.
-use Rattle.std.proofs.Common.{◌≡◌, ℕ, ◌<◌, ◌≤◌, ◌∙◌, sym, refl, ap, subst, Bool, true, false, List, [], ◌∷◌, ◌++◌, length, drop, Option, Some, arith, inl, inr, length-append}
-use Rattle.std.specs.Prelude.{◌&&◌, ◌||◌, not, ◌==◌, nat_lt, find, bytes_eq, slice_index}
+use Rattle.std.proofs.Common.{◌≡◌, ℕ, ◌<◌, ◌∙◌, sym, refl, ap, subst, Bool, true, false, List, [], ◌∷◌, ◌++◌, length, drop, Some, arith, inl, inr, length-append}
+use Rattle.std.specs.Prelude.{◌&&◌, ◌||◌, not, ◌==◌, find, bytes_eq, slice_index}
 use Rattle.std.specs.List.{list_all}
 use Rattle.std.proofs.Math.Seq.{get_or-append_seam}
-use Rattle.std.proofs.lemmas.Bool.{both_ways, and_parts, cond_both, cases_lt, eqb-true, eq-eqb, not-true, or_cases}
+use Rattle.std.proofs.lemmas.Bool.{both_ways, and_parts, cond_both, cases_lt, eqb-true, not-true, or_cases}
 use Rattle.std.proofs.lemmas.List.{get_or_append_left}
 use Rattle.c_token.specs.Characters.{is_letter, is_digit, is_word_byte}
 use Rattle.c_token.specs.Longest.{IsLongest}
-use Rattle.c_token.specs.Spelling.{IsWord, IsNumber, IsToken, in_word, in_number, is_exponent, spelling}
+use Rattle.c_token.specs.Spelling.{IsWord, IsNumber, IsToken, in_word, in_number, spelling}
 use Rattle.c_token.specs.declared.punct.Punct.{Punct}
 use Rattle.c_token.specs.declared.punct.Punct.TheVariants as p
 use Rattle.c_token.proofs.Signs.{all_signs, sign_of-spelling, sign_no_letter, sign_no_digit, spelling-long}
@@ -31,10 +31,14 @@ longer (x ∷ xs) rest (y ∷ ys) after e lt =
 -- the longest, if no token goes on with what follows
 no_longer : (P : List ℕ → Type 0) (text rest : List ℕ) → P text
     → ((m : ℕ) (ms after : List ℕ) → rest ≡ m ∷ (ms ++ after) → P (text ++ m ∷ ms) → ⊥) → IsLongest P (text ++ rest) text rest
-no_longer P text rest is stops = (refl, is, λ other after e t. elim (cases_lt (length text) (length other)) [
-  | inl lt ↦ let r = longer text rest other after e lt in absurd (stops r.0 r.1 after r.3 (subst P r.2 t))
-  | inr le ↦ le
-])
+no_longer P text rest is stops = (
+  refl,
+  is,
+  λ other after e t. elim (cases_lt (length text) (length other)) [
+    | inl lt ↦ let r = longer text rest other after e lt in absurd (stops r.0 r.1 after r.3 (subst P r.2 t))
+    | inr le ↦ le
+  ],
+)
 
 first_stays : (text : List ℕ) (m : ℕ) (ms : List ℕ) → 0 < length text → slice_index (text ++ m ∷ ms) 0 ≡ slice_index text 0
 first_stays text m ms some = get_or_append_left text (m ∷ ms) 0 0 some
@@ -118,6 +122,7 @@ word_longest first text rest w h = no_longer (IsToken first) text rest (inl w) (
   where
     letter : (m : ℕ) (ms : List ℕ) → is_letter (slice_index (text ++ m ∷ ms) 0) ≡ true
     letter m ms = ap is_letter (first_stays text m ms w.0) ∙ word-letter text w
+
     stops : (m : ℕ) (ms : List ℕ) → ends_word m ≡ true → IsToken first (text ++ m ∷ ms) → ⊥
     stops m ms ends (inl longer_word) = both_ways (is_word_byte m) (not-true (is_word_byte m) ends) (word_goes_on text m ms w.0 longer_word)
     stops m ms ends (inr (inl n)) = letter_no_digit (slice_index (text ++ m ∷ ms) 0) (letter m ms) (number-digit (text ++ m ∷ ms) n)
@@ -129,6 +134,7 @@ number_longest first text rest n h = no_longer (IsToken first) text rest (inr (i
   where
     digit : (m : ℕ) (ms : List ℕ) → is_digit (slice_index (text ++ m ∷ ms) 0) ≡ true
     digit m ms = ap is_digit (first_stays text m ms n.0) ∙ number-digit text n
+
     stops : (m : ℕ) (ms : List ℕ) → ends_number m ≡ true → IsToken first (text ++ m ∷ ms) → ⊥
     stops m ms ends (inl w) = letter_no_digit (slice_index (text ++ m ∷ ms) 0) (word-letter (text ++ m ∷ ms) w) (digit m ms)
     stops m ms ends (inr (inl longer_number)) = number_goes_on text m ms n.0 longer_number ends
@@ -147,12 +153,12 @@ behind_passes test (x ∷ xs) m ms some all = middle_passes test xs m ms all
 sign_goes_on : (s q : Punct) (m : ℕ) (ms : List ℕ) → spelling s ++ m ∷ ms ≡ spelling q → ends_sign s m ≡ true → ⊥
 sign_goes_on s q m ms e ends = elim (or_cases (is_closed s) (not (goes_on_with m)) ends) [
   | inl closed ↦
-  let same : slice_index (spelling s) 0 ≡ slice_index (spelling q) 0 = sym (first_stays (spelling s) m ms (spelling-long s)) ∙ ap (λ x. slice_index x 0) e in
-  let alone : length (spelling q) ≡ 1 = closed_alone q (ap is_closed_byte (sym same) ∙ closed_first s closed) in
-  omega (arith, spelling-long s, length-append (spelling s) (m ∷ ms), ap length e)
+      let same : slice_index (spelling s) 0 ≡ slice_index (spelling q) 0 = sym (first_stays (spelling s) m ms (spelling-long s)) ∙ ap (λ x. slice_index x 0) e in
+      let alone : length (spelling q) ≡ 1 = closed_alone q (ap is_closed_byte (sym same) ∙ closed_first s closed) in
+      omega (arith, spelling-long s, length-append (spelling s) (m ∷ ms), ap length e)
   | inr stops ↦
-  both_ways (goes_on_with m) (not-true (goes_on_with m) stops)
-  (behind_passes goes_on_with (spelling s) m ms (spelling-long s) (ap (λ x. list_all goes_on_with (drop 1 x)) e ∙ goes_on q))
+      both_ways (goes_on_with m) (not-true (goes_on_with m) stops)
+      (behind_passes goes_on_with (spelling s) m ms (spelling-long s) (ap (λ x. list_all goes_on_with (drop 1 x)) e ∙ goes_on q))
 ]
 
 pub sign_longest : (first : Bool) (s : Punct) (rest : List ℕ) → (s ≡ p.Hash → first ≡ true) → Before (ends_sign s) rest
@@ -161,6 +167,7 @@ sign_longest first s rest hash h = no_longer (IsToken first) (spelling s) rest (
   where
     begins : (m : ℕ) (ms : List ℕ) → slice_index (spelling s ++ m ∷ ms) 0 ≡ slice_index (spelling s) 0
     begins m ms = first_stays (spelling s) m ms (spelling-long s)
+
     stops : (m : ℕ) (ms : List ℕ) → ends_sign s m ≡ true → IsToken first (spelling s ++ m ∷ ms) → ⊥
     stops m ms ends (inl w) = both_ways (is_letter (slice_index (spelling s) 0)) (sign_no_letter s) (ap is_letter (sym (begins m ms)) ∙ word-letter (spelling s ++ m ∷ ms) w)
     stops m ms ends (inr (inl n)) = both_ways (is_digit (slice_index (spelling s) 0)) (sign_no_digit s) (ap is_digit (sym (begins m ms)) ∙ number-digit (spelling s ++ m ∷ ms) n)

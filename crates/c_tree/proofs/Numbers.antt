@@ -1,5 +1,5 @@
 -- A number in decimal with the suffix of its type is a constant of its value and type.
-use Rattle.std.proofs.Common.{◌≡◌, ℕ, ◌+◌, ◌^◌, ◌<◌, ◌≤◌, ◌∙◌, sym, refl, ap, subst, Bool, true, false, cond, List, [], ◌∷◌, ◌++◌, length, take, drop, get_or, codes, Option, Some, None, lit<, arith, inl, inr, ◌⊎◌}
+use Rattle.std.proofs.Common.{◌≡◌, ℕ, ◌+◌, ◌^◌, ◌<◌, ◌≤◌, ◌∙◌, sym, refl, ap, subst, Bool, true, false, cond, List, [], ◌∷◌, ◌++◌, length, take, drop, get_or, codes, Some, None, lit<, arith, inl, inr}
 use Rattle.std.specs.Prelude.{◌&&◌, ◌||◌, ◌==◌, nat_eq, nat_lt, slice_index, find, take_while, if◌then◌else◌}
 use Rattle.std.specs.List.{list_all, prefix_len}
 use Rattle.std.specs.Fmt.{decimal}
@@ -12,11 +12,11 @@ use Rattle.std.proofs.Math.Seq.{drop-append_seam, take-append_seam}
 use Rattle.std.proofs.lemmas.Str.Parse.{digit_from_value}
 use Rattle.c_token.specs.Characters.{is_letter, is_digit, is_word_byte}
 use Rattle.c_token.specs.Spelling.{IsNumber}
-use Rattle.c_token.specs.Constants.{Suffix, plain, unsigned, long, unsigned_long, suffix_of, integer, types, holds, type_of, is_hexadecimal, is_octal, mark_length, radix_of, digits_of, suffix_text, IsConstant}
+use Rattle.c_token.specs.Constants.{Suffix, plain, unsigned, long, unsigned_long, suffix_of, types, holds, type_of, is_hexadecimal, is_octal, mark_length, radix_of, digits_of, suffix_text, IsConstant}
 use Rattle.c_token.specs.declared.ctype.CType.{CType}
 use Rattle.c_token.specs.declared.ctype.CType.TheVariants as t
 use Rattle.c_token.specs.declared.token.TokenKind.TheVariants as k
-use Rattle.c_tree.specs.RowText.{number_suffix, number_text}
+use Rattle.c_tree.specs.RowText.{number_text}
 use Rattle.c_tree.proofs.Matching.{IsSpelled}
 use Rattle.c_tree.proofs.Words.{number_from}
 
@@ -102,7 +102,7 @@ written_int : (v : ℕ) → holds v (t.Int true 32) ≡ true → written_constan
 unfolding type_of types suffix_of
 written_int v h = elim (cases_lt 0 v) [
   | inl some ↦ positive_constant v plain [] (t.Int true 32) some (let small : v < 2 ^ 31 = ltb-true v (2 ^ 31) h in omega (arith, small)) refl refl
-  (ap (λ b. cond b (Some (t.Int true 32)) (find (holds v) (t.Int true 64 ∷ []))) h)
+      (ap (λ b. cond b (Some (t.Int true 32)) (find (holds v) (t.Int true 64 ∷ []))) h)
   | inr none ↦ zero_of (t.Int true 32) v none (zero_text [] (t.Int true 32) (record { suffix = plain; has_digits = lit< tt; is_value = refl; is_suffix = refl; is_type = refl }))
 ]
 
@@ -110,7 +110,7 @@ written_unsigned : (v : ℕ) → holds v (t.Int false 32) ≡ true → written_c
 unfolding type_of types suffix_of
 written_unsigned v h = elim (cases_lt 0 v) [
   | inl some ↦ positive_constant v unsigned (codes "u") (t.Int false 32) some (let small : v < 2 ^ 32 = ltb-true v (2 ^ 32) h in omega (arith, small)) refl refl
-  (ap (λ b. cond b (Some (t.Int false 32)) (find (holds v) (t.Int false 64 ∷ []))) h)
+      (ap (λ b. cond b (Some (t.Int false 32)) (find (holds v) (t.Int false 64 ∷ []))) h)
   | inr none ↦ zero_of (t.Int false 32) v none (zero_text (codes "u") (t.Int false 32) (record { suffix = unsigned; has_digits = lit< tt; is_value = refl; is_suffix = refl; is_type = refl }))
 ]
 
@@ -118,7 +118,7 @@ written_long : (v : ℕ) → holds v (t.Int true 64) ≡ true → written_consta
 unfolding type_of types suffix_of
 written_long v h = elim (cases_lt 0 v) [
   | inl some ↦ positive_constant v long (codes "l") (t.Int true 64) some (let small : v < 2 ^ 63 = ltb-true v (2 ^ 63) h in omega (arith, small)) refl refl
-  (ap (λ b. cond b (Some (t.Int true 64)) None) h)
+      (ap (λ b. cond b (Some (t.Int true 64)) None) h)
   | inr none ↦ zero_of (t.Int true 64) v none (zero_text (codes "l") (t.Int true 64) (record { suffix = long; has_digits = lit< tt; is_value = refl; is_suffix = refl; is_type = refl }))
 ]
 
@@ -126,7 +126,7 @@ written_unsigned_long : (v : ℕ) → holds v (t.Int false 64) ≡ true → writ
 unfolding type_of types suffix_of
 written_unsigned_long v h = elim (cases_lt 0 v) [
   | inl some ↦ positive_constant v unsigned_long (codes "ul") (t.Int false 64) some (ltb-true v (2 ^ 64) h) refl refl
-  (ap (λ b. cond b (Some (t.Int false 64)) None) h)
+      (ap (λ b. cond b (Some (t.Int false 64)) None) h)
   | inr none ↦ zero_of (t.Int false 64) v none (zero_text (codes "ul") (t.Int false 64) (record { suffix = unsigned_long; has_digits = lit< tt; is_value = refl; is_suffix = refl; is_type = refl }))
 ]
 

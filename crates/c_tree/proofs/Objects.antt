@@ -1,7 +1,6 @@
 -- The printed tokens of each declaration of a program are this declaration.
-use Rattle.std.proofs.Common.{◌≡◌, ℕ, ◌∙◌, sym, refl, ap, subst, Bool, true, false, List, [], ◌∷◌, ◌++◌, map, Option, Some, None, append_assoc}
+use Rattle.std.proofs.Common.{◌≡◌, ℕ, ◌∙◌, sym, refl, ap, subst, Bool, List, [], ◌∷◌, ◌++◌, map, Option, Some, None, append_assoc}
 use Rattle.std.specs.Option.{option_map}
-use Rattle.std.specs.List.{flat_map}
 use Rattle.std.proofs.lemmas.List.{append-nil}
 use Rattle.hls_base.specs.declared.place.Place.{Place}
 use Rattle.c_token.specs.declared.ctype.CType.{CType}
@@ -10,16 +9,15 @@ use Rattle.c_token.specs.declared.token.TokenKind.TheVariants as k
 use Rattle.c_tree.specs.declared.print.row.Written.TheVariants as w
 use Rattle.c_tree.specs.Tree as tree
 use Rattle.c_tree.specs.Tree.{Tree, InitTree, InitTrees, ObjectTree}
-use Rattle.c_tree.specs.Terminals.{Terminal, sign, word, is_keyword}
-use Rattle.c_tree.specs.Kinds.{DerivesKind}
+use Rattle.c_tree.specs.Terminals.{Terminal, sign, word}
 use Rattle.c_tree.specs.Grammar as g
 use Rattle.c_tree.specs.Grammar.{DerivesOptional, DerivesInit, DerivesInits, DerivesInitialiser, DerivesLengths, DerivesObject, DerivesObjects, DerivesDeclaration, choice_level, assign_level}
 use Rattle.c_tree.specs.Places.{nowhere, unplaced, unplaced_init, unplaced_inits, unplaced_object}
 use Rattle.c_tree.specs.Rows as rows
 use Rattle.c_tree.specs.Rows.{Row, kind_row, comma_row, infix_row, expression_row}
 use Rattle.c_tree.specs.StatementRows.{listed, init_row, inits_row, inits_behind, optional_row, length_row, lengths_row, initialiser_row, object_row, declaration_row}
-use Rattle.c_tree.proofs.Matching.{Matches, IsSpelled, Spelled}
-use Rattle.c_tree.proofs.Again.{split, last_token, spelled_both, Again, Printed, Fit, fit_parts}
+use Rattle.c_tree.proofs.Matching.{Matches, Spelled}
+use Rattle.c_tree.proofs.Again.{split, last_token, spelled_both, Printed, Fit, fit_parts}
 use Rattle.c_tree.proofs.KindsAgain.{PrintedKind, kind_is_type, printed_kind}
 use Rattle.c_tree.proofs.Productions.{At, at_tokens}
 use Rattle.c_tree.proofs.Expressions.{expression_again}

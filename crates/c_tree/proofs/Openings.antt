@@ -1,11 +1,11 @@
 -- Neither white space nor a comment begins where a token stands.
-use Rattle.std.proofs.Common.{◌≡◌, ℕ, ◌+◌, ◌<◌, ◌≤◌, ◌∙◌, sym, refl, ap, subst, Bool, true, false, List, [], ◌∷◌, ◌++◌, length, take, get_or, arith, inl, inr}
-use Rattle.std.specs.Prelude.{◌&&◌, ◌||◌, not, ◌==◌, slice_index, nat_eq}
+use Rattle.std.proofs.Common.{◌≡◌, ℕ, ◌+◌, ◌<◌, ◌∙◌, sym, refl, ap, Bool, true, false, List, [], ◌∷◌, ◌++◌, length, take, get_or, arith, inl, inr}
+use Rattle.std.specs.Prelude.{◌||◌, not, ◌==◌, slice_index, nat_eq}
 use Rattle.std.specs.List.{starts_with}
-use Rattle.std.proofs.lemmas.Bool.{both_ways, cond_both, cases_lt, eqb-true, eqb-false, eq-eqb, not-true, or_cases}
+use Rattle.std.proofs.lemmas.Bool.{both_ways, cond_both, cases_lt, eqb-true, not-true, or_cases}
 use Rattle.std.proofs.lemmas.List.{get_or-take, get_or_append_left, get_or-append-add}
 use Rattle.std.proofs.lemmas.Slice.Eq.{bytes_eq-Decides}
-use Rattle.c_token.specs.Characters.{Opening, at_token, opening, is_blank, is_letter, is_digit, splice, splice_with_return}
+use Rattle.c_token.specs.Characters.{at_token, opening, is_blank, is_letter, is_digit, splice, splice_with_return}
 use Rattle.c_token.specs.Spelling.{spelling}
 use Rattle.c_token.specs.declared.punct.Punct.{Punct}
 use Rattle.c_token.proofs.Signs.{spelling-long}
@@ -41,6 +41,7 @@ opens_token bytes some plain comment =
   where
     backslash : slice_index bytes 0 ≡ 92 → ⊥
     backslash e = grind (arith, plain, e)
+
     slash : (y : ℕ) → starts_with nat_eq bytes (47 ∷ y ∷ []) ≡ true → opens_comment y ≡ true → ⊥
     slash y e c = both_ways (opens_comment y) (ap opens_comment (sym (begun_second bytes 47 y e)) ∙ comment (begun bytes 47 (y ∷ []) e)) c
 
@@ -100,8 +101,8 @@ opens_sign q rest h =
     opens_token (spelling q ++ rest) (longer-some (spelling q) rest (spelling-long q)) (ap opens_gap first ∙ sign_opens q) (λ s. elim (cases_lt 1 (length (spelling q))) [
       | inl long ↦ ap opens_comment (get_or_append_left (spelling q) rest 0 1 long) ∙ second_opens q
       | inr short ↦
-      let one : length (spelling q) ≡ 1 = omega (arith, spelling-long q) in
-      let second : slice_index (spelling q ++ rest) 1 ≡ slice_index rest 0 =
-      ap (λ n. slice_index (spelling q ++ rest) n) (let e : 1 ≡ length (spelling q) + 0 = omega arith in e) ∙ get_or-append-add (spelling q) rest 0 0 in
-      ap opens_comment second ∙ follows_opens q rest (sym first ∙ s) h
+          let one : length (spelling q) ≡ 1 = omega (arith, spelling-long q) in
+          let second : slice_index (spelling q ++ rest) 1 ≡ slice_index rest 0 =
+          ap (λ n. slice_index (spelling q ++ rest) n) (let e : 1 ≡ length (spelling q) + 0 = omega arith in e) ∙ get_or-append-add (spelling q) rest 0 0 in
+          ap opens_comment second ∙ follows_opens q rest (sym first ∙ s) h
     ])

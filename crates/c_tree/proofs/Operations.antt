@@ -1,5 +1,5 @@
 -- The printed tokens of an expression are this expression: productions with operands.
-use Rattle.std.proofs.Common.{◌≡◌, ℕ, suc, ◌-◌, ◌∙◌, sym, refl, ap, subst, Bool, true, false, List, [], ◌∷◌, ◌++◌, Option, Some, None, arith}
+use Rattle.std.proofs.Common.{◌≡◌, ℕ, suc, ◌-◌, ◌∙◌, sym, refl, ap, subst, Bool, true, false, List, [], ◌∷◌, ◌++◌, Option, Some, arith}
 use Rattle.std.proofs.lemmas.List.{append-nil}
 use Rattle.hls_base.specs.declared.place.Place.{Place}
 use Rattle.c_token.specs.declared.ctype.CType.{CType}
@@ -8,10 +8,9 @@ use Rattle.c_token.specs.declared.punct.Punct.TheVariants as p
 use Rattle.c_token.specs.declared.token.TokenKind.TheVariants as k
 use Rattle.c_tree.specs.declared.operator.Unary.{Unary}
 use Rattle.c_tree.specs.declared.operator.Binary.{Binary}
-use Rattle.c_tree.specs.declared.print.row.Written.TheVariants as w
 use Rattle.c_tree.specs.Tree as tree
 use Rattle.c_tree.specs.Tree.{Tree, TargetTree, Trees}
-use Rattle.c_tree.specs.Terminals.{Terminal, terminal, sign, word, is_keyword, prefix_of, operator_of, assignment_of, bump_of}
+use Rattle.c_tree.specs.Terminals.{Terminal, sign, word, is_keyword, assignment_of}
 use Rattle.c_tree.specs.Grammar as g
 use Rattle.c_tree.specs.Grammar.{Derives, DerivesTarget, DerivesSubscripts, DerivesArguments, DerivesList, primary_level, postfix_level, unary_level, level_of, binary_level, choice_level, assign_level, comma_level}
 use Rattle.c_tree.specs.Places.{nowhere, unplaced, unplaced_target, unplaced_row}
@@ -20,7 +19,7 @@ use Rattle.c_tree.specs.Rows.{Row, prefix_sign, operator_sign, assignment_sign, 
 use Rattle.c_tree.proofs.Matching.{Matches, IsSpelled, Spelled}
 use Rattle.c_tree.proofs.Again.{split, last_token, spelled_both, Again, Printed}
 use Rattle.c_tree.proofs.KindsAgain.{PrintedKind}
-use Rattle.c_tree.proofs.Productions.{Own, At, Target, Subscripts, ArgumentList, at_tokens, at_level, operator_level, prefix-is, prefix-plain, bump-is, bump-plain, operator-is, operator-plain, assignment-is, assignment-plain}
+use Rattle.c_tree.proofs.Productions.{Own, At, Target, Subscripts, ArgumentList, at_tokens, operator_level, prefix-is, prefix-plain, bump-is, bump-plain, operator-is, operator-plain, assignment-is, assignment-plain}
 
 -- ---- subscripts and arguments
 

@@ -1,5 +1,5 @@
 -- Tokens of the small program.
-use Rattle.std.proofs.Common.{◌≡◌, ℕ, refl, true, false, List, [], ◌∷◌, ◌++◌, codes, Option, Some, None, lit<, arith}
+use Rattle.std.proofs.Common.{refl, true, false, List, [], ◌∷◌, ◌++◌, codes, Some, lit<, arith}
 use Rattle.c_token.specs.Characters.{is_letter, is_digit}
 use Rattle.c_token.specs.Constants.{IsConstant, integer, plain, type_of, types, suffix_of}
 use Rattle.c_token.specs.declared.punct.Punct.TheVariants as p
@@ -66,7 +66,7 @@ fits : Fit source
 unfolding is_letter is_digit
 fits = (
   word_spelled (codes "int") refl,
-  (word_spelled (codes "f") refl, (tt, (word_spelled (codes "void") refl, (tt, (tt, (word_spelled (codes "return") refl, ((codes "7", constant_seven), (tt, (tt, tt)))))))))
+  (word_spelled (codes "f") refl, (tt, (word_spelled (codes "void") refl, (tt, (tt, (word_spelled (codes "return") refl, ((codes "7", constant_seven), (tt, (tt, tt))))))))),
 )
 
 pub seven_has_tokens : HasTokens seven

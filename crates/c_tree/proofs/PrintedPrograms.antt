@@ -1,12 +1,12 @@
 -- The printed text of a program is a text of it.
-use Rattle.std.proofs.Common.{◌≡◌, ℕ, true, false, refl, sym, ap, subst, List, [], ◌∷◌}
+use Rattle.std.proofs.Common.{◌≡◌, ℕ, true, refl, sym, ap, subst, List, [], ◌∷◌}
 use Rattle.std.specs.Prelude.{Result, Ok, Err, IfOk}
 use Rattle.std.specs.List.{All}
 use Rattle.std.proofs.lemmas.List.Elements.{All-nil, All-cons, All-head, All-tail}
-use Rattle.c_token.specs.SourceText.{tokens_of, source_start, empty, place_after, is_hash}
+use Rattle.c_token.specs.SourceText.{tokens_of, source_start, empty, place_after}
 use Rattle.c_tree.specs.Terminals.{Terminal, terminals}
-use Rattle.c_tree.specs.Tree.{ItemTree, ProgramTree}
-use Rattle.c_tree.specs.Places.{nowhere, unplaced_item, without_places}
+use Rattle.c_tree.specs.Tree.{ProgramTree}
+use Rattle.c_tree.specs.Places.{nowhere}
 use Rattle.c_tree.specs.ProgramText.{MayStand, HasTokens, IsTextOf}
 use Rattle.c_tree.specs.StatementRows.{program_row}
 use Rattle.c_tree.specs.RowText.{row_text}

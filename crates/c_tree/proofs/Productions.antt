@@ -1,5 +1,5 @@
 -- The printed tokens of an expression are this expression: each production.
-use Rattle.std.proofs.Common.{◌≡◌, ℕ, zero, suc, ◌+◌, ◌-◌, ◌<◌, ◌≤◌, ◌∙◌, sym, refl, ap, subst, Bool, true, false, List, [], ◌∷◌, ◌++◌, Option, Some, None, arith}
+use Rattle.std.proofs.Common.{◌≡◌, ℕ, zero, suc, ◌+◌, ◌-◌, ◌≤◌, ◌∙◌, sym, refl, ap, subst, Bool, true, false, List, [], ◌∷◌, ◌++◌, Option, Some, None, arith}
 use Rattle.std.specs.Prelude.{nat_le}
 use Rattle.std.proofs.lemmas.Bool.{leb-true}
 use Rattle.hls_base.specs.declared.place.Place.{Place}
@@ -12,19 +12,16 @@ use Rattle.c_tree.specs.declared.operator.Unary.{Unary}
 use Rattle.c_tree.specs.declared.operator.Unary.TheVariants as u
 use Rattle.c_tree.specs.declared.operator.Binary.{Binary}
 use Rattle.c_tree.specs.declared.operator.Binary.TheVariants as b
-use Rattle.c_tree.specs.declared.print.row.Written.{Written}
-use Rattle.c_tree.specs.declared.print.row.Written.TheVariants as w
 use Rattle.c_tree.specs.Tree as tree
 use Rattle.c_tree.specs.Tree.{Tree, TargetTree, Trees}
 use Rattle.c_tree.specs.Terminals.{Terminal, terminal, sign, word, is_keyword, prefix_of, operator_of, assignment_of, bump_of}
 use Rattle.c_tree.specs.Grammar as g
 use Rattle.c_tree.specs.Grammar.{Derives, DerivesTarget, DerivesSubscripts, DerivesArguments, DerivesList, primary_level, postfix_level, unary_level, level_of, binary_level, choice_level, assign_level, comma_level}
-use Rattle.c_tree.specs.Places.{nowhere, unplaced, unplaced_target, unplaced_row}
+use Rattle.c_tree.specs.Places.{unplaced, unplaced_target, unplaced_row}
 use Rattle.c_tree.specs.Rows as rows
 use Rattle.c_tree.specs.Rows.{Row, prefix_sign, operator_sign, assignment_sign, bump_sign, kind_row, own_level, grouped, infix_row, comma_row, own_row, target_row, subscripts_row, list_row, list_behind, expression_row}
-use Rattle.c_tree.proofs.Matching.{Matches, IsSpelled, Spelled}
+use Rattle.c_tree.proofs.Matching.{IsSpelled}
 use Rattle.c_tree.proofs.Again.{split, last_token, spelled_both, Again, Printed}
-use Rattle.c_tree.proofs.KindsAgain.{PrintedKind}
 
 -- an expression without parentheses around it, and where one of a level may stand
 abbrev pub Own : Tree → Type 0

@@ -1,12 +1,11 @@
 -- The text of a row is its tokens with white space between them.
-use Rattle.std.proofs.Common.{◌≡◌, ℕ, zero, suc, ◌<◌, ◌≤◌, ◌∙◌, sym, refl, ap, subst, Bool, true, false, List, [], ◌∷◌, ◌++◌, length, drop, codes, append_assoc, arith, inl, inr}
-use Rattle.std.specs.Prelude.{◌&&◌, ◌||◌, not, ◌==◌, nat_le, slice_index, if◌then◌else◌}
-use Rattle.std.specs.List.{All, list_all}
-use Rattle.std.proofs.lemmas.Bool.{cond_both, not-true, and_parts, or_left, or_right, or_cases, both_ways, eqb-true, le-leb}
+use Rattle.std.proofs.Common.{◌≡◌, ℕ, zero, suc, ◌<◌, ◌≤◌, ◌∙◌, sym, refl, ap, subst, Bool, true, false, List, [], ◌∷◌, ◌++◌, length, codes, arith, inl, inr}
+use Rattle.std.specs.Prelude.{◌&&◌, ◌||◌, not, ◌==◌, slice_index, if◌then◌else◌}
+use Rattle.std.specs.List.{All}
+use Rattle.std.proofs.lemmas.Bool.{cond_both, or_left, or_right, or_cases, both_ways, eqb-true, le-leb}
 use Rattle.std.proofs.Math.Seq.{drop-append_seam}
 use Rattle.std.proofs.lemmas.List.Elements.{All-nil, All-cons}
 use Rattle.hls_base.specs.declared.place.Place.{Place}
-use Rattle.c_token.specs.declared.ctype.CType.{CType}
 use Rattle.c_token.specs.declared.punct.Punct.{Punct}
 use Rattle.c_token.specs.declared.punct.Punct.TheVariants as p
 use Rattle.c_token.specs.declared.token.Token.{Token}
@@ -15,12 +14,12 @@ use Rattle.c_token.specs.declared.token.TokenKind.TheVariants as k
 use Rattle.c_token.specs.Characters.{opening, at_token, at_space, at_line_end, at_end, is_letter, is_digit, is_blank}
 use Rattle.c_token.specs.Longest.{IsLongest}
 use Rattle.c_token.specs.Spelling.{IsToken, spelling}
-use Rattle.c_token.specs.SourceText.{Line, empty, hash, pragma_line, tokens, is_first, Standing, Piece, gap, line_end, lexeme, pragma, piece_text, is_hash, line_after_token, after, Found, next, whole, token_at, given, is_pragma, word_found, TokenFound, LongestToken, AtToken, At, Finds, Reads, pragma_follows, tokens_of, place_after}
+use Rattle.c_token.specs.SourceText.{Line, empty, hash, pragma_line, tokens, is_first, Standing, Piece, gap, line_end, lexeme, is_hash, line_after_token, Found, next, whole, given, is_pragma, word_found, TokenFound, LongestToken, AtToken, At, Reads, pragma_follows, tokens_of, place_after}
 use Rattle.c_tree.specs.declared.print.row.Written.TheVariants as w
 use Rattle.c_tree.specs.Terminals.{Terminal, terminals}
 use Rattle.c_tree.specs.Rows.{Row}
 use Rattle.c_tree.specs.RowText.{token_text, is_closed, may_touch, separator, indentation, row_text}
-use Rattle.c_tree.proofs.Longest.{every, implied, goes_on_with, is_closed_byte, ends_word, ends_number, ends_sign, Before, word_longest, number_longest, sign_longest}
+use Rattle.c_tree.proofs.Longest.{every, implied, goes_on_with, ends_word, ends_number, ends_sign, Before, word_longest, number_longest, sign_longest}
 use Rattle.c_tree.proofs.Openings.{opens_letter, opens_digit, opens_sign}
 use Rattle.c_tree.proofs.Matching.{Matches, IsSpelled, Spelled}
 use Rattle.c_token.proofs.Signs.{sign_no_letter, sign_no_digit, spelling-long}
@@ -122,7 +121,7 @@ a_token kind text rest row at line glued open_line t r =
       reads = (
         subst (λ o. At o s (given s text kind)) (sym t.opens) (on_line line (text ++ rest) at glued (given s text kind) open_line (inl (text, rest, t.longest, t.found))),
         subst (λ left. Reads (standing left (place_after at text) (line_after_token line kind) true) r.pieces whole) (sym (drop-append_seam text rest))
-        (subst (λ l. Reads (standing rest (place_after at text) l true) r.pieces whole) (sym (line_behind line kind open_line t.plain)) r.reads)
+            (subst (λ l. Reads (standing rest (place_after at text) l true) r.pieces whole) (sym (line_behind line kind open_line t.plain)) r.reads),
       );
       plain = subst (All no_hash) (sym all) (All-cons no_hash token (tokens_of r.pieces) t.plain r.plain);
       matches = subst (λ ts. Matches (terminals ts) (w.Token kind ∷ row)) (sym all) (at, terminals (tokens_of r.pieces), refl, r.matches);

@@ -1,6 +1,6 @@
 -- The tokens that a source becomes may stand in a program.
-use Rattle.std.proofs.Common.{◌≡◌, ℕ, ◌+◌, ◌∙◌, sym, refl, ap, subst, Bool, true, false, List, [], ◌∷◌, ◌++◌, length, codes, Option, Some, None}
-use Rattle.std.specs.Prelude.{◌&&◌, ◌||◌, not, nat_lt, bytes_eq, Result, Ok, Err, if◌then◌else◌}
+use Rattle.std.proofs.Common.{◌≡◌, ℕ, ◌+◌, sym, refl, subst, Bool, true, false, List, [], ◌∷◌, ◌++◌, length, codes, Option, Some, None}
+use Rattle.std.specs.Prelude.{◌&&◌, ◌||◌, not, nat_lt, bytes_eq, Result, Ok, Err}
 use Rattle.std.proofs.lemmas.Bool.{cond_both}
 use Rattle.hls_base.specs.declared.place.Place.{Place}
 use Rattle.hls_base.specs.declared.refusal.Refusal.{Refusal}
@@ -9,12 +9,11 @@ use Rattle.c_token.specs.declared.token.Token.{Token}
 use Rattle.c_token.specs.declared.token.TokenKind.{TokenKind}
 use Rattle.c_token.specs.declared.token.TokenKind.TheVariants as k
 use Rattle.c_token.specs.SourceText.{Spells}
-use Rattle.c_token.specs.Replacement.{find_word, exact_types, Table, without, body_of, hide, StandsFor, nothing, stays, is_replaced, typed_kind, numbered, placed, Reading, refuse, is_word, names_stdint, has_parameters, may_be_defined, agrees, defined, define_limit, define, undefine, obey, Part, directive, ordinary, Divides, token_limit, word_limit, count, AndThen, behind, Outcome, beginning, Becomes}
+use Rattle.c_token.specs.Replacement.{find_word, exact_types, Table, without, body_of, hide, StandsFor, nothing, stays, is_replaced, typed_kind, numbered, placed, Reading, is_word, names_stdint, has_parameters, may_be_defined, agrees, defined, define_limit, define, undefine, obey, Part, directive, ordinary, Divides, token_limit, word_limit, count, AndThen, behind, Outcome, beginning, Becomes}
 use Rattle.c_tree.specs.Tree.{ProgramTree}
-use Rattle.c_tree.specs.Terminals.{Terminal, terminals}
+use Rattle.c_tree.specs.Terminals.{terminals}
 use Rattle.c_tree.specs.Grammar.{DerivesProgram}
 use Rattle.c_tree.specs.ProgramText.{MayStand, HasTokens}
-use Rattle.c_tree.proofs.Again.{Fit, fit_parts}
 use Rattle.c_tree.proofs.GivenTokens.{FitTokens, fit_append, spelled_stand}
 use Rattle.c_tree.proofs.PrintedPrograms.{all_stand}
 

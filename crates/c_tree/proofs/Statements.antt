@@ -1,5 +1,5 @@
 -- The printed tokens of a statement are this statement: each production.
-use Rattle.std.proofs.Common.{◌≡◌, ℕ, ◌∙◌, sym, refl, ap, subst, Bool, true, false, List, [], ◌∷◌, ◌++◌, map, codes, Option, Some, None, append_assoc}
+use Rattle.std.proofs.Common.{◌≡◌, ℕ, ◌∙◌, sym, refl, ap, Bool, true, false, List, [], ◌∷◌, ◌++◌, map, codes, Option, Some, None, append_assoc}
 use Rattle.std.specs.Option.{option_map}
 use Rattle.std.proofs.lemmas.List.{append-nil}
 use Rattle.hls_base.specs.declared.place.Place.{Place}
@@ -7,20 +7,19 @@ use Rattle.c_token.specs.Characters.{is_letter, is_digit}
 use Rattle.c_token.specs.declared.punct.Punct.TheVariants as p
 use Rattle.c_token.specs.declared.token.TokenKind.{TokenKind}
 use Rattle.c_token.specs.declared.token.TokenKind.TheVariants as k
-use Rattle.c_tree.specs.declared.print.row.Written.{Written}
 use Rattle.c_tree.specs.declared.print.row.Written.TheVariants as w
 use Rattle.c_tree.specs.Tree as tree
 use Rattle.c_tree.specs.Tree.{Tree, ActionTree, ObjectTree, StmtTree, ElseTree, FirstTree, StmtTrees}
 use Rattle.c_tree.specs.Terminals.{Terminal, sign, word}
 use Rattle.c_tree.specs.Grammar as g
 use Rattle.c_tree.specs.Grammar.{Derives, DerivesOptional, DerivesActionList, DerivesActions, DerivesDeclaration, DerivesStatement, DerivesFirst, DerivesBlock, DerivesBody, ends_open, choice_level, comma_level}
-use Rattle.c_tree.specs.Places.{nowhere, unplaced, unplaced_action, unplaced_object, unplaced_stmt, unplaced_else, unplaced_first, unplaced_stmts}
+use Rattle.c_tree.specs.Places.{nowhere, unplaced, unplaced_action, unplaced_object, unplaced_stmt, unplaced_first, unplaced_stmts}
 use Rattle.c_tree.specs.Rows as rows
 use Rattle.c_tree.specs.Rows.{Row, expression_row}
-use Rattle.c_tree.specs.StatementRows.{listed, actions_row, action_row, declaration_row, deeper, is_block, is_tight, gap, depth_in, line_of, head_row, spaced_optional, spaced_actions, label_row, return_row, jump_row, stmt_row, else_row, first_row, body_row, block_row}
-use Rattle.c_tree.proofs.Matching.{Matches, IsSpelled, Spelled}
+use Rattle.c_tree.specs.StatementRows.{actions_row, declaration_row, deeper, is_block, is_tight, gap, depth_in, line_of, head_row, spaced_optional, spaced_actions, stmt_row, first_row, body_row, block_row}
+use Rattle.c_tree.proofs.Matching.{Matches, Spelled}
 use Rattle.c_tree.proofs.Again.{split, last_token, spelled_both, Again, Printed}
-use Rattle.c_tree.proofs.Words.{is_short_word, word_spelled}
+use Rattle.c_tree.proofs.Words.{word_spelled}
 use Rattle.c_tree.proofs.Productions.{At, at_tokens}
 use Rattle.c_tree.proofs.Actions.{ActionList, Actions}
 use Rattle.c_tree.proofs.Objects.{Optional, Declaration}
@@ -148,7 +147,7 @@ printed_if test body at a b depth =
           });
       spelled = (
         word_spelled (codes "if") refl,
-        head_spelled test (line ∷ others) a (spelled_gap (is_block body) (deeper depth) others (spelled_both (stmt_row body inner) [] (b inner).spelled tt))
+        head_spelled test (line ∷ others) a (spelled_gap (is_block body) (deeper depth) others (spelled_both (stmt_row body inner) [] (b inner).spelled tt)),
       );
     }
 
@@ -186,9 +185,9 @@ printed_if_else test body second at other a b closed d depth =
       spelled = (
         word_spelled (codes "if") refl,
         head_spelled test (line ∷ others) a
-        (spelled_gap (is_block body) (deeper depth) others
-        (spelled_both (stmt_row body inner) behind (b inner).spelled
-        (spelled_gap (is_block body) depth third (word_spelled (codes "else") refl, spelled_gap (is_tight second) (deeper depth) last (d outer).spelled))))
+            (spelled_gap (is_block body) (deeper depth) others
+            (spelled_both (stmt_row body inner) behind (b inner).spelled
+            (spelled_gap (is_block body) depth third (word_spelled (codes "else") refl, spelled_gap (is_tight second) (deeper depth) last (d outer).spelled)))),
       );
     }
 
@@ -230,7 +229,7 @@ printed_case value body at a b depth =
           });
       spelled = (
         word_spelled (codes "case") refl,
-        spelled_both front (line_of depth body ∷ stmt_row body depth) (spelled_both (expression_row choice_level value) (rows.sign p.Colon ∷ []) a.spelled (refl, tt)) (b depth).spelled
+        spelled_both front (line_of depth body ∷ stmt_row body depth) (spelled_both (expression_row choice_level value) (rows.sign p.Colon ∷ []) a.spelled (refl, tt)) (b depth).spelled,
       );
     }
 
@@ -296,8 +295,8 @@ printed_do body test at b a depth =
       spelled = (
         word_spelled (codes "do") refl,
         spelled_gap (is_block body) (deeper depth) others
-        (spelled_both (stmt_row body inner) behind (b inner).spelled
-        (spelled_gap (is_block body) depth third (word_spelled (codes "while") refl, head_spelled test (rows.sign p.Semicolon ∷ []) a (refl, tt))))
+            (spelled_both (stmt_row body inner) behind (b inner).spelled
+            (spelled_gap (is_block body) depth third (word_spelled (codes "while") refl, head_spelled test (rows.sign p.Semicolon ∷ []) a (refl, tt)))),
       );
     }
 
@@ -345,10 +344,12 @@ printed_for init test step body at i t s b depth =
           });
       spelled = (
         word_spelled (codes "for") refl,
-        (refl,
-        spelled_both (first_row init) second i.spelled
-        (spelled_both (spaced_optional test) third tested.spelled
-        (refl, spelled_both (spaced_actions step) fourth stepped.spelled (refl, spelled_gap (is_block body) (deeper depth) (stmt_row body inner) (b inner).spelled))))
+        (
+          refl,
+          spelled_both (first_row init) second i.spelled
+              (spelled_both (spaced_optional test) third tested.spelled
+              (refl, spelled_both (spaced_actions step) fourth stepped.spelled (refl, spelled_gap (is_block body) (deeper depth) (stmt_row body inner) (b inner).spelled))),
+        ),
       );
     }
 

@@ -1,7 +1,6 @@
 -- The printed tokens of each statement of a program are this statement.
-use Rattle.std.proofs.Common.{ℕ, List, [], ◌∷◌, ◌++◌, codes, Option, Some, None}
+use Rattle.std.proofs.Common.{List, [], ◌∷◌, ◌++◌, codes}
 use Rattle.c_token.specs.declared.punct.Punct.TheVariants as p
-use Rattle.c_tree.specs.Tree as tree
 use Rattle.c_tree.specs.Tree.{StmtTree, FirstTree, StmtTrees}
 use Rattle.c_tree.specs.Terminals.{Terminal, sign, word}
 use Rattle.c_tree.specs.Grammar as g

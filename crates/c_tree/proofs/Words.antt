@@ -1,10 +1,10 @@
 -- Which bytes make a word or a number, by a test.
-use Rattle.std.proofs.Common.{◌≡◌, ℕ, zero, suc, ◌<◌, ◌≤◌, ◌∙◌, sym, refl, ap, Bool, true, false, List, [], ◌∷◌, length, arith}
-use Rattle.std.specs.Prelude.{◌&&◌, ◌||◌, ◌==◌, nat_le, slice_index, if◌then◌else◌}
+use Rattle.std.proofs.Common.{◌≡◌, ℕ, zero, suc, ◌<◌, Bool, true, false, List, [], ◌∷◌, length, arith}
+use Rattle.std.specs.Prelude.{◌&&◌, nat_le, slice_index}
 use Rattle.std.specs.List.{list_all}
-use Rattle.std.proofs.lemmas.Bool.{and_parts, leb-true, or_left}
+use Rattle.std.proofs.lemmas.Bool.{and_parts, leb-true}
 use Rattle.c_token.specs.Characters.{is_letter, is_digit, is_word_byte}
-use Rattle.c_token.specs.Spelling.{IsWord, IsNumber, in_word, in_number, is_exponent}
+use Rattle.c_token.specs.Spelling.{IsWord, IsNumber, in_word, in_number}
 use Rattle.c_token.specs.declared.token.TokenKind.TheVariants as k
 use Rattle.c_tree.proofs.Matching.{IsSpelled}
 

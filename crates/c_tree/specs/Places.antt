@@ -1,5 +1,5 @@
 -- Trees without the places of their tokens.
-use Rattle.std.specs.Prelude.{List, map, Option}
+use Rattle.std.specs.Prelude.{map}
 use Rattle.std.specs.Option.{option_map}
 use Rattle.hls_base.specs.declared.place.Place.{Place}
 use Rattle.c_tree.specs.Tree as tree

@@ -1,7 +1,6 @@
 -- A small program.
-use Rattle.std.specs.Prelude.{true, List, [], ◌∷◌, codes, Some}
+use Rattle.std.specs.Prelude.{true, [], ◌∷◌, codes, Some}
 use Rattle.hls_base.specs.declared.place.Place.{Place}
-use Rattle.c_token.specs.declared.ctype.CType.{CType}
 use Rattle.c_token.specs.Constants.{integer}
 use Rattle.c_tree.specs.Tree as tree
 use Rattle.c_tree.specs.Tree.{StmtTree, ItemTree, ProgramTree}

@@ -1,5 +1,5 @@
 -- The row of tokens and white space that a tree is printed as.
-use Rattle.std.specs.Prelude.{ℕ, ◌-◌, nat_le, ◌==◌, Bool, true, false, List, [], ◌∷◌, ◌++◌, codes, Option, Some, None, if◌then◌else◌}
+use Rattle.std.specs.Prelude.{ℕ, ◌-◌, nat_le, ◌==◌, Bool, true, false, List, [], ◌∷◌, ◌++◌, codes, Option, Some, if◌then◌else◌}
 use Rattle.c_token.specs.declared.ctype.CType.{CType}
 use Rattle.c_token.specs.declared.ctype.CType.TheVariants as t
 use Rattle.c_token.specs.declared.punct.Punct.{Punct}

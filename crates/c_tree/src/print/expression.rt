@@ -9,15 +9,19 @@ use crate::expression::{Expr, Target};
 use crate::operator::{Binary, Unary};
 use crate::print::kind::push_kind;
 use crate::print::row::{Written, push_comma, push_sign, push_word};
-use c_token::punct::Punct;
 use c_token::ctype::CType;
+use c_token::punct::Punct;
 use c_token::token::TokenKind;
 use std::alloc::{AllocError, Global};
 
 pub const UNARY_LEVEL: u8 = 2;
+
 pub const BINARY_LEVEL: u8 = 12;
+
 pub const CHOICE_LEVEL: u8 = 13;
+
 pub const ASSIGN_LEVEL: u8 = 14;
+
 pub const COMMA_LEVEL: u8 = 15;
 
 fn prefix_sign(op: Unary) -> Punct
@@ -107,13 +111,7 @@ fn own_level(e: &Expr) -> u8
 {
     match e {
         Expr::Binary { op, .. } => level_of(*op),
-        Expr::Bump { post, .. } => {
-            if *post {
-                1
-            } else {
-                UNARY_LEVEL
-            }
-        }
+        Expr::Bump { post, .. } => { if *post { 1 } else { UNARY_LEVEL } }
         Expr::Unary { .. } | Expr::Cast { .. } => UNARY_LEVEL,
         Expr::Choice { .. } => CHOICE_LEVEL,
         Expr::Assign { .. } => ASSIGN_LEVEL,
@@ -158,7 +156,9 @@ pub fn push_own(alloc: Global, row: &mut Vec<Written>, e: &Expr) -> Result<(), A
         Expr::Number { value, kind, .. } => push_number(row, *value, *kind),
         Expr::Name { name, .. } => push_word(alloc, row, name.items()),
         Expr::Index {
-            array, subscripts, ..
+            array,
+            subscripts,
+            ..
         } => {
             push_word(alloc, row, array.items())?;
             push_subscripts(alloc, row, subscripts)
@@ -174,7 +174,10 @@ pub fn push_own(alloc: Global, row: &mut Vec<Written>, e: &Expr) -> Result<(), A
             push_expression(alloc, row, UNARY_LEVEL, arg)
         }
         Expr::Binary {
-            op, left, right, ..
+            op,
+            left,
+            right,
+            ..
         } => {
             let level = level_of(*op);
             push_expression(alloc, row, level, left)?;
@@ -195,14 +198,20 @@ pub fn push_own(alloc: Global, row: &mut Vec<Written>, e: &Expr) -> Result<(), A
             push_expression(alloc, row, UNARY_LEVEL, arg)
         }
         Expr::Assign {
-            target, op, value, ..
+            target,
+            op,
+            value,
+            ..
         } => {
             push_target(alloc, row, target)?;
             push_infix(row, assignment_sign(*op))?;
             push_expression(alloc, row, ASSIGN_LEVEL, value)
         }
         Expr::Bump {
-            target, up, post, ..
+            target,
+            up,
+            post,
+            ..
         } => {
             if *post {
                 push_target(alloc, row, target)?;
@@ -221,11 +230,7 @@ pub fn push_own(alloc: Global, row: &mut Vec<Written>, e: &Expr) -> Result<(), A
 }
 
 #[cycle(expression)]
-pub fn push_target(
-    alloc: Global,
-    row: &mut Vec<Written>,
-    target: &Target,
-) -> Result<(), AllocError>
+pub fn push_target(alloc: Global, row: &mut Vec<Written>, target: &Target) -> Result<(), AllocError>
     ensures { OnOk result (row.new.items ≡ row.old.items ++ rows.target_row (target_of target.now)) }
 {
     push_word(alloc, row, target.name.items())?;

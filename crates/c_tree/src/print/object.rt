@@ -42,7 +42,10 @@ fn push_action(alloc: Global, row: &mut Vec<Written>, action: &Action) -> Result
 {
     match action {
         Action::Assign {
-            target, op, value, ..
+            target,
+            op,
+            value,
+            ..
         } => {
             push_target(alloc, row, target)?;
             push_infix(row, assignment_sign(*op))?;

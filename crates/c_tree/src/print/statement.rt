@@ -98,11 +98,7 @@ fn push_step(alloc: Global, row: &mut Vec<Written>, step: &[Action]) -> Result<(
     push_actions(alloc, row, step)
 }
 
-fn push_label(
-    alloc: Global,
-    row: &mut Vec<Written>,
-    value: &Option<Expr>,
-) -> Result<(), AllocError>
+fn push_label(alloc: Global, row: &mut Vec<Written>, value: &Option<Expr>) -> Result<(), AllocError>
     ensures { OnOk result (row.new.items ≡ row.old.items ++ rows.label_row (option_map tree_of value.now)) }
 {
     match value {
@@ -233,12 +229,7 @@ fn push_under(
 }
 
 #[cycle(statement)]
-fn push_else(
-    alloc: Global,
-    row: &mut Vec<Written>,
-    depth: u64,
-    no: &Else,
-) -> Result<(), AllocError>
+fn push_else(alloc: Global, row: &mut Vec<Written>, depth: u64, no: &Else) -> Result<(), AllocError>
     ensures { OnOk result (row.new.items ≡ row.old.items ++ rows.branch_row (else_of no.now) depth) }
 {
     push_word(alloc, row, b"else")?;

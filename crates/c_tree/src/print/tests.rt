@@ -117,7 +117,13 @@ fn tests_and_choices(rt: HostRuntime) -> Result<(), AllocError> {
 #[test]
 fn changes_and_calls(rt: HostRuntime) -> Result<(), AllocError> {
     let alloc = rt.alloc();
-    let set = Expr::assign(alloc, scalar(alloc, b"b")?, Some(Binary::Shl), number(1), AT)?;
+    let set = Expr::assign(
+        alloc,
+        scalar(alloc, b"b")?,
+        Some(Binary::Shl),
+        number(1),
+        AT,
+    )?;
     let e = Expr::assign(alloc, scalar(alloc, b"a")?, None, set, AT)?;
     assert!(rt; shown(alloc, e)?.is_same(b"a = b <<= 1"));
     let behind = Expr::bump_behind(scalar(alloc, b"i")?, false, AT);
@@ -157,5 +163,152 @@ fn numbers(rt: HostRuntime) -> Result<(), AllocError> {
     };
     let e = Expr::number(18446744073709551615, unsigned_long, AT);
     assert!(rt; shown(alloc, e)?.is_same(b"18446744073709551615ul"));
+    Ok(())
+}
+
+fn object(alloc: Global, text: &[u8]) -> Result<Object, AllocError> {
+    Ok(Object {
+        name: Text::from_slice(alloc, text)?,
+        at: AT,
+        kind: INT,
+        constant: false,
+        lengths: Vec::new(alloc),
+        init: None,
+    })
+}
+
+fn returns(alloc: Global, text: &[u8]) -> Result<Stmt, AllocError> {
+    Ok(Stmt::return_(Some(name(alloc, text)?), AT))
+}
+
+fn set(alloc: Global, text: &[u8], value: u64) -> Result<Action, AllocError> {
+    Ok(Action::assign(scalar(alloc, text)?, None, number(value), AT))
+}
+
+/// The text of `void f(void)` with this statement.
+fn shown_in_body(alloc: Global, stmt: Stmt) -> Result<Text, AllocError> {
+    let function = Function {
+        name: Text::from_slice(alloc, b"f")?,
+        at: AT,
+        result: None,
+        params: Vec::new(alloc),
+        body: Some(vec![in alloc; stmt]?),
+    };
+    let items = vec![in alloc; Item::Function(function)]?;
+    written(alloc, &Program { items, end: AT })
+}
+
+/// `for (i = 0; i < 4; ) { if (i == x) break; }`
+#[test]
+fn a_loop_with_break(rt: HostRuntime) -> Result<(), AllocError> {
+    let alloc = rt.alloc();
+    let found = pair(alloc, Binary::Eq, name(alloc, b"i")?, name(alloc, b"x")?)?;
+    let branch = Stmt::if_(alloc, found, Stmt::break_(AT), None, AT)?;
+    let body = Stmt::block(vec![in alloc; branch]?);
+    let first = Stmt::act(vec![in alloc; set(alloc, b"i", 0)?]?);
+    let below = pair(alloc, Binary::Lt, name(alloc, b"i")?, number(4))?;
+    let step = vec![in alloc; Action::bump(scalar(alloc, b"i")?, true, AT)]?;
+    let count = Stmt::for_(alloc, Some(first), Some(below), step, body, AT)?;
+    let text = shown_in_body(alloc, count)?;
+    assert!(rt;
+        text.is_same(
+            b"void f(void) {\n    for (i = 0; i < 4; i++) {\n        if (i == x)\n            break;\n    }\n}\n"
+        )
+    );
+    Ok(())
+}
+
+#[test]
+fn branches(rt: HostRuntime) -> Result<(), AllocError> {
+    let alloc = rt.alloc();
+    let last = Else::new(alloc, Stmt::block(Vec::new(alloc)), AT)?;
+    let inner = Stmt::if_(
+        alloc,
+        name(alloc, b"b")?,
+        returns(alloc, b"b")?,
+        Some(last),
+        AT,
+    )?;
+    let no = Else::new(alloc, inner, AT)?;
+    let yes = Stmt::block(vec![in alloc; Stmt::continue_(AT)]?);
+    let outer = Stmt::if_(alloc, name(alloc, b"a")?, yes, Some(no), AT)?;
+    let text = shown_in_body(alloc, outer)?;
+    assert!(rt;
+        text.is_same(
+            b"void f(void) {\n    if (a) {\n        continue;\n    } else if (b)\n        return b;\n    else {\n    }\n}\n"
+        )
+    );
+    Ok(())
+}
+
+#[test]
+fn labels(rt: HostRuntime) -> Result<(), AllocError> {
+    let alloc = rt.alloc();
+    let first = Stmt::case_(alloc, Some(number(1)), Stmt::act(Vec::new(alloc)), AT)?;
+    let other = Stmt::case_(alloc, None, Stmt::return_(None, AT), AT)?;
+    let body = vec![in alloc; first, Stmt::break_(AT), other]?;
+    let text = shown_in_body(alloc, Stmt::switch_(name(alloc, b"a")?, body, AT))?;
+    assert!(rt;
+        text.is_same(
+            b"void f(void) {\n    switch (a) {\n    case 1:\n        ;\n        break;\n    default:\n        return;\n    }\n}\n"
+        )
+    );
+    Ok(())
+}
+
+#[test]
+fn other_loops(rt: HostRuntime) -> Result<(), AllocError> {
+    let alloc = rt.alloc();
+    let behind = Expr::bump_behind(scalar(alloc, b"n")?, false, AT);
+    let values = vec![in alloc; Action::value(behind), Action::value(name(alloc, b"n")?)]?;
+    let inner = Stmt::do_(alloc, Stmt::act(values), name(alloc, b"a")?, AT)?;
+    let outer = Stmt::while_(alloc, number(1), inner, AT)?;
+    let text = shown_in_body(alloc, outer)?;
+    assert!(rt;
+        text.is_same(
+            b"void f(void) {\n    while (1)\n        do\n            (n--), n;\n        while (a);\n}\n"
+        )
+    );
+    Ok(())
+}
+
+/// `const unsigned char t[2] = {1, 2};` and a function that is declared only.
+#[test]
+fn declarations(rt: HostRuntime) -> Result<(), AllocError> {
+    let alloc = rt.alloc();
+    let values = vec![in alloc; Init::single(number(1)), Init::single(number(2))]?;
+    let mut table = object(alloc, b"t")?;
+    table.kind = CType::Int {
+        signed: false,
+        bits: 8,
+    };
+    table.constant = true;
+    table.lengths = vec![in alloc; Some(number(2))]?;
+    table.init = Some(Init::list(values, AT));
+    let mut unnamed = object(alloc, b"")?;
+    unnamed.lengths = vec![in alloc; None]?;
+    let named = Param {
+        object: object(alloc, b"x")?,
+        named: true,
+    };
+    let function = Function {
+        name: Text::from_slice(alloc, b"g")?,
+        at: AT,
+        result: Some(CType::Bool),
+        params: vec![in alloc;
+            named,
+            Param {
+                object: unnamed,
+                named: false
+            },
+        ]?,
+        body: None,
+    };
+    let items = vec![in alloc;
+        Item::Objects(vec![in alloc; table, object(alloc, b"s")?]?),
+        Item::Function(function),
+    ]?;
+    let text = written(alloc, &Program { items, end: AT })?;
+    assert!(rt; text.is_same(b"const unsigned char t[2] = {1, 2}, s;\n_Bool g(int x, int[]);\n"));
     Ok(())
 }

@@ -73,11 +73,7 @@ fn may_touch(kind: &TokenKind, next: &TokenKind) -> bool
 }
 
 /// Appends a space behind a token where what follows would be read as a part of it.
-fn push_separator(
-    out: &mut Vec<u8>,
-    kind: &TokenKind,
-    rest: &[Written],
-) -> Result<(), AllocError>
+fn push_separator(out: &mut Vec<u8>, kind: &TokenKind, rest: &[Written]) -> Result<(), AllocError>
     ensures { OnOk result (out.new.items ≡ out.old.items ++ rows.separator kind.now rest.now) }
 {
     if rest.is_empty() {

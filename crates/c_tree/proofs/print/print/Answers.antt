@@ -1,7 +1,4 @@
-use Rattle.std.proofs.Common.{◌≡◌, sym, subst}
-use Rattle.std.specs.Prelude.{Result, Ok, Err, IfOk}
 use Rattle.c_tree.specs.View.{program_of}
-use Rattle.c_tree.specs.ProgramText.{IsTextOf}
 use Rattle.c_tree.proofs.PrintedPrograms.{text_is_printed}
 use Rattle.c_tree.proofs.print.print.Goals as goal
 

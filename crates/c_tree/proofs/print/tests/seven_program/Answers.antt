@@ -1,4 +1,4 @@
-use Rattle.std.proofs.Common.{◌≡◌, ℕ, true, List, [], ◌∷◌, Some, ◌∙◌, ap, codes, map}
+use Rattle.std.proofs.Common.{ℕ, true, List, [], ◌∷◌, Some, ◌∙◌, ap, codes, map}
 use Rattle.c_token.specs.Constants.{integer}
 use Rattle.c_tree.specs.Tree as tree
 use Rattle.c_tree.specs.Tree.{StmtTrees, ParamTree, ProgramTree}
