@@ -1,3 +1,4 @@
+pub mod Steps
 pub mod Remainders
 pub mod Passes
 pub mod Widths

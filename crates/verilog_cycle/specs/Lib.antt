@@ -1,3 +1,5 @@
 pub mod Simulation
 pub mod Inside
+pub mod Program
+pub mod Running
 pub mod Examples

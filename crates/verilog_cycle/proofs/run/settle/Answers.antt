@@ -1,17 +1,19 @@
-use Rattle.std.proofs.Common.{◌≡◌, ◌∙◌, ◌<◌, ◌≤◌, ◌^◌, length, refl, sym, subst, arith}
+use Rattle.std.proofs.Common.{◌≡◌, ◌∙◌, ◌<◌, ◌≤◌, ◌^◌, ◌-◌, ◌+◌, length, get_or, ap, refl, sym, subst, arith}
 use Rattle.std.proofs.lemmas.List.{length-set, length-map}
 use Rattle.rtl_core.specs.declared.design.Wire.{Wire}
 use Rattle.rtl_core.specs.Netlist.{netlist_of}
 use Rattle.rtl_core.specs.ClockStep.{wire_widths, wire_values, register_widths}
 use Rattle.rtl_core.proofs.Fits.{fit_length}
 use Rattle.verilog_cycle.specs.Inside.{state_of}
+use Rattle.verilog_cycle.specs.Program.{IsInstruction}
 use Rattle.verilog_cycle.proofs.Passes.{moved}
+use Rattle.verilog_cycle.proofs.Steps.{no_instruction, cell_written, first_wire}
 use Rattle.verilog_cycle.proofs.Widths.{net_within}
 use Rattle.verilog_cycle.proofs.Settling.{wire_at_fits, wire_settled, wires_settled, fit_wire}
-use Rattle.verilog_cycle.proofs.expression.settle.Goals as goal
+use Rattle.verilog_cycle.proofs.run.settle.Goals as goal
 
-pub net_value-requires : goal.net_value-requires
-net_value-requires c =
+pub wire_value-value-requires : goal.wire_value-value-requires
+wire_value-value-requires c =
     let inside : c.loop-k.k < length c.args.design.now.wires.items = omega (arith, c.loop-k-test.true, c.len-k-end.ensures) in
     let at = wire_at_fits (netlist_of c.args.design.now) c.requires.valid.wires c.loop-k.k c.index.result.now inside c.index.ensures in
     record {
@@ -20,6 +22,9 @@ net_value-requires c =
       some = at.0.0;
       within = at.0.1;
       fits = at.1;
+      cells = c.loop-k.invariant.cells;
+      is = subst (λ (x : Wire). IsInstruction (netlist_of c.args.design.now) x (get_or c.args.program.now c.loop-k.k no_instruction)) (sym c.index.ensures)
+          (c.requires.program.each c.loop-k.k c.index.result.now no_instruction inside);
     }
 
 pub index_mut-requires : goal.index_mut-requires
@@ -30,6 +35,7 @@ loop-k-init c =
     let d = netlist_of c.args.design.now in
     record {
       behind = refl;
+      cells = c.requires.cells;
       room = sym (fit_length (wire_widths d.wires) c.args.values.now.wires.items c.requires.values.wires) ∙ length-map d.wires (λ (w : Wire). w.bits);
       values = c.requires.values;
       pins = refl;
@@ -44,13 +50,17 @@ loop-k-preserved c =
     let v = c.loop-k.values in
     let s = state_of v c.args.mems.now in
     let w = c.index.result.now in
-    let x = c.net_value.result in
+    let wires : c.len.result ≡ length c.args.design.now.wires.items = omega (arith, c.len.ensures) in
+    let first = (first_wire d v c.loop-k.cells c.len.result i.values i.cells wires).1 in
+    let first_is : length c.args.cells.now - c.len.result ≡ length v.pins.items + length v.regs.items = ap (λ n. n - c.len.result) (sym c.loop-k.auto.cells) ∙ first in
+    let x = c.wire_value-value.result in
     let inside : c.loop-k.k < length c.args.design.now.wires.items = omega (arith, c.loop-k-test.true, c.len-k-end.ensures) in
     let at = wire_at_fits d c.requires.valid.wires c.loop-k.k w inside c.index.ensures in
-    let fits : x < 2 ^ w.bits = subst (λ n. n < 2 ^ w.bits) (sym c.net_value.ensures) (net_within d v c.args.mems.now i.values c.requires.words w.bits w.net at.1) in
+    let fits : x < 2 ^ w.bits = subst (λ n. n < 2 ^ w.bits) (sym c.wire_value-value.ensures) (net_within d v c.args.mems.now i.values c.requires.words w.bits w.net at.1) in
     record {
       behind = wire_settled d s v.pins.items v.wires.items c.loop-k.k w x (wire_values d s v.pins.items) c.requires.valid.wires (fit_length (register_widths d) v.regs.items i.values.regs) (sym i.room)
-          inside c.index.ensures c.net_value.ensures i.behind;
+          inside c.index.ensures c.wire_value-value.ensures i.behind;
+      cells = cell_written v.pins.items v.regs.items v.wires.items c.loop-k.cells c.set_cell.new.cells (length c.args.cells.now - c.len.result) c.loop-k.k x c.low_word.result i.cells first_is c.low_word.ensures c.set_cell.ensures;
       room = length-set v.wires.items c.loop-k.k x ∙ i.room;
       values = record {
         pins = i.values.pins;
@@ -73,9 +83,22 @@ returns c =
     let all : length d.wires ≤ c.loop-k.k = omega (arith, c.loop-k-test.false, c.len-k-end.ensures) in
     let settled = wires_settled d s v.pins.items v.wires.items c.loop-k.k (wire_values d s v.pins.items) (sym i.room) all i.behind in
     record {
+      cells = i.cells;
       pins = i.pins;
       regs = i.regs;
       next = i.next;
       wires = moved (λ p r n. v.wires.items ≡ wire_values d (record { regs = r; mems = c.args.mems.now }) p) v.pins.items old.pins.items v.regs.items old.regs.items v.next.items old.next.items
           (sym i.pins) (sym i.regs) (sym i.next) settled;
     }
+
+pub overflow_sub-first : goal.overflow_sub-first
+overflow_sub-first c =
+    let wires : c.len.result ≡ length c.args.design.now.wires.items = omega (arith, c.len.ensures) in
+    (first_wire (netlist_of c.args.design.now) c.args.values.now c.args.cells.now c.len.result c.requires.values c.requires.cells wires).0
+
+pub set_cell-requires : goal.set_cell-requires
+set_cell-requires c =
+    let wires : c.len.result ≡ length c.args.design.now.wires.items = omega (arith, c.len.ensures) in
+    let inside : c.loop-k.k < length c.args.design.now.wires.items = omega (arith, c.loop-k-test.true, c.len-k-end.ensures) in
+    let first = first_wire (netlist_of c.args.design.now) c.args.values.now c.args.cells.now c.len.result c.requires.values c.requires.cells wires in
+    omega (arith, first.0, inside, wires, c.loop-k.auto.cells)
