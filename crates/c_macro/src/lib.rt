@@ -1,8 +1,8 @@
 //! What the tokens of a source become by its directives, and by the words that stand for tokens.
 #![tactic(auto)]
 
-ghost use Rattle.std.specs.Prelude.{List, IfOk};
-ghost use Rattle.c_token.specs.Replacement.{Table, Becomes, FirstReplacementFault, StandsForOne, ReplacesOnce};
+ghost use Rattle.std.specs.Prelude.{List, length, ◌≤◌, IfOk};
+ghost use Rattle.c_token.specs.Replacement.{Table, Becomes, FirstReplacementFault, StandsForOne, ReplacesOnce, token_limit};
 ghost use Rattle.c_token.specs.declared.token.Token.{Token};
 ghost use Rattle.hls_base.specs.Refusals.{IfRefused};
 
@@ -24,6 +24,7 @@ use std::alloc::Global;
 /// The time grows with the tokens that are read and put out and the words that are replaced, and a count stops as soon as it passes its limit.
 pub fn replace(alloc: Global, tokens: &[Token]) -> Result<Vec<Token>, Fail>
     ensures becomes { IfOk result (λ replaced. Becomes tokens.now replaced.items) }
+    ensures within { IfOk result (λ replaced. length replaced.items ≤ token_limit) }
     ensures refused { IfRefused result (λ refusal. FirstReplacementFault tokens.now refusal) }
 
     // what holds of the relations that these clauses speak of
