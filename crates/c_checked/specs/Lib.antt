@@ -1,0 +1,10 @@
+pub mod Faults
+pub mod Names
+pub mod Lengths
+pub mod Calls
+pub mod Conflicts
+pub mod Labels
+pub mod Limits
+pub mod Expressions
+pub mod Statements
+pub mod Programs

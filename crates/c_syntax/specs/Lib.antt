@@ -1,0 +1,5 @@
+pub mod Sorts
+pub mod Steps
+pub mod Advances
+pub mod Notes
+pub mod Faults

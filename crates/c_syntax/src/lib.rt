@@ -1,0 +1,98 @@
+//! The first token of a token list that no program of C has there, or that is beyond the limits.
+#![tactic(auto)]
+
+ghost use Rattle.std.specs.Prelude.{◌≡◌, ◌⊎◌, IfOk};
+ghost use Rattle.hls_base.specs.Refusals.{IfRefused};
+ghost use Rattle.c_tree.specs.Tree.{ProgramTree};
+ghost use Rattle.c_tree.specs.Terminals.{terminals};
+ghost use Rattle.c_tree.specs.Refusal.{IsProgram, refusal, rule_of};
+ghost use Rattle.c_syntax.specs.Sorts.{sort_of, rule_of_sort};
+ghost use Rattle.c_syntax.specs.Faults.{IsFoundFault};
+
+mod action;
+mod advance;
+mod declaration;
+mod depths;
+mod expression;
+mod goal;
+mod item;
+mod sign;
+mod sort;
+mod statement;
+mod step;
+#[cfg(test)]
+mod tests;
+mod words;
+
+use crate::advance::{Advance, is_complete, take_token};
+use crate::depths::{Depths, NESTING_LIMIT};
+use crate::goal::{Spot, Stack};
+use crate::sort::{Sort, sort_of};
+use c_token::token::Token;
+use hls_base::place::Place;
+use hls_base::refusal::{Fail, Refusal};
+use std::alloc::Global;
+
+/// The rule of a token that no program has there.
+fn rule_of(sort: Sort) -> u8
+    ensures { result ≡ rule_of_sort sort }
+{
+    match sort {
+        Sort::Unsupported => 20,
+        Sort::Equal | Sort::Assignment | Sort::Bump => 23,
+        _ => 6,
+    }
+}
+
+/// The fault at a token with which no program goes on, where so many constructs are open.
+fn stop_at(token: &Token, sort: Sort, open: u8) -> Refusal
+    requires { sort ≡ sort_of token.now.kind }
+    ensures { (result ≡ refusal 32 token.now.place) ⊎ (result ≡ refusal (rule_of token.now.kind) token.now.place) }
+{
+    let rule = if NESTING_LIMIT < open {
+        32
+    } else {
+        rule_of(sort)
+    };
+    Refusal {
+        rule,
+        place: token.place,
+    }
+}
+
+/// Whether the tokens are a program within the limits. If not, its fault: the first token that no program has there (rule 20, 23 or 6), or that is too deep or an operator too many (rule 32).
+pub fn find_fault(alloc: Global, tokens: &[Token], end: Place) -> Result<(), Fail>
+    ensures accepted { IfOk result (λ _. (program : ProgramTree) × IsProgram (terminals tokens.now) end program) }
+    ensures refused { IfRefused result (IsFoundFault (terminals tokens.now) end) }
+{
+    let mut stack = Stack::new(alloc)?;
+    let mut depths = Depths::new(alloc);
+    let mut count = 0;
+    for (index, token) in tokens.iter().enumerate() {
+        let sort = sort_of(&token.kind);
+        let spot = Spot { index, count };
+        match take_token(&mut stack, spot, sort)? {
+            Advance::Taken(take) => {
+                depths.push(take)?;
+                count = take.count;
+            }
+            Advance::Stopped { open } => {
+                if let Some(place) = depths.place_beyond(tokens) {
+                    return Err(Fail::Refused(Refusal { rule: 32, place }));
+                }
+                return Err(Fail::Refused(stop_at(token, sort, open)));
+            }
+        }
+    }
+    if let Some(place) = depths.place_beyond(tokens) {
+        return Err(Fail::Refused(Refusal { rule: 32, place }));
+    }
+    if is_complete(stack) {
+        Ok(())
+    } else {
+        Err(Fail::Refused(Refusal {
+            rule: 6,
+            place: end,
+        }))
+    }
+}

@@ -1,0 +1,25 @@
+-- Lengths and labels, of the code's enums.
+use Rattle.hls_base.specs.declared.place.Place.{Place}
+use Rattle.c_checked.specs.Lengths as lengths
+use Rattle.c_checked.specs.Labels as labels
+use Rattle.c_types.specs.declared.lengths.Length.{Length}
+use Rattle.c_types.specs.declared.lengths.Length.TheVariants as l
+use Rattle.c_types.specs.declared.labels.Label.{Label}
+use Rattle.c_types.specs.declared.labels.Label.TheVariants as b
+use Rattle.c_types.specs.declared.labels.Around.{Around}
+
+abbrev pub length_view : Length → lengths.Length
+length_view (l.Number n) = lengths.number n
+length_view l.LeftOut = lengths.left_out
+length_view l.NoConstant = lengths.no_constant
+
+abbrev pub label_view : Label → labels.Label
+label_view (b.Case n) = labels.case_of n
+label_view b.Default = labels.default
+label_view b.Faulty = labels.faulty
+
+abbrev pub label_at_view : Label → Place → labels.LabelAt
+label_at_view label at = record { label = label_view label; at = at }
+
+abbrev pub around_view : Around → labels.Around
+around_view a = record { result = a.returns; breaks = a.breaks; continues = a.continues; labels = a.labels }

@@ -1,0 +1,10 @@
+//! The values of C: types, conversions, operators, and constant expressions.
+#![tactic(auto)]
+
+mod arithmetic;
+pub mod constant;
+pub mod convert;
+pub mod kind;
+pub mod operate;
+#[cfg(test)]
+mod tests;
