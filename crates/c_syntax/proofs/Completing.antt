@@ -1,5 +1,5 @@
 -- The goals take each token of an expression, with its marks.
-use Rattle.std.proofs.Common.{◌≡◌, ℕ, zero, suc, ◌+◌, ◌<◌, ◌≤◌, Bool, true, false, List, [], ◌∷◌, ◌++◌, codes, length, Option, Some, None, ◌⊎◌, inl, inr, refl, ap, sym, ◌∙◌, subst, arith, append_assoc, append-nil}
+use Rattle.std.proofs.Common.{◌≡◌, ℕ, suc, ◌≤◌, Bool, true, false, List, [], ◌∷◌, ◌++◌, length, Option, Some, None, ◌⊎◌, inl, inr, refl, ap, sym, ◌∙◌, arith, append_assoc}
 use Rattle.std.specs.Prelude.{if◌then◌else◌}
 use Rattle.hls_base.specs.declared.place.Place.{Place}
 use Rattle.c_token.specs.declared.ctype.CType.{CType}
@@ -9,22 +9,20 @@ use Rattle.c_token.specs.declared.token.TokenKind.TheVariants as k
 use Rattle.c_tree.specs.declared.operator.Unary.{Unary}
 use Rattle.c_tree.specs.declared.operator.Binary.{Binary}
 use Rattle.c_tree.specs.Terminals.{Terminal, terminal, sign, word, is_keyword, prefix_of, operator_of, assignment_of, bump_of}
-use Rattle.c_tree.specs.Tree.{Tree, TargetTree, Trees, ActionTree}
-use Rattle.c_tree.specs.Tree as tree
+use Rattle.c_tree.specs.Tree.{TargetTree, Trees, ActionTree}
 use Rattle.c_tree.specs.Grammar as g
 use Rattle.c_tree.specs.Grammar.{Derives, DerivesTarget, DerivesSubscripts, DerivesArguments, DerivesList, DerivesChange}
-use Rattle.c_tree.specs.Limits.{Mark, plain, operator, closing, inside, held, pair, whole, flat, marks, target_marks, subscript_marks, argument_marks, list_marks}
+use Rattle.c_tree.specs.Limits.{Mark, plain, closing, inside, pair, whole, marks, target_marks, subscript_marks}
 use Rattle.c_syntax.specs.declared.goal.Goal.{Goal}
 use Rattle.c_syntax.specs.declared.goal.Goal.TheVariants as G
 use Rattle.c_syntax.specs.declared.goal.Spot.{Spot}
-use Rattle.c_syntax.specs.declared.goal.Raise.TheVariants as r
 use Rattle.c_syntax.specs.declared.sort.Sort.{Sort}
 use Rattle.c_syntax.specs.declared.sort.Sort.TheVariants as o
 use Rattle.c_syntax.specs.Sorts.{sort_of, sort_of_sign}
-use Rattle.c_syntax.specs.Steps.{Step, deeper, step_of, is_optional, taken_or, next, all_optional}
+use Rattle.c_syntax.specs.Steps.{deeper, step_of, is_optional, taken_or, next, all_optional}
 use Rattle.c_syntax.proofs.Seen.{name_sort}
 use Rattle.c_syntax.specs.Notes.{Noted}
-use Rattle.c_syntax.proofs.Marking.{run, going, place, count_after, noted_at, place-append, count-append, place-inside, count-inside, place-whole, count-whole, place-pair, count-pair, held_behind, held_from, count-held}
+use Rattle.c_syntax.proofs.Marking.{run, going, place, count_after, noted_at, place-inside, count-inside, place-whole, count-whole, place-pair, count-pair}
 
 -- ---- sorts of signs
 

@@ -1,5 +1,5 @@
 -- The goals take each token of an expression, by induction on its derivation.
-use Rattle.std.proofs.Common.{◌≡◌, ℕ, zero, suc, ◌+◌, ◌<◌, ◌≤◌, Bool, true, false, List, [], ◌∷◌, ◌++◌, codes, length, Option, Some, None, ◌⊎◌, inl, inr, refl, ap, sym, ◌∙◌, subst, arith, append_assoc, append-nil}
+use Rattle.std.proofs.Common.{◌≡◌, ℕ, suc, ◌≤◌, Bool, true, false, List, [], ◌∷◌, ◌++◌, length, Option, Some, None, inl, inr, refl, ap, sym, ◌∙◌, subst, arith, append_assoc}
 use Rattle.std.specs.Prelude.{if◌then◌else◌, is_some}
 use Rattle.hls_base.specs.declared.place.Place.{Place}
 use Rattle.c_token.specs.declared.ctype.CType.{CType}
@@ -18,16 +18,15 @@ use Rattle.c_tree.specs.Limits.{Mark, plain, operator, closing, inside, held, pa
 use Rattle.c_syntax.specs.declared.goal.Goal.{Goal}
 use Rattle.c_syntax.specs.declared.goal.Goal.TheVariants as G
 use Rattle.c_syntax.specs.declared.goal.Spot.{Spot}
-use Rattle.c_syntax.specs.declared.goal.Raise.TheVariants as r
 use Rattle.c_syntax.specs.declared.sort.Sort.{Sort}
 use Rattle.c_syntax.specs.declared.sort.Sort.TheVariants as o
 use Rattle.c_syntax.specs.Sorts.{sort_of, sort_of_sign, begins_operand, begins_kind}
-use Rattle.c_syntax.specs.Steps.{Step, deeper, more, fresh, step_of, is_optional, taken_or, next, behind, assign, expression, kind, group}
+use Rattle.c_syntax.specs.Steps.{Step, deeper, more, fresh, step_of, taken_or, next, behind, assign, expression, kind}
 use Rattle.c_syntax.proofs.Seen.{name_sort}
 use Rattle.c_syntax.proofs.Attach.{lowest, highest}
-use Rattle.c_syntax.specs.Notes.{Noted, hold_from, hold_behind}
+use Rattle.c_syntax.specs.Notes.{Noted, hold_behind}
 use Rattle.c_syntax.proofs.Marking.{run, going, place, count_after, noted_at, place-append, count-append, place-inside, count-inside, place-whole, count-whole, place-pair, count-pair, count-flat, held_behind, held_from, count-held}
-use Rattle.c_syntax.proofs.Completing.{operator_sort, prefix_sort, bump_sort, assignment_sort, at_first, ends_operand, ends_choice, ends_all, no_bracket, goes, goes_on, for_operand, for_choice, spot_at, run_as, skip, choice_goal, expression_goal, skip_operators, skip_commas, After, operand, target, bumped, bumping, after, Mode, bare, assigning, acting, start, finish, begin, first_of, Proper, ReadsOperand, ReadsBinary, ReadsChoice, ReadsAssign, ReadsComma, Claims, Whole, whole_expression, ReadsSubscripts, no_subscripts, more_subscripts, subscript_count, target_count, named_goals, name_start, name_subscripts, name_bumped, name_reads, ReadsArguments, call_reads, number_reads, group_start, prefix_reads, by_comma, by_assign, by_choice, by_binary, by_operand, tighter, operand_bracket, weaker}
+use Rattle.c_syntax.proofs.Completing.{operator_sort, prefix_sort, bump_sort, assignment_sort, at_first, ends_operand, no_bracket, goes, goes_on, spot_at, run_as, skip, choice_goal, bumped, bumping, Mode, bare, assigning, acting, start, finish, begin, first_of, Proper, ReadsOperand, ReadsBinary, ReadsChoice, ReadsAssign, ReadsComma, Claims, Whole, whole_expression, ReadsSubscripts, no_subscripts, more_subscripts, subscript_count, target_count, named_goals, name_start, name_subscripts, name_bumped, name_reads, ReadsArguments, call_reads, number_reads, group_start, prefix_reads, by_comma, by_assign, by_choice, by_binary, by_operand, tighter, operand_bracket, weaker}
 use Rattle.c_syntax.proofs.CompletingTypes.{kind_run, kind_starts, anywhere}
 
 -- ---- what an expression begins with

@@ -1,6 +1,6 @@
 -- The goals take each token of a program.
-use Rattle.std.proofs.Common.{◌≡◌, ℕ, zero, suc, ◌≤◌, Bool, true, false, List, [], ◌∷◌, ◌++◌, codes, length, Option, Some, None, refl, ap, sym, ◌∙◌, subst, arith, append_assoc, append-nil}
-use Rattle.std.specs.Prelude.{if◌then◌else◌, is_some}
+use Rattle.std.proofs.Common.{◌≡◌, ℕ, Bool, true, false, List, [], ◌∷◌, ◌++◌, codes, length, Option, Some, None, refl, ap, sym, ◌∙◌, append_assoc}
+use Rattle.std.specs.Prelude.{is_some}
 use Rattle.hls_base.specs.declared.place.Place.{Place}
 use Rattle.c_token.specs.declared.ctype.CType.{CType}
 use Rattle.c_token.specs.declared.punct.Punct.TheVariants as p
@@ -13,21 +13,21 @@ use Rattle.c_tree.specs.Kinds.{DerivesWords, DerivesKind, type_of_words}
 use Rattle.c_tree.specs.Kinds as kinds
 use Rattle.c_tree.specs.Grammar as g
 use Rattle.c_tree.specs.Grammar.{DerivesInitialiser, DerivesLengths, DerivesObjects, DerivesDeclaration, DerivesParam, DerivesParamList, DerivesParams, DerivesDefinition, DerivesItem, DerivesItems}
-use Rattle.c_tree.specs.Limits.{Mark, plain, closing, inside, pair, flat, length_marks, initialiser_marks, objects_marks, declaration_marks, body_marks, param_marks, param_list_marks, params_marks, definition_marks, item_marks, item_list_marks}
+use Rattle.c_tree.specs.Limits.{plain, closing, pair, flat, length_marks, initialiser_marks, objects_marks, param_marks, param_list_marks, params_marks, definition_marks, item_marks, item_list_marks}
 use Rattle.c_syntax.specs.declared.goal.Goal.{Goal}
 use Rattle.c_syntax.specs.declared.goal.Goal.TheVariants as G
 use Rattle.c_syntax.specs.declared.goal.Spot.{Spot}
 use Rattle.c_syntax.specs.declared.sort.Sort.{Sort}
 use Rattle.c_syntax.specs.declared.sort.Sort.TheVariants as o
 use Rattle.c_syntax.specs.Sorts.{sort_of, begins_kind}
-use Rattle.c_syntax.specs.Steps.{Step, deeper, fresh, step_of, is_optional, taken_or, next, behind, kind, params, param_goals, item}
+use Rattle.c_syntax.specs.Steps.{deeper, step_of, taken_or, next, behind, kind, params, param_goals, item}
 use Rattle.c_syntax.proofs.Seen.{name_sort, specifier_sort}
 use Rattle.c_syntax.specs.Notes.{Noted}
 use Rattle.c_syntax.proofs.Marking.{run, going, put, put_at, put-append, put-pair, put-flat}
 use Rattle.c_syntax.proofs.Completing.{at_first, spot_at, run_as, skip, weaker}
 use Rattle.c_syntax.proofs.CompletingTypes.{StartsKind, kind_starts, kind_run, anywhere, in_item, no_kind}
 use Rattle.c_syntax.proofs.CompletingExpressions.{taken_optional}
-use Rattle.c_syntax.proofs.CompletingObjects.{Passes, via, same_tokens, same_notes, at_once, after_run, no_length, no_initialiser, ends_object, lengths_pass, tail_pass, objects_pass}
+use Rattle.c_syntax.proofs.CompletingObjects.{Passes, via, same_tokens, same_notes, at_once, after_run, no_length, ends_object, lengths_pass, tail_pass, objects_pass}
 use Rattle.c_syntax.proofs.CompletingStatements.{body_pass}
 
 -- ---- parameters

@@ -1,28 +1,27 @@
 -- The goals take each token of actions, objects and declarations.
-use Rattle.std.proofs.Common.{◌≡◌, ℕ, zero, suc, ◌≤◌, Bool, true, false, List, [], ◌∷◌, ◌++◌, codes, length, Option, Some, None, ◌⊎◌, inl, inr, refl, ap, sym, ◌∙◌, subst, arith, append_assoc, append-nil}
+use Rattle.std.proofs.Common.{◌≡◌, ℕ, Bool, true, false, List, [], ◌∷◌, ◌++◌, length, Option, Some, None, inl, inr, refl, ap, sym, ◌∙◌, arith, append_assoc}
 use Rattle.std.specs.Prelude.{if◌then◌else◌, is_some}
 use Rattle.hls_base.specs.declared.place.Place.{Place}
 use Rattle.c_token.specs.declared.ctype.CType.{CType}
 use Rattle.c_token.specs.declared.punct.Punct.{Punct}
 use Rattle.c_token.specs.declared.punct.Punct.TheVariants as p
-use Rattle.c_token.specs.declared.token.TokenKind.TheVariants as k
 use Rattle.c_tree.specs.declared.operator.Binary.{Binary}
-use Rattle.c_tree.specs.Terminals.{Terminal, terminal, sign, word, is_keyword, assignment_of, bump_of}
+use Rattle.c_tree.specs.Terminals.{Terminal, sign, word, assignment_of}
 use Rattle.c_tree.specs.Tree.{Tree, TargetTree, Trees, ActionTree, InitTree, InitTrees, ObjectTree}
 use Rattle.c_tree.specs.Grammar as g
 use Rattle.c_tree.specs.Grammar.{Derives, DerivesSubscripts, DerivesOptional, DerivesChange, DerivesAction, DerivesActionList, DerivesActions, DerivesInit, DerivesInits, DerivesInitialiser, DerivesLengths, DerivesObject, DerivesObjects, DerivesDeclaration}
-use Rattle.c_tree.specs.Limits.{Mark, plain, closing, inside, pair, whole, flat, marks, target_marks, subscript_marks, optional_marks, change_marks, action_marks, action_list_marks, actions_marks, init_marks, inits_marks, initialiser_marks, length_marks, object_marks, objects_marks, declaration_marks}
+use Rattle.c_tree.specs.Limits.{plain, closing, whole, flat, marks, target_marks, subscript_marks, optional_marks, change_marks, action_marks, action_list_marks, actions_marks, init_marks, inits_marks, initialiser_marks, length_marks, object_marks, objects_marks, declaration_marks}
 use Rattle.c_syntax.specs.declared.goal.Goal.{Goal}
 use Rattle.c_syntax.specs.declared.goal.Goal.TheVariants as G
 use Rattle.c_syntax.specs.declared.goal.Spot.{Spot}
 use Rattle.c_syntax.specs.declared.sort.Sort.{Sort}
 use Rattle.c_syntax.specs.declared.sort.Sort.TheVariants as o
-use Rattle.c_syntax.specs.Sorts.{sort_of, sort_of_sign, begins_operand}
-use Rattle.c_syntax.specs.Steps.{Step, deeper, step_of, is_optional, taken_or, next, behind, choice, assign, action, init}
+use Rattle.c_syntax.specs.Sorts.{sort_of, begins_operand}
+use Rattle.c_syntax.specs.Steps.{Step, deeper, step_of, taken_or, next, behind, choice, assign, action, init}
 use Rattle.c_syntax.proofs.Seen.{name_sort}
 use Rattle.c_syntax.specs.Notes.{Noted}
 use Rattle.c_syntax.proofs.Marking.{run, going, place, count_after, noted_at, put, put_at, put-append, put-pair, put-whole, put-flat, place-pair, place-whole, count-whole}
-use Rattle.c_syntax.proofs.Completing.{assignment_sort, bump_sort, at_first, ends_operand, ends_choice, ends_all, no_bracket, for_operand, for_choice, spot_at, run_as, skip, choice_goal, expression_goal, skip_operators, bumping, acting, bare, whole_expression, ReadsSubscripts, subscript_count, target_count, name_bumped, operand_bracket, weaker}
+use Rattle.c_syntax.proofs.Completing.{assignment_sort, bump_sort, at_first, ends_operand, ends_choice, ends_all, no_bracket, for_operand, for_choice, spot_at, run_as, skip, choice_goal, expression_goal, skip_operators, bumping, acting, bare, whole_expression, name_bumped, operand_bracket, weaker}
 use Rattle.c_syntax.proofs.CompletingTypes.{kind_run, anywhere, no_kind}
 use Rattle.c_syntax.proofs.CompletingExpressions.{Starts, starts, starts_more, taken_optional, assign_some, claims, target_read, subscripts_read, assignment_no_bracket, bump_no_bracket, bump_start}
 

@@ -1,25 +1,25 @@
 -- The goals take each token of a statement.
-use Rattle.std.proofs.Common.{◌≡◌, ℕ, zero, suc, ◌≤◌, Bool, true, false, List, [], ◌∷◌, ◌++◌, codes, length, Option, Some, None, ◌⊎◌, inl, inr, refl, ap, sym, ◌∙◌, subst, arith, append_assoc, append-nil}
-use Rattle.std.specs.Prelude.{if◌then◌else◌, is_some}
+use Rattle.std.proofs.Common.{◌≡◌, ℕ, Bool, true, false, List, [], ◌∷◌, ◌++◌, codes, Option, None, refl, ap, sym, ◌∙◌, append_assoc}
+use Rattle.std.specs.Prelude.{if◌then◌else◌}
 use Rattle.hls_base.specs.declared.place.Place.{Place}
 use Rattle.c_token.specs.declared.punct.Punct.TheVariants as p
-use Rattle.c_tree.specs.Terminals.{Terminal, terminal, sign, word}
+use Rattle.c_tree.specs.Terminals.{Terminal, sign, word}
 use Rattle.c_tree.specs.Tree.{Tree, ActionTree, ObjectTree, StmtTree, StmtTrees, FirstTree}
 use Rattle.c_tree.specs.Grammar as g
 use Rattle.c_tree.specs.Grammar.{Derives, DerivesActions, DerivesDeclaration, DerivesStatement, DerivesFirst, DerivesBlock, DerivesBody, ends_open}
-use Rattle.c_tree.specs.Limits.{Mark, plain, closing, inside, held, pair, whole, marks, optional_marks, action_list_marks, actions_marks, declaration_marks, statement_marks, first_marks, block_marks, body_marks}
+use Rattle.c_tree.specs.Limits.{plain, closing, held, pair, whole, marks, optional_marks, action_list_marks, actions_marks, declaration_marks, statement_marks, first_marks, body_marks}
 use Rattle.c_syntax.specs.declared.goal.Goal.{Goal}
 use Rattle.c_syntax.specs.declared.goal.Goal.TheVariants as G
 use Rattle.c_syntax.specs.declared.goal.Spot.{Spot}
 use Rattle.c_syntax.specs.declared.sort.Sort.{Sort}
 use Rattle.c_syntax.specs.declared.sort.Sort.TheVariants as o
 use Rattle.c_syntax.specs.Sorts.{sort_of, begins_operand, begins_kind}
-use Rattle.c_syntax.specs.Steps.{Step, deeper, fresh, step_of, is_optional, taken_or, next, behind, kind, object_goals, declaration, statement, body, first, first_action, action}
+use Rattle.c_syntax.specs.Steps.{deeper, fresh, step_of, taken_or, next, behind, kind, object_goals, declaration, statement, body, first, first_action}
 use Rattle.c_syntax.specs.Notes.{Noted}
 use Rattle.c_syntax.proofs.Marking.{run, going, put, put_at, put-append, put-pair, put-held}
 use Rattle.c_syntax.proofs.Completing.{at_first, spot_at, skip}
 use Rattle.c_syntax.proofs.CompletingTypes.{StartsKind, kind_starts}
-use Rattle.c_syntax.proofs.CompletingExpressions.{Starts, taken_behind}
+use Rattle.c_syntax.proofs.CompletingExpressions.{taken_behind}
 use Rattle.c_syntax.proofs.CompletingObjects.{Passes, via, same_tokens, same_notes, at_once, after_run, expression_pass, choice_pass, optional_expression_pass, all_actions_pass, action_list_starts, actions_pass, declaration_run}
 
 -- ---- an expression in parentheses

@@ -1,5 +1,5 @@
 -- The goals take each token of a type.
-use Rattle.std.proofs.Common.{◌≡◌, ℕ, zero, suc, ◌+◌, Bool, true, false, List, [], ◌∷◌, ◌++◌, codes, length, Option, Some, None, refl, ap, sym, ◌∙◌, subst, append_assoc}
+use Rattle.std.proofs.Common.{◌≡◌, ℕ, Bool, true, false, List, [], ◌∷◌, ◌++◌, codes, Option, Some, None, refl, ap, sym, ◌∙◌, append_assoc}
 use Rattle.hls_base.specs.declared.place.Place.{Place}
 use Rattle.c_token.specs.declared.ctype.CType.{CType}
 use Rattle.c_token.specs.declared.token.TokenKind.TheVariants as k
@@ -8,7 +8,7 @@ use Rattle.c_tree.specs.declared.specifier.Specifier.TheVariants as s
 use Rattle.c_tree.specs.Terminals.{Terminal, terminal, word}
 use Rattle.c_tree.specs.Kinds.{DerivesWords, DerivesKind, type_of_words, specifier_of}
 use Rattle.c_tree.specs.Kinds as kinds
-use Rattle.c_tree.specs.Limits.{Mark, plain, flat}
+use Rattle.c_tree.specs.Limits.{plain, flat}
 use Rattle.c_syntax.specs.declared.goal.Goal.{Goal}
 use Rattle.c_syntax.specs.declared.goal.Goal.TheVariants as G
 use Rattle.c_syntax.specs.declared.goal.Spot.{Spot}
@@ -17,7 +17,7 @@ use Rattle.c_syntax.specs.declared.sort.Sort.TheVariants as o
 use Rattle.c_syntax.specs.declared.words.Words.{Words}
 use Rattle.c_syntax.specs.declared.words.Words.TheVariants as w
 use Rattle.c_syntax.specs.Sorts.{sort_of, begins_kind}
-use Rattle.c_syntax.specs.Steps.{Step, step_of, is_optional, taken_or, next, with_word, starting, typed_if}
+use Rattle.c_syntax.specs.Steps.{step_of, taken_or, next, with_word, starting, typed_if}
 use Rattle.c_syntax.proofs.Seen.{specifier_sort}
 use Rattle.c_syntax.proofs.TypeWords.{Same, words_of, is_state, grows, starts, blocked, type_of-Same, same_more, same_trans, same_middle, void_first, void_alone}
 use Rattle.c_syntax.specs.Notes.{Noted}

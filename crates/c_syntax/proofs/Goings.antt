@@ -1,5 +1,5 @@
 -- What the loop over the goals does with a token.
-use Rattle.std.proofs.Common.{◌≡◌, ℕ, Bool, true, false, List, [], ◌∷◌, ◌++◌, Option, Some, None, refl, ap, sym, ◌∙◌, subst}
+use Rattle.std.proofs.Common.{◌≡◌, Bool, true, false, List, ◌∷◌, ◌++◌, Option, Some, None, refl, ap, sym, ◌∙◌}
 use Rattle.std.specs.Prelude.{if◌then◌else◌}
 use Rattle.c_syntax.specs.declared.goal.Goal.{Goal}
 use Rattle.c_syntax.specs.declared.goal.Spot.{Spot}

@@ -1,15 +1,15 @@
 -- What is noted of a token only grows while later tokens are read.
-use Rattle.std.proofs.Common.{◌≡◌, ℕ, zero, suc, ◌+◌, ◌<◌, ◌≤◌, Bool, true, false, List, [], ◌∷◌, ◌++◌, length, Option, Some, None, ◌⊎◌, inl, inr, refl, ap, sym, ◌∙◌, subst, arith, append_assoc, append-nil, eq-eqb, length-append}
-use Rattle.std.specs.Prelude.{nat_lt, nat_eq, nat_le, ◌||◌, if◌then◌else◌}
+use Rattle.std.proofs.Common.{◌≡◌, ℕ, zero, suc, ◌+◌, ◌<◌, ◌≤◌, Bool, true, false, List, [], ◌∷◌, ◌++◌, length, Option, Some, None, refl, ap, sym, ◌∙◌, subst, arith, append_assoc, eq-eqb, length-append}
+use Rattle.std.specs.Prelude.{nat_lt, nat_eq, ◌||◌, if◌then◌else◌}
 use Rattle.std.proofs.lemmas.Bool.{lt-ltb, ltb-true, eqb-true}
 use Rattle.c_tree.specs.Terminals.{Terminal}
-use Rattle.c_tree.specs.Limits.{Mark, mark_at, exceeds, plain}
+use Rattle.c_tree.specs.Limits.{Mark, mark_at, exceeds}
 use Rattle.c_syntax.specs.declared.goal.Goal.{Goal}
 use Rattle.c_syntax.specs.declared.goal.Raise.{Raise}
 use Rattle.c_syntax.specs.declared.goal.Raise.TheVariants as r
 use Rattle.c_syntax.specs.Sorts.{sort_of}
 use Rattle.c_syntax.specs.Steps.{Step, deeper, next, all_optional}
-use Rattle.c_syntax.specs.Notes.{Noted, within, hold_behind, hold_from, raised, is_beyond, blank, entry}
+use Rattle.c_syntax.specs.Notes.{Noted, within, hold_behind, hold_from, raised, is_beyond, entry}
 use Rattle.c_syntax.proofs.Marking.{note, going, run, sink, sink-deeper, put, put_at, StandsFor, stands_zero, stands_deeper, same_test}
 use Rattle.c_syntax.proofs.Completing.{spot_at}
 

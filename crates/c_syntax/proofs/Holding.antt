@@ -1,10 +1,10 @@
 -- What is shown of the tokens seen, where some turn out to be held by one construct more.
-use Rattle.std.proofs.Common.{◌≡◌, ℕ, zero, suc, ◌+◌, ◌<◌, ◌≤◌, Bool, true, false, List, [], ◌∷◌, ◌++◌, ◌⊎◌, inl, inr, length, get_or, take, set, refl, ap, sym, ◌∙◌, subst, arith, eq-eqb, length-append, length-set, get_or-set_same, get_or-set_other}
+use Rattle.std.proofs.Common.{◌≡◌, ℕ, suc, ◌+◌, ◌<◌, ◌≤◌, Bool, true, false, List, [], ◌∷◌, ◌++◌, inl, inr, length, get_or, take, set, refl, ap, sym, ◌∙◌, subst, arith, eq-eqb, length-append, length-set, get_or-set_same, get_or-set_other}
 use Rattle.std.specs.Prelude.{nat_lt, nat_eq, ◌||◌, if◌then◌else◌}
 use Rattle.std.proofs.lemmas.Bool.{lt-ltb, le-ltb, ltb-true, ltb-false, eqb-true, cases_order}
 use Rattle.std.proofs.lemmas.List.{get_or-take, get_or_append_left, get_or-append-add, length-take-le}
 use Rattle.c_syntax.specs.Steps.{deeper}
-use Rattle.c_syntax.specs.Notes.{Noted, within, hold_behind, hold_from, entry, blank, is_beyond, Shows}
+use Rattle.c_syntax.specs.Notes.{Noted, within, hold_behind, hold_from, entry, is_beyond, Shows}
 
 -- ---- entries
 

@@ -1,13 +1,10 @@
 -- What is noted of each token while a token list is read, and the marks of a derivation so placed.
-use Rattle.std.proofs.Common.{◌≡◌, ℕ, zero, suc, ◌+◌, ◌<◌, ◌≤◌, Bool, true, false, List, [], ◌∷◌, ◌++◌, length, map, Option, Some, None, ◌⊎◌, inl, inr, refl, ap, sym, ◌∙◌, subst, arith, eq-eqb}
+use Rattle.std.proofs.Common.{◌≡◌, ℕ, zero, suc, ◌+◌, ◌<◌, ◌≤◌, Bool, true, false, List, [], ◌∷◌, ◌++◌, length, Option, Some, None, inl, inr, refl, ap, sym, ◌∙◌, arith, eq-eqb}
 use Rattle.std.specs.Prelude.{nat_le, nat_lt, nat_eq, if◌then◌else◌}
 use Rattle.std.proofs.lemmas.Bool.{le-leb, leb-true, lt-ltb, le-ltb, ltb-true, ltb-false, cases_order}
 use Rattle.c_tree.specs.Terminals.{Terminal}
-use Rattle.c_tree.specs.Limits.{Mark, plain, operator, closing, deeper, inside, held, pair, counted, whole, flat, operator_limit}
+use Rattle.c_tree.specs.Limits.{Mark, plain, closing, deeper, inside, held, pair, counted, whole, flat, operator_limit}
 use Rattle.c_syntax.specs.declared.goal.Goal.{Goal}
-use Rattle.c_syntax.specs.declared.goal.Raise.{Raise}
-use Rattle.c_syntax.specs.declared.goal.Raise.TheVariants as r
-use Rattle.c_syntax.specs.declared.goal.Spot.{Spot}
 use Rattle.c_syntax.specs.Sorts.{sort_of}
 use Rattle.c_syntax.specs.Steps.{Step, more, is_surplus, next, all_optional}
 use Rattle.c_syntax.specs.Steps as spec

@@ -1,6 +1,5 @@
 -- What each goal reads: the tokens that may stand for it, behind what was read before.
-use Rattle.std.proofs.Common.{◌≡◌, ℕ, Bool, true, false, List, [], ◌∷◌, ◌++◌, codes, Option, Some, None, ◌⊎◌, inl, inr, refl, ap, sym, ◌∙◌, subst, append_assoc, append-nil}
-use Rattle.std.specs.Prelude.{is_some, ◌||◌}
+use Rattle.std.proofs.Common.{◌≡◌, ℕ, Bool, true, false, List, [], ◌∷◌, ◌++◌, codes, Option, Some}
 use Rattle.hls_base.specs.declared.place.Place.{Place}
 use Rattle.c_token.specs.declared.ctype.CType.{CType}
 use Rattle.c_token.specs.declared.punct.Punct.{Punct}
@@ -8,11 +7,9 @@ use Rattle.c_token.specs.declared.punct.Punct.TheVariants as p
 use Rattle.c_token.specs.declared.token.TokenKind.TheVariants as k
 use Rattle.c_tree.specs.declared.specifier.Specifier.{Specifier}
 use Rattle.c_tree.specs.Terminals.{Terminal, terminal, sign, word, is_keyword, bump_of}
-use Rattle.c_tree.specs.Kinds.{DerivesWords, DerivesKind, type_of_words}
-use Rattle.c_tree.specs.Kinds as kinds
+use Rattle.c_tree.specs.Kinds.{DerivesWords, DerivesKind}
 use Rattle.c_tree.specs.Tree.{Tree, Trees, InitTree, InitTrees, ObjectTree, StmtTrees, FirstTree, ParamTree, ItemTree, ActionTree}
-use Rattle.c_tree.specs.Grammar as g
-use Rattle.c_tree.specs.Grammar.{Derives, DerivesTarget, DerivesSubscripts, DerivesArguments, DerivesList, DerivesOptional, DerivesActionList, DerivesActions, DerivesInit, DerivesInits, DerivesInitialiser, DerivesLengths, DerivesObject, DerivesObjects, DerivesDeclaration, DerivesStatement, DerivesFirst, DerivesBlock, DerivesBody, DerivesParam, DerivesParamList, DerivesParams, DerivesDefinition, DerivesItem, DerivesItems, unary_level, binary_level, choice_level, assign_level, comma_level}
+use Rattle.c_tree.specs.Grammar.{DerivesSubscripts, DerivesArguments, DerivesList, DerivesOptional, DerivesActionList, DerivesActions, DerivesInit, DerivesInits, DerivesInitialiser, DerivesLengths, DerivesObject, DerivesObjects, DerivesDeclaration, DerivesFirst, DerivesBlock, DerivesBody, DerivesParam, DerivesParamList, DerivesParams, DerivesDefinition, DerivesItem, DerivesItems, unary_level, binary_level, choice_level, assign_level, comma_level}
 use Rattle.c_syntax.specs.declared.goal.Goal.{Goal}
 use Rattle.c_syntax.specs.declared.goal.Goal.TheVariants as G
 use Rattle.c_syntax.specs.declared.words.Words.{Words}

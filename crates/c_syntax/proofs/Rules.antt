@@ -1,5 +1,5 @@
 -- The rule of a token by its sort.
-use Rattle.std.proofs.Common.{◌≡◌, ℕ, Bool, true, false, List, [], ◌∷◌, Option, Some, None, refl, ap, sym, ◌∙◌}
+use Rattle.std.proofs.Common.{◌≡◌, ℕ, Bool, true, false, List, Option, Some, None, refl, ap, sym, ◌∙◌}
 use Rattle.std.specs.Prelude.{if◌then◌else◌}
 use Rattle.c_token.specs.declared.punct.Punct.{Punct}
 use Rattle.c_token.specs.declared.punct.Punct.TheVariants as p
@@ -12,7 +12,7 @@ use Rattle.c_tree.specs.Kinds.{specifier_of}
 use Rattle.c_tree.specs.Refusal.{rule_of, unsupported}
 use Rattle.c_syntax.specs.declared.sort.Sort.{Sort}
 use Rattle.c_syntax.specs.declared.sort.Sort.TheVariants as o
-use Rattle.c_syntax.specs.Sorts.{sort_of, sort_of_sign, sort_of_word, keyword_of, keyword_sorts, specifier_or, keyword_or, rule_of_sort}
+use Rattle.c_syntax.specs.Sorts.{sort_of, sort_of_sign, keyword_of, specifier_or, keyword_or, rule_of_sort}
 use Rattle.c_syntax.proofs.Seen.{specifier_spelled, specifier_text, keyword_spelled, keyword_text, is_keyword_sort}
 
 rule_of_sign : (punct : Punct) → rule_of_sort (sort_of_sign punct) ≡ rule_of (k.Punct punct)

@@ -1,8 +1,7 @@
 -- Each goal reads something that raises no token before it.
-use Rattle.std.proofs.Common.{◌≡◌, ℕ, zero, suc, ◌≤◌, Bool, true, false, List, [], ◌∷◌, ◌++◌, codes, length, Option, Some, None, refl, ap, sym, ◌∙◌, subst, arith, append_assoc, append-nil}
+use Rattle.std.proofs.Common.{◌≡◌, ℕ, Bool, true, false, List, [], ◌∷◌, ◌++◌, codes, Option, Some, None, refl, sym, ◌∙◌, subst, arith, append_assoc}
 use Rattle.std.specs.Prelude.{if◌then◌else◌, ◌&&◌}
 use Rattle.hls_base.specs.declared.place.Place.{Place}
-use Rattle.c_token.specs.declared.ctype.CType.{CType}
 use Rattle.c_token.specs.declared.ctype.CType.TheVariants as t
 use Rattle.c_token.specs.declared.punct.Punct.TheVariants as p
 use Rattle.c_token.specs.declared.token.TokenKind.TheVariants as k
@@ -19,11 +18,11 @@ use Rattle.c_syntax.specs.declared.goal.Spot.{Spot}
 use Rattle.c_syntax.specs.declared.sort.Sort.{Sort}
 use Rattle.c_syntax.specs.declared.sort.Sort.TheVariants as o
 use Rattle.c_syntax.specs.Sorts.{sort_of}
-use Rattle.c_syntax.specs.Steps.{Step, step_of, is_optional, taken_or, next, behind, all_optional}
+use Rattle.c_syntax.specs.Steps.{Step, step_of, is_optional, taken_or, next, all_optional}
 use Rattle.c_syntax.specs.Notes.{Noted, raised}
-use Rattle.c_syntax.proofs.Attach.{Is, is_looser, IsTarget, name_target}
+use Rattle.c_syntax.proofs.Attach.{Is, is_looser, name_target}
 use Rattle.c_syntax.proofs.Outlines.{value_is}
-use Rattle.c_syntax.proofs.Reading.{IsSign, the_sign, the_keyword, a_colon, body_end, IsKind, IsResult, IsItem, Reads, ReadsAll, done, only, and}
+use Rattle.c_syntax.proofs.Reading.{the_sign, the_keyword, a_colon, body_end, IsKind, IsItem, Reads, ReadsAll, done}
 use Rattle.c_syntax.proofs.Stacks.{reads_nothing, in_front}
 use Rattle.c_syntax.proofs.Marking.{note, going, run}
 use Rattle.c_syntax.proofs.Completing.{spot_at}

@@ -1,5 +1,5 @@
 -- A goal reads a token and what the goals read that it leaves: expressions.
-use Rattle.std.proofs.Common.{◌≡◌, ℕ, ◌≤◌, Bool, true, false, List, [], ◌∷◌, ◌++◌, codes, Option, Some, None, refl, ap, sym, ◌∙◌, subst, arith, append_assoc, append-nil}
+use Rattle.std.proofs.Common.{◌≡◌, ℕ, Bool, true, false, List, [], ◌∷◌, ◌++◌, Option, Some, None, refl, ap, sym, ◌∙◌, subst, arith, append_assoc, append-nil}
 use Rattle.std.specs.Prelude.{if◌then◌else◌}
 use Rattle.hls_base.specs.declared.place.Place.{Place}
 use Rattle.c_token.specs.declared.punct.Punct.{Punct}
@@ -13,12 +13,11 @@ use Rattle.c_tree.specs.Grammar.{unary_level, binary_level, choice_level, assign
 use Rattle.c_syntax.specs.declared.goal.Goal.{Goal}
 use Rattle.c_syntax.specs.declared.goal.Goal.TheVariants as G
 use Rattle.c_syntax.specs.declared.goal.Spot.{Spot}
-use Rattle.c_syntax.specs.declared.goal.Raise.{Raise}
 use Rattle.c_syntax.specs.declared.sort.Sort.{Sort}
-use Rattle.c_syntax.specs.Steps.{Step, behind, opened, operand, target, subscripts, call, after_operand, choice, assign, arguments, more_arguments, commas, operators, choice_colon, assignment, after_target, expression, action, actions, more_actions, action_target, action_subscripts}
+use Rattle.c_syntax.specs.Steps.{Step, behind, opened, operand, target, subscripts, after_operand, choice, assign, arguments, more_arguments, commas, operators, choice_colon, assignment, after_target, expression, action, actions, more_actions, action_target, action_subscripts}
 use Rattle.c_syntax.proofs.Seen.{Seen}
 use Rattle.c_syntax.proofs.Seen as seen
-use Rattle.c_syntax.proofs.Attach.{Is, IsTarget, is_looser, attach, target_with, name_target, target_is, bumped_is, join_subscripts}
+use Rattle.c_syntax.proofs.Attach.{Is, IsTarget, is_looser, attach, target_with, name_target, target_is, bumped_is}
 use Rattle.c_syntax.proofs.Outlines.{IsAction, change_is, value_is}
 use Rattle.c_syntax.proofs.Reading.{IsSign, the_sign, IsChoiceColon, a_colon, IsOptional, IsList, AreArguments, AreSubscripts, IsActionList, AreActions, Wanted, BehindName, BehindTarget, Behind, BehindBump, Reads, ReadsAll, done, only, and}
 

@@ -1,30 +1,24 @@
 -- A goal reads a token and what the goals read that it leaves: functions and items.
-use Rattle.std.proofs.Common.{◌≡◌, ℕ, ◌≤◌, Bool, true, false, List, [], ◌∷◌, ◌++◌, codes, Option, Some, None, refl, ap, sym, ◌∙◌, subst, arith, append_assoc, append-nil}
+use Rattle.std.proofs.Common.{◌≡◌, ℕ, Bool, true, false, List, [], ◌∷◌, ◌++◌, codes, Some, None, refl, ap, sym, ◌∙◌, subst, append_assoc}
 use Rattle.hls_base.specs.declared.place.Place.{Place}
-use Rattle.c_token.specs.declared.ctype.CType.{CType}
-use Rattle.c_token.specs.declared.punct.Punct.{Punct}
 use Rattle.c_token.specs.declared.punct.Punct.TheVariants as p
 use Rattle.c_token.specs.declared.token.TokenKind.TheVariants as k
-use Rattle.c_tree.specs.declared.specifier.Specifier.{Specifier}
 use Rattle.c_tree.specs.declared.specifier.Specifier.TheVariants as s
 use Rattle.c_tree.specs.Terminals.{Terminal, terminal, sign, word, is_keyword}
 use Rattle.c_tree.specs.Tree as tree
-use Rattle.c_tree.specs.Kinds as kinds
-use Rattle.c_tree.specs.Kinds.{DerivesKind, specifier_of}
+use Rattle.c_tree.specs.Kinds.{DerivesKind}
 use Rattle.c_tree.specs.Grammar as g
 use Rattle.c_tree.proofs.Firsts.{kind_first, first_begins}
-use Rattle.c_syntax.specs.declared.goal.Goal.{Goal}
 use Rattle.c_syntax.specs.declared.goal.Goal.TheVariants as G
 use Rattle.c_syntax.specs.declared.goal.Spot.{Spot}
 use Rattle.c_syntax.specs.declared.sort.Sort.{Sort}
 use Rattle.c_syntax.specs.declared.words.Words.{Words}
-use Rattle.c_syntax.specs.declared.words.Words.TheVariants as w
-use Rattle.c_syntax.specs.Steps.{Step, behind, deeper, starting, item, items, function_name, declarator, after_declarator, definition, params, more_params, param_goals, optional_name, kind}
+use Rattle.c_syntax.specs.Steps.{deeper, starting, item, items, function_name, declarator, after_declarator, definition, params, more_params, param_goals, optional_name, kind}
 use Rattle.c_syntax.proofs.Seen.{Seen, specifier_spelled}
 use Rattle.c_syntax.proofs.Seen as seen
 use Rattle.c_syntax.proofs.TypeWords.{is_words}
-use Rattle.c_syntax.proofs.Reading.{IsSign, the_sign, IsOptionalName, no_name, a_name, IsMoreBody, body_end, IsKind, IsResult, IsType, HasWords, HasRead, AreConst, IsObject, AreObjects, AreLengths, IsInitialiser, IsBlock, IsParam, IsParamList, AreParams, IsDefinition, IsItem, AreItems, Behind, BehindName, Reads, ReadsAll, done, only, and}
-use Rattle.c_syntax.proofs.Sound.{Sound, at_end, one, two, Split, split, behind_sound, other_sound}
+use Rattle.c_syntax.proofs.Reading.{IsSign, the_sign, IsOptionalName, no_name, a_name, IsKind, IsResult, HasWords, AreConst, IsObject, AreObjects, AreLengths, IsInitialiser, IsParam, IsParamList, AreParams, IsDefinition, IsItem, AreItems, Behind, BehindName, Reads, ReadsAll}
+use Rattle.c_syntax.proofs.Sound.{Sound, at_end, one, two, split, behind_sound, other_sound}
 use Rattle.c_syntax.proofs.SoundTypes.{one_const_more, has_started, name_started, has_read, value_kind, no_const, sound_kind, lengths_read}
 use Rattle.c_syntax.proofs.SoundStatements.{block_read}
 

@@ -1,35 +1,25 @@
 -- A goal reads a token and what the goals read that it leaves: statements and items.
-use Rattle.std.proofs.Common.{◌≡◌, ℕ, ◌≤◌, Bool, true, false, List, [], ◌∷◌, ◌++◌, codes, Option, Some, None, refl, ap, sym, ◌∙◌, subst, arith, append_assoc, append-nil}
-use Rattle.std.specs.Prelude.{if◌then◌else◌}
+use Rattle.std.proofs.Common.{◌≡◌, ℕ, List, [], ◌∷◌, ◌++◌, codes, Some, None, refl, ap, sym, ◌∙◌, subst, append_assoc, append-nil}
 use Rattle.hls_base.specs.declared.place.Place.{Place}
-use Rattle.c_token.specs.declared.ctype.CType.{CType}
-use Rattle.c_token.specs.declared.punct.Punct.{Punct}
 use Rattle.c_token.specs.declared.punct.Punct.TheVariants as p
-use Rattle.c_token.specs.declared.token.TokenKind.TheVariants as k
-use Rattle.c_tree.specs.declared.specifier.Specifier.{Specifier}
-use Rattle.c_tree.specs.declared.specifier.Specifier.TheVariants as s
-use Rattle.c_tree.specs.Terminals.{Terminal, terminal, sign, word, is_keyword}
+use Rattle.c_tree.specs.Terminals.{Terminal, sign, word}
 use Rattle.c_tree.specs.Tree as tree
 use Rattle.c_tree.specs.Tree.{StmtTrees}
-use Rattle.c_tree.specs.Kinds as kinds
-use Rattle.c_tree.specs.Kinds.{DerivesKind, specifier_of}
 use Rattle.c_tree.specs.Grammar as g
 use Rattle.c_tree.specs.Grammar.{unary_level, choice_level, assign_level, comma_level, DerivesBody}
 use Rattle.c_syntax.specs.declared.goal.Goal.{Goal}
 use Rattle.c_syntax.specs.declared.goal.Goal.TheVariants as G
 use Rattle.c_syntax.specs.declared.goal.Spot.{Spot}
 use Rattle.c_syntax.specs.declared.sort.Sort.{Sort}
-use Rattle.c_syntax.specs.declared.words.Words.{Words}
-use Rattle.c_syntax.specs.declared.words.Words.TheVariants as w
 use Rattle.c_syntax.specs.Sorts.{begins_kind}
-use Rattle.c_syntax.specs.Steps.{Step, behind, opened, fresh, deeper, starting, first_action, selection, iteration, inner_statement, statement, other_branch, block, statement_or_declaration, body, first, item, items, function_name, declarator, after_declarator, definition, params, more_params, param_goals, optional_name, action, kind, declaration}
+use Rattle.c_syntax.specs.Steps.{fresh, deeper, first_action, selection, iteration, inner_statement, statement, other_branch, block, statement_or_declaration, body, first, action, declaration}
 use Rattle.c_syntax.proofs.Seen.{Seen}
 use Rattle.c_syntax.proofs.Seen as seen
 use Rattle.c_syntax.proofs.Attach.{Is, IsStatement, if_with_else}
 use Rattle.c_syntax.proofs.Outlines.{IsAction}
-use Rattle.c_syntax.proofs.Reading.{IsSign, the_sign, IsKeyword, the_keyword, IsOptionalName, no_name, a_name, IsElse, no_else, an_else, IsMoreBody, body_end, IsKind, IsResult, IsType, HasRead, AreConst, IsObject, AreObjects, IsDeclaration, AreLengths, IsOptional, IsActionList, AreActions, IsBlock, IsFirst, IsParam, IsParamList, AreParams, IsDefinition, IsItem, AreItems, Behind, BehindName, Reads, ReadsAll, done, only, and}
+use Rattle.c_syntax.proofs.Reading.{IsSign, the_sign, IsKeyword, the_keyword, IsElse, no_else, an_else, IsMoreBody, body_end, IsDeclaration, IsOptional, IsActionList, AreActions, IsBlock, IsFirst, ReadsAll}
 use Rattle.c_syntax.proofs.Sound.{Sound, at_end, one, two, behind_sound, opened_sound, other_sound, either_sound, sound_action}
-use Rattle.c_syntax.proofs.SoundTypes.{one_const_more, has_started, name_started, has_read, value_kind, no_const, sound_kind, sound_declaration, declaration_read, lengths_read}
+use Rattle.c_syntax.proofs.SoundTypes.{sound_declaration}
 
 -- ---- actions with their semicolon
 

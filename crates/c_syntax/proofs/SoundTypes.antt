@@ -1,33 +1,31 @@
 -- A goal reads a token and what the goals read that it leaves: types and objects.
-use Rattle.std.proofs.Common.{◌≡◌, ℕ, ◌≤◌, Bool, true, false, List, [], ◌∷◌, ◌++◌, codes, Option, Some, None, refl, ap, sym, ◌∙◌, subst, arith, append_assoc, append-nil}
-use Rattle.std.specs.Prelude.{if◌then◌else◌, ◌||◌}
+use Rattle.std.proofs.Common.{◌≡◌, ℕ, Bool, true, false, List, [], ◌∷◌, ◌++◌, codes, Option, Some, None, refl, ap, sym, ◌∙◌, subst, arith, append_assoc, append-nil}
+use Rattle.std.specs.Prelude.{◌||◌}
 use Rattle.hls_base.specs.declared.place.Place.{Place}
 use Rattle.c_token.specs.declared.ctype.CType.{CType}
-use Rattle.c_token.specs.declared.punct.Punct.{Punct}
 use Rattle.c_token.specs.declared.punct.Punct.TheVariants as p
 use Rattle.c_token.specs.declared.token.TokenKind.TheVariants as k
 use Rattle.c_tree.specs.declared.specifier.Specifier.{Specifier}
 use Rattle.c_tree.specs.declared.specifier.Specifier.TheVariants as s
-use Rattle.c_tree.specs.Terminals.{Terminal, terminal, sign, word, is_keyword}
+use Rattle.c_tree.specs.Terminals.{Terminal, terminal, sign, word}
 use Rattle.c_tree.specs.Tree as tree
 use Rattle.c_tree.specs.Kinds.{DerivesWords, DerivesKind, type_of_words, specifier_of}
 use Rattle.c_tree.specs.Kinds as kinds
 use Rattle.c_tree.specs.Grammar as g
 use Rattle.c_tree.specs.Grammar.{unary_level, choice_level, assign_level, comma_level}
-use Rattle.c_syntax.specs.declared.goal.Goal.{Goal}
 use Rattle.c_syntax.specs.declared.goal.Goal.TheVariants as G
 use Rattle.c_syntax.specs.declared.goal.Spot.{Spot}
 use Rattle.c_syntax.specs.declared.sort.Sort.{Sort}
 use Rattle.c_syntax.specs.declared.words.Words.{Words}
 use Rattle.c_syntax.specs.declared.words.Words.TheVariants as w
 use Rattle.c_syntax.specs.Sorts.{begins_kind}
-use Rattle.c_syntax.specs.Steps.{Step, behind, fresh, deeper, with_word, starting, typed_if, kind, kind_words, group, object, more_objects, lengths, length_goals, initialiser, init, more_inits, optional_init, object_goals, declaration, expression, assign}
+use Rattle.c_syntax.specs.Steps.{behind, fresh, deeper, with_word, starting, typed_if, kind, kind_words, group, object, more_objects, lengths, initialiser, init, more_inits, optional_init, object_goals, declaration, expression, assign}
 use Rattle.c_syntax.proofs.Seen.{Seen}
 use Rattle.c_syntax.proofs.Seen as seen
-use Rattle.c_syntax.proofs.TypeWords.{Same, words_of, is_state, is_words, grows, grown, starts, times, type_of-Same, value_type, same_more, same_trans}
+use Rattle.c_syntax.proofs.TypeWords.{Same, words_of, is_words, grows, grown, starts, type_of-Same, value_type, same_more, same_trans}
 use Rattle.c_syntax.proofs.Attach.{Is, is_looser}
-use Rattle.c_syntax.proofs.Reading.{IsSign, the_sign, IsKind, IsResult, HasWords, HasName, HasRead, IsType, AreConst, IsObject, AreObjects, IsDeclaration, IsInit, AreInits, AreLengths, IsInitialiser, IsOptional, Behind, Reads, ReadsAll, done, only, and}
-use Rattle.c_syntax.proofs.Sound.{Sound, at_end, one, two, Split, split, behind_sound, opened_sound, other_sound, either_sound, sound_expression, sound_assign}
+use Rattle.c_syntax.proofs.Reading.{IsSign, the_sign, IsKind, IsResult, HasWords, HasName, HasRead, IsType, AreConst, IsObject, AreObjects, IsDeclaration, IsInit, AreInits, AreLengths, IsInitialiser, IsOptional, Behind, ReadsAll}
+use Rattle.c_syntax.proofs.Sound.{Sound, one, two, behind_sound, other_sound, either_sound, sound_expression, sound_assign}
 
 -- ---- words one after another
 

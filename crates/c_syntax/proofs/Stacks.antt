@@ -1,8 +1,7 @@
 -- A stack of goals reads a token and what the next stack reads.
-use Rattle.std.proofs.Common.{◌≡◌, ℕ, Bool, true, false, List, [], ◌∷◌, ◌++◌, codes, Option, Some, None, refl, ap, sym, ◌∙◌, subst, arith, append_assoc, append-nil}
+use Rattle.std.proofs.Common.{◌≡◌, ℕ, Bool, true, false, List, [], ◌∷◌, ◌++◌, codes, Option, Some, None, refl, sym, subst, arith, append-nil}
 use Rattle.std.specs.Prelude.{if◌then◌else◌}
 use Rattle.hls_base.specs.declared.place.Place.{Place}
-use Rattle.c_token.specs.declared.ctype.CType.{CType}
 use Rattle.c_token.specs.declared.punct.Punct.{Punct}
 use Rattle.c_token.specs.declared.punct.Punct.TheVariants as p
 use Rattle.c_tree.specs.Terminals.{Terminal, sign, word}
@@ -15,13 +14,13 @@ use Rattle.c_syntax.specs.declared.goal.Spot.{Spot}
 use Rattle.c_syntax.specs.declared.sort.Sort.{Sort}
 use Rattle.c_syntax.specs.declared.sort.Sort.TheVariants as o
 use Rattle.c_syntax.specs.Sorts.{sort_of}
-use Rattle.c_syntax.specs.Steps.{Step, step_of, is_optional, taken_or, next, all_optional, close, closing, same_close, only_if, deeper, take, behind}
+use Rattle.c_syntax.specs.Steps.{Step, step_of, is_optional, taken_or, next, all_optional, close, same_close, only_if, deeper, take}
 use Rattle.c_syntax.proofs.Seen.{Seen, seen}
 use Rattle.c_syntax.proofs.Seen as seen_
 use Rattle.c_syntax.proofs.Attach.{Is, is_looser, target_is, IsTarget, name_target}
 use Rattle.c_syntax.proofs.Outlines.{IsAction, change_is, value_is}
-use Rattle.c_syntax.proofs.Reading.{IsType, IsSign, the_sign, IsKeyword, the_keyword, no_name, no_else, Wanted, Reads, ReadsAll, done, only, and, AreItems}
-use Rattle.c_syntax.proofs.Sound.{Sound, at_end, one, two, Split, split, opened_sound, sound_operand, sound_target, sound_subscripts, sound_after_operand, sound_arguments, sound_more_arguments, sound_expression, sound_assign, sound_choice, sound_commas, sound_after_target, sound_operators, sound_choice_colon, sound_optional_choice, sound_optional_expression, sound_action, sound_actions, sound_more_actions, sound_action_target, sound_action_subscripts}
+use Rattle.c_syntax.proofs.Reading.{IsType, IsSign, the_sign, the_keyword, no_name, no_else, Wanted, Reads, ReadsAll, done, only, and}
+use Rattle.c_syntax.proofs.Sound.{Sound, at_end, split, opened_sound, sound_operand, sound_target, sound_subscripts, sound_after_operand, sound_arguments, sound_more_arguments, sound_expression, sound_assign, sound_choice, sound_commas, sound_after_target, sound_operators, sound_choice_colon, sound_optional_choice, sound_optional_expression, sound_action, sound_actions, sound_more_actions, sound_action_target, sound_action_subscripts}
 use Rattle.c_syntax.proofs.SoundTypes.{sound_kind, sound_kind_words, sound_group, sound_object, sound_more_objects, sound_lengths, sound_initialiser, sound_init, sound_more_inits, sound_optional_init, read_type}
 use Rattle.c_syntax.proofs.SoundStatements.{sound_statement, sound_other_branch, sound_block, sound_body, sound_first}
 use Rattle.c_syntax.proofs.SoundItems.{sound_item, sound_items, sound_function_name, sound_declarator, sound_after_declarator, sound_definition, sound_params, sound_more_params, sound_optional_name}

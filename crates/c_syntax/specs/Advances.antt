@@ -1,8 +1,7 @@
 -- What a stack of goals does with a token.
-use Rattle.std.specs.Prelude.{◌≡◌, List, Option, Some, None}
+use Rattle.std.specs.Prelude.{◌≡◌, List, Some, None}
 use Rattle.c_syntax.specs.declared.goal.Goal.{Goal}
 use Rattle.c_syntax.specs.declared.goal.Spot.{Spot}
-use Rattle.c_syntax.specs.declared.goal.Take.{Take}
 use Rattle.c_syntax.specs.declared.sort.Sort.{Sort}
 use Rattle.c_syntax.specs.declared.advance.Advance.{Advance}
 use Rattle.c_syntax.specs.declared.advance.Advance.TheVariants as a

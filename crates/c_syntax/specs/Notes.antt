@@ -1,5 +1,5 @@
 -- What is noted of each token that was taken, the last one first.
-use Rattle.std.specs.Prelude.{◌≡◌, ℕ, suc, ◌<◌, ◌≤◌, nat_lt, nat_eq, ◌||◌, Bool, true, false, List, [], ◌∷◌, length, get_or, if◌then◌else◌}
+use Rattle.std.specs.Prelude.{◌≡◌, ℕ, ◌<◌, ◌≤◌, nat_lt, nat_eq, ◌||◌, Bool, true, false, List, [], ◌∷◌, length, get_or, if◌then◌else◌}
 use Rattle.c_syntax.specs.declared.goal.Raise.{Raise}
 use Rattle.c_syntax.specs.declared.goal.Raise.TheVariants as r
 use Rattle.c_syntax.specs.declared.goal.Take.{Take}

@@ -1,5 +1,5 @@
 -- What each goal does with a token: how it is taken, and which goals are left.
-use Rattle.std.specs.Prelude.{◌≡◌, ℕ, suc, ◌+◌, nat_le, nat_lt, Bool, true, false, List, [], ◌∷◌, ◌++◌, Option, Some, None, if◌then◌else◌}
+use Rattle.std.specs.Prelude.{◌≡◌, ℕ, ◌+◌, nat_le, nat_lt, Bool, true, false, List, [], ◌∷◌, ◌++◌, Option, Some, None, if◌then◌else◌}
 use Rattle.c_tree.specs.declared.specifier.Specifier.{Specifier}
 use Rattle.c_tree.specs.declared.specifier.Specifier.TheVariants as s
 use Rattle.c_syntax.specs.declared.sort.Sort.{Sort}
@@ -14,7 +14,7 @@ use Rattle.c_syntax.specs.declared.goal.Raise.{Raise}
 use Rattle.c_syntax.specs.declared.goal.Raise.TheVariants as r
 use Rattle.c_syntax.specs.declared.goal.Take.{Take}
 use Rattle.c_syntax.specs.declared.goal.Spot.{Spot}
-use Rattle.c_syntax.specs.Sorts.{begins_operand, begins_kind}
+use Rattle.c_syntax.specs.Sorts.{begins_kind}
 
 -- ---- counting, which stands still beyond the limits
 

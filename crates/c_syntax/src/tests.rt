@@ -1,3 +1,5 @@
+ghost use Rattle.std.specs.Prelude.{◌≤◌, length};
+
 use crate::find_fault;
 use c_token::ctype::CType;
 use c_token::punct::Punct;
@@ -71,7 +73,9 @@ fn is_word_byte(byte: u8) -> bool {
     byte == b'_' || byte.is_ascii_alphanumeric()
 }
 
-fn word_length(text: &[u8]) -> usize {
+fn word_length(text: &[u8]) -> usize
+    ensures { result ≤ length text.now }
+{
     for (n, byte) in text.iter().enumerate() {
         if !is_word_byte(*byte) {
             return n;

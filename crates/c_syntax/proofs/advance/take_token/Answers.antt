@@ -1,4 +1,4 @@
-use Rattle.std.proofs.Common.{Some, None, sym, ◌∙◌, subst}
+use Rattle.std.proofs.Common.{sym, ◌∙◌, subst}
 use Rattle.c_syntax.specs.Steps.{Steps, StepsOrStays, step_of}
 use Rattle.c_syntax.proofs.Goings.{taken, skipped}
 use Rattle.c_syntax.proofs.advance.take_token.Goals as goal

@@ -1,4 +1,4 @@
-use Rattle.std.proofs.Common.{sym, subst, arith, set, take, length, get_or, ◌≡◌, ◌+◌, ◌<◌, ◌≤◌, true}
+use Rattle.std.proofs.Common.{sym, subst, arith, set, length, ◌+◌, ◌<◌, true}
 use Rattle.std.proofs.lemmas.List.{get_or_read}
 use Rattle.c_syntax.proofs.Holding.{Raising, raising_first, raising_last, raising_more, raising_stops}
 use Rattle.c_syntax.proofs.depths.Depths.raise.Goals as goal

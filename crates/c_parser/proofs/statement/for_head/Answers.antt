@@ -1,0 +1,24 @@
+use Rattle.std.proofs.Common.{refl}
+use Rattle.c_parser.proofs.Exits.{through}
+use Rattle.c_parser.proofs.Readings.{then_found, then_never, then_stuck}
+use Rattle.c_parser.proofs.statement.for_head.Goals as goal
+
+pub returns-in_err-expect-clause-absent : goal.returns-in_err-expect-clause-absent
+returns-in_err-expect-clause-absent c = through _ c.in_err-expect.field-0.0 _ _ c.from_residual.ensures.1 (λ y e. e) c.in_err-expect.ensures.absent
+    (λ n. then_never _ n)
+
+pub returns-in_err-init-clause-absent : goal.returns-in_err-init-clause-absent
+returns-in_err-init-clause-absent c = through _ c.in_err-init.field-0.0 _ _ c.from_residual-in_err-init.ensures.1 (λ y e. e) c.in_err-init.ensures.absent
+    (λ n. then_stuck _ _ _ c.in_ok-expect.ensures.found (then_never _ n))
+
+pub returns-in_err-test-clause-absent : goal.returns-in_err-test-clause-absent
+returns-in_err-test-clause-absent c = through _ c.in_err-test.field-0.0 _ _ c.from_residual-in_err-test.ensures.1 (λ y e. e) c.in_err-test.ensures.absent
+    (λ n. then_stuck _ _ _ c.in_ok-expect.ensures.found (then_stuck _ _ _ c.in_ok-init.ensures.found (then_never _ n)))
+
+pub returns-in_err-step-clause-absent : goal.returns-in_err-step-clause-absent
+returns-in_err-step-clause-absent c = through _ c.in_err-step.field-0.0 _ _ c.from_residual-in_err-step.ensures.1 (λ y e. e) c.in_err-step.ensures.absent
+    (λ n. then_stuck _ _ _ c.in_ok-expect.ensures.found (then_stuck _ _ _ c.in_ok-init.ensures.found (then_stuck _ _ _ c.in_ok-test.ensures.found n)))
+
+pub returns-clause-found : goal.returns-clause-found
+returns-clause-found c =
+    then_found _ _ _ _ _ _ refl c.in_ok-expect.ensures.found (then_found _ _ _ _ _ _ refl c.in_ok-init.ensures.found (then_found _ _ _ _ _ _ refl c.in_ok-test.ensures.found c.in_ok-step.ensures.found))

@@ -1,0 +1,15 @@
+use Rattle.std.proofs.Common.{ap, ◌∙◌, sym}
+use Rattle.verilog_read.specs.ModuleViews.{memory_view}
+use Rattle.verilog_read.specs.Earliest.{noted}
+use Rattle.verilog_read.specs.Faults.{never_faults, memory_names}
+use Rattle.verilog_read.proofs.Loops.{none_left}
+use Rattle.verilog_read.proofs.Assigning.{never_written_on}
+use Rattle.verilog_read.proofs.checks.check_never_written.Goals as goal
+
+pub loop-i-preserved : goal.loop-i-preserved
+loop-i-preserved c =
+    never_written_on c.args.slots.now c.args.memories.now c.loop-i.i _ c.loop-i.first.found c.require.new.self.found _ c.is_assigned.result c.loop-i-test.true c.is_assigned.ensures c.require.ensures c.loop-i.invariant
+
+pub returns : goal.returns
+returns c =
+    ap (λ y. noted c.loop-i.first.found (never_faults c.args.slots.now c.loop-i.i (memory_names y))) (sym (none_left memory_view c.args.memories.now c.loop-i.i c.loop-i-test.false)) ∙ c.loop-i.invariant

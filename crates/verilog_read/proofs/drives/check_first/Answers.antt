@@ -1,0 +1,16 @@
+use Rattle.std.proofs.Common.{ap, ◌∙◌, ◌++◌}
+use Rattle.verilog_read.specs.ModuleViews.{write_view}
+use Rattle.verilog_read.specs.NameTable.{scope_in}
+use Rattle.verilog_read.specs.Earliest.{noted}
+use Rattle.verilog_read.specs.Faults.{bits_faults, known_faults, port_faults, write_faults, begin_faults, memory_of}
+use Rattle.verilog_read.proofs.Loops.{noted_two}
+use Rattle.verilog_read.proofs.drives.check_first.Goals as goal
+
+pub returns : goal.returns
+returns c =
+    let scope = scope_in c.args.names.now in
+    let x = write_view c.args.x in
+    let operands = bits_faults scope x.enable 1 ++ (known_faults scope x.address ++ known_faults scope x.value) in
+    let written = c.check_write.ensures ∙ ap (λ m. noted c.args.first.now.found (operands ++ port_faults scope x m)) c.find_sort-memory.ensures in
+    noted_two c.args.first.now.found c.check_write.new.first.found c.check_begin.new.first.found (write_faults scope x) (begin_faults c.args.blocks.now x.memory (memory_of scope x.memory)) written
+    (c.check_begin.ensures ∙ ap (λ m. noted c.check_write.new.first.found (begin_faults c.args.blocks.now x.memory m)) c.find_sort-memory.ensures)
