@@ -110,7 +110,6 @@ action_form tokens rest a r = go r.split r.derives
         other : (c : Option ActionTree) → bare_change (opens_paren (ts ++ rest)) value ≡ c → tree.evaluation value ≡ action_in (opens_paren (ts ++ rest)) value
         other None h = sym (ap (λ c. change_or c value) h)
         other (Some b) h = let q = bare_parts (opens_paren (ts ++ rest)) value b h in absurd (none b (bare_derives rest b q.1 q.0 d))
-
     go : {ts : List Terminal} {b : ActionTree} → tokens ≡ ts ++ rest → DerivesAction ts b → ActionReads tokens b rest
     go f (g.a_change ts action d) =
         let c = change_reads rest d in
@@ -127,7 +126,6 @@ separated_ends (t ∷ ts) e = go t.kind e
     sign_ends p.Semicolon f = omega arith
     sign_ends p.RightParen f = omega arith
     sign_ends _ f = absurd cc
-
     go : (kind : TokenKind) → separates_kind kind ≡ true → 14 < r.joins_kind kind
     go (k.Punct punct) f = sign_ends punct f
     go (k.Word text) f = absurd cc
@@ -145,17 +143,14 @@ action_found tokens rest grouped e a same is sep q = record {
   where
     d : Expression 14 tokens e rest
     d = q.reads
-
     a_is : a ≡ action_in (opens_paren tokens) e
     a_is = is ∙ ap (λ b. action_in b e) same
-
     -- no change takes the same tokens
     none : bare_change (opens_paren tokens) e ≡ None → (action : ActionTree) → DerivesChange d.taken action → ⊥
     none h action c =
         let s = change_reads rest c in
         let o = q.only (d.taken ++ rest) s.e rest (sym d.split) s.reads (separated_ends rest sep) in
         let both : Some action ≡ None = sym s.bare ∙ ap (λ y. bare_change (opens_paren y) s.e) (sym d.split) ∙ ap (bare_change (opens_paren tokens)) o.1 ∙ h in cc
-
     derived : (c : Option ActionTree) → bare_change (opens_paren tokens) e ≡ c → DerivesAction d.taken (action_in (opens_paren tokens) e)
     derived (Some b) h =
         let x = bare_parts (opens_paren tokens) e b h in
@@ -165,18 +160,14 @@ action_found tokens rest grouped e a same is sep q = record {
         subst (λ y. DerivesAction d.taken y) (sym (ap (λ c. change_or c e) h)) (g.a_value d.taken e (none h) t.derives)
 
 pub unseparated_never : (tokens rest : List Terminal) (e : Tree) → separates rest ≡ false → Found (Expression 14) (Ends 14) tokens e rest → Never AnAction Separated tokens
-unseparated_never tokens rest e sep q = record {
-  none = λ others b end h r ends.
-      let f = action_form tokens end b (subst (λ y. AnAction y b end) h r) in
-      let o = q.only tokens f.e end refl f.reads (separated_ends end ends) in
-      let both : true ≡ false = sym ends ∙ ap separates o.0 ∙ sep in cc;
-}
+unseparated_never tokens rest e sep q = record { none = λ others b end h r ends.
+    let f = action_form tokens end b (subst (λ y. AnAction y b end) h r) in
+    let o = q.only tokens f.e end refl f.reads (separated_ends end ends) in
+    let both : true ≡ false = sym ends ∙ ap separates o.0 ∙ sep in cc }
 
 pub action_never : (tokens : List Terminal) → Never (Expression 14) (Ends 14) tokens → Never AnAction Separated tokens
-action_never tokens q = record {
-  none = λ others b end h r ends.
-      let f = action_form tokens end b (subst (λ y. AnAction y b end) h r) in q.none tokens f.e end refl f.reads (separated_ends end ends);
-}
+action_never tokens q = record { none = λ others b end h r ends.
+    let f = action_form tokens end b (subst (λ y. AnAction y b end) h r) in q.none tokens f.e end refl f.reads (separated_ends end ends) }
 
 pub action_starts : (tokens rest : List Terminal) (a : ActionTree) → AnAction tokens a rest → starts_expression tokens ≡ true
 action_starts tokens rest a r = let f = action_form tokens rest a r in expression_starts 14 tokens f.e rest f.reads

@@ -114,14 +114,12 @@ in_table text o e s =
   where
     same : (w : List ℕ) → is_keyword w ≡ true → bytes_eq text w ≡ true → is_keyword text ≡ true
     same w kw f = ap is_keyword ((bytes_eq-Decides text w).0 f) ∙ kw
-
     step : (w : List ℕ) → is_keyword w ≡ true → (bytes_eq text w ≡ false → is_keyword text ≡ true) → is_keyword text ≡ true
     step w kw next = go (bytes_eq text w) refl
       where
         go : (b : Bool) → bytes_eq text w ≡ b → is_keyword text ≡ true
         go true f = same w kw f
         go false f = next f
-
     none : bytes_eq text (codes "void") ≡ false → bytes_eq text (codes "_Bool") ≡ false → bytes_eq text (codes "char") ≡ false → bytes_eq text (codes "short") ≡ false
         → bytes_eq text (codes "int") ≡ false → bytes_eq text (codes "long") ≡ false → bytes_eq text (codes "signed") ≡ false → bytes_eq text (codes "unsigned") ≡ false → is_keyword text ≡ true
     none a b c d f h i j =

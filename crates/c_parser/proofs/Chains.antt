@@ -112,7 +112,6 @@ combined n punct q at {ls} {rs} {left} {right} o l d f = go (operator_of punct) 
     none_comma : (other : Punct) (r : Joiner) → comma_joiner other ≡ Some r → (r ≡ j.Comma) × (other ≡ p.Comma)
     none_comma p.Comma r e = (let same : r ≡ j.Comma = cc in same, refl)
     none_comma _ r e = absurd cc
-
     go : (x : Option Binary) → operator_of punct ≡ x → joiner_or x (comma_joiner punct) ≡ Some q → Derives (suc n) (ls ++ sign punct at ∷ rs) (joined q left right at)
     go (Some op) h e =
         let same : j.Binary op ≡ q = cc in
@@ -189,11 +188,9 @@ module _ (n m : ℕ) (at_level : n ≡ suc m) (groups : Groups n) where
   runs_never : (start here inside : List Terminal) (left : Tree) (punct : Punct) (q : Joiner) (at : Place) → Runs n start left here → here ≡ sign punct at ∷ inside → joiner_of punct ≡ Some q → joiner_level q ≡ n → Never (Expression (n - 1)) (Ends (n - 1)) inside → Never (Expression n) (Ends n) start
   runs_never start here inside left punct q at r is o l never =
       let f = subst (λ i. Never (Expression i) (Ends i) inside) one_less never in
-      record {
-        none = λ others other end same reads ends.
-            let s = goes_on start here inside left punct q at r is o l others other end same reads ends in
-            f.none inside s.right s.behind refl s.reads (chain_ends (subst (λ i. i < joins end) at_level ends) s.chain);
-      }
+      record { none = λ others other end same reads ends.
+          let s = goes_on start here inside left punct q at r is o l others other end same reads ends in
+          f.none inside s.right s.behind refl s.reads (chain_ends (subst (λ i. i < joins end) at_level ends) s.chain) }
 
   runs_last : (start here : List Terminal) (left : Tree) → Runs n start left here → ((punct : Punct) (at : Place) (rest : List Terminal) (q : Joiner) → here ≡ sign punct at ∷ rest → joiner_of punct ≡ Some q → joiner_level q ≡ n → ⊥) → Found (Expression n) (Ends n) start left here
   runs_last start here left r stops = record {

@@ -77,10 +77,8 @@ object_step kind text at tokens behind n = record {
 }
 
 pub nameless_never : (kind : ValueKind) (tokens : List Terminal) → ((n : List ℕ × Place) (rest : List Terminal) → Name tokens n rest → ⊥) → Never (AnObject kind) (Ends 14) tokens
-nameless_never kind tokens none = record {
-  none = λ others o end same d ends.
-      let h = object_form kind tokens end o (subst (λ y. AnObject kind y o end) same d) in none (h.text, h.at) h.behind (h.named, h.free);
-}
+nameless_never kind tokens none = record { none = λ others o end same d ends.
+    let h = object_form kind tokens end o (subst (λ y. AnObject kind y o end) same d) in none (h.text, h.at) h.behind (h.named, h.free) }
 
 -- ---- objects and their type
 

@@ -205,7 +205,7 @@ cast_back at tokens inside rest e f c =
     let o = unshut p.RightParen inside c.middle c.first c.begins in
     let r = c.goes_on in
     let split : inside ≡ (o.ts ++ sign p.RightParen o.at ∷ r.taken) ++ rest =
-    o.split ∙ append_assoc o.ts (sign p.RightParen o.at ∷ []) c.middle ∙ ap (λ y. o.ts ++ sign p.RightParen o.at ∷ y) r.split ∙ sym (append_assoc o.ts (sign p.RightParen o.at ∷ r.taken) rest) in
+        o.split ∙ append_assoc o.ts (sign p.RightParen o.at ∷ []) c.middle ∙ ap (λ y. o.ts ++ sign p.RightParen o.at ∷ y) r.split ∙ sym (append_assoc o.ts (sign p.RightParen o.at ∷ r.taken) rest) in
     record {
       taken = sign p.LeftParen at ∷ (o.ts ++ sign p.RightParen o.at ∷ r.taken);
       split = f ∙ ap (λ y. sign p.LeftParen at ∷ y) split;
@@ -250,7 +250,7 @@ by_test_back test at tokens inside rest e r c =
     let n = s.goes_on in
     let middle : c.middle ≡ sign p.Colon s.first ∷ (n.taken ++ rest) = s.begins ∙ ap (λ z. sign p.Colon s.first ∷ z) n.split in
     let behind : inside ≡ (y.taken ++ sign p.Colon s.first ∷ n.taken) ++ rest =
-    y.split ∙ ap (λ z. y.taken ++ z) middle ∙ sym (append_assoc y.taken (sign p.Colon s.first ∷ n.taken) rest) in
+        y.split ∙ ap (λ z. y.taken ++ z) middle ∙ sym (append_assoc y.taken (sign p.Colon s.first ∷ n.taken) rest) in
     let all = r.taken ++ sign p.Question at ∷ (y.taken ++ sign p.Colon s.first ∷ n.taken) in
     record {
       taken = all;

@@ -94,7 +94,6 @@ param_back first more tokens rest param f s = subst (λ y. AParam tokens y rest)
   where
     kd : AValueKind tokens s.first s.middle
     kd = s.begins
-
     bare : (ts : List Terminal) (x : ParamTree) (ls : List (Option Tree)) → tokens ≡ ts ++ s.middle → DerivesKind ts (Some s.first.kind) s.first.constant → Lengths s.middle ls rest
         → x ≡ record { object = record { name = []; at = first.at; kind = s.first.kind; constant = s.first.constant; lengths = ls; init = None }; named = false } → AParam tokens x rest
     bare [] x ls e d l is = absurd (let both : false ≡ true = kind_starts [] d in cc)
@@ -107,7 +106,6 @@ param_back first more tokens rest param f s = subst (λ y. AParam tokens y rest)
               (ap (λ y. record { object = record { name = []; at = y; kind = s.first.kind; constant = s.first.constant; lengths = ls; init = None }; named = false }) at_is ∙ sym is)
               (g.unnamed_param s.first.kind s.first.constant u ks l.taken ls d l.derives);
         }
-
     go : ParamBehind first.at s.first s.middle s.second rest → AParam tokens s.second rest
     go (named text at behind ls n l is) =
         let ts = kd.taken ++ word text at ∷ l.taken in record {
@@ -129,11 +127,9 @@ no_param_here tokens f = record { none = λ others x end same d ends. go end d.d
   where
     nothing : (ts rest : List Terminal) (u : Terminal) → [] ≡ (u ∷ ts) ++ rest → ⊥
     nothing ts rest u e = cc
-
     start : (ks more rest : List Terminal) {kind : Option CType} {constant : Bool} → DerivesKind ks kind constant → [] ≡ (ks ++ more) ++ rest → ⊥
     start [] more rest d e = let both : false ≡ true = kind_starts [] d in cc
     start (u ∷ ks) more rest d e = nothing (ks ++ more) rest u e
-
     go : {ts : List Terminal} {x : ParamTree} (end : List Terminal) → DerivesParam ts x → [] ≡ ts ++ end → ⊥
     go end (g.named_param kind constant ks ls text at lengths dk kw dl) e = start ks (word text at ∷ ls) end dk e
     go end (g.unnamed_param kind constant u ks ls lengths dk dl) e = nothing (ks ++ ls) end u e
@@ -148,17 +144,13 @@ named_param_step start kind text at tokens behind n = record {
     none : (end : List Terminal) (ls : List (Option Tree)) → separates end ≡ true → ((end ≡ tokens) ⊎ ((a : Place) × (more : List Terminal) × (tokens ≡ sign p.LeftBracket a ∷ more))) → ⊥
     none end ls sep (inl e) = let both : false ≡ true = ap separates (sym n.0 ∙ sym e) ∙ sep in cc
     none end ls sep (inr b) = sign_no_word p.LeftBracket text b.0 at b.1 behind (sym b.2 ∙ n.0)
-
     go : (x : ParamTree) (end : List Terminal) → separates end ≡ true → ParamBehind start kind tokens x end → (ls : List (Option Tree))
         × (x ≡ record { object = record { name = text; at = at; kind = kind.kind; constant = kind.constant; lengths = ls; init = None }; named = true }) × Lengths behind ls end × (0 < joins end)
     go x end sep (named text' at' behind' ls m l is) =
-        let q = words text' text at' at behind' behind (sym m.0 ∙ n.0) in (
-          ls,
-          is ∙ ap (λ y. record { object = record { name = y; at = at'; kind = kind.kind; constant = kind.constant; lengths = ls; init = None }; named = true }) q.0
-              ∙ ap (λ y. record { object = record { name = text; at = y; kind = kind.kind; constant = kind.constant; lengths = ls; init = None }; named = true }) q.1,
-          subst (λ y. Lengths y ls end) q.2 l,
-          let h = separated_ends end sep in omega (arith, h),
-        )
+        let q = words text' text at' at behind' behind (sym m.0 ∙ n.0) in
+        (ls, is ∙ ap (λ y. record { object = record { name = y; at = at'; kind = kind.kind; constant = kind.constant; lengths = ls; init = None }; named = true }) q.0
+        ∙ ap (λ y. record { object = record { name = text; at = y; kind = kind.kind; constant = kind.constant; lengths = ls; init = None }; named = true }) q.1,
+        subst (λ y. Lengths y ls end) q.2 l, let h = separated_ends end sep in omega (arith, h))
     go x end sep (unnamed ls l is) = absurd (none end ls sep (lengths_begin tokens end ls l))
 
 pub unnamed_param_step : (start : Place) (kind : ValueKind) (tokens here : List Terminal) → here ≡ tokens → ((n : List ℕ × Place) (rest : List Terminal) → Name tokens n rest → ⊥)
@@ -249,7 +241,6 @@ params_step tokens here next same_here lacks same_next no_void = record {
   where
     to : next ≡ tokens
     to = same_next ∙ same_here
-
     go : (xs : List ParamTree) (end : List Terminal) → ParamsForm tokens xs end → (ys : List ParamTree) × (xs ≡ ys) × Listed AParam p.RightParen next ys end × Unit {0}
     go xs end (empty at e i) = absurd (lacks at end e)
     go xs end (void_only at c e i) = absurd (no_void at _ (same_here ∙ e))
@@ -267,7 +258,6 @@ definition_form tokens rest body d = go body d.split d.derives refl
     unrow-row : (ss : List StmtTree) → unrow_stmts (stmt_row ss) ≡ ss
     unrow-row [] = refl
     unrow-row (x ∷ ss) = ap (λ y. x ∷ y) (unrow-row ss)
-
     go : {ts : List Terminal} {x : Option StmtTrees} (o : Option (List StmtTree)) → tokens ≡ ts ++ rest → DerivesDefinition ts x → x ≡ option_map stmt_row o → DefinitionForm tokens o rest
     go None f (g.declared_only ends) e = declared ends f refl
     go (Some ss) f (g.declared_only ends) e = absurd cc
@@ -326,11 +316,9 @@ item_form tokens rest item d = go d.split d.derives
       goes_on = some_objects kind os refl (subst (λ y. Listed (AnObject (record { kind = kind; constant = constant })) p.Semicolon y os rest) (sym (append_assoc ts (sign p.Semicolon ends ∷ []) rest)) (listed_of_objects ends rest dos)) refl;
       whole = refl;
     }
-
     rows : (b : Option StmtTrees) → option_map stmt_row (option_map unrow_stmts b) ≡ b
     rows None = refl
     rows (Some ss) = ap Some (row-unrow_stmts ss)
-
     go : {ts : List Terminal} {x : ItemTree} → tokens ≡ ts ++ rest → DerivesItem ts x → ItemForm tokens x rest
     go f (g.a_static at ts x d') = is_static at (ts ++ rest) f (record { taken = ts; split = refl; derives = d' })
     go f (g.an_inline at ts x d') = is_inline at (ts ++ rest) f (record { taken = ts; split = refl; derives = d' })
@@ -338,7 +326,7 @@ item_form tokens rest item d = go d.split d.derives
     go f (g.a_function result constant ks ps bs text at opens closes all body dk kw dp db) =
         let behind = (ps ++ sign p.RightParen closes ∷ bs) ++ rest in
         let whole : record { name = text; at = at; result = result; params = all; body = body } ≡ function_with result (text, at) all (option_map unrow_stmts body) =
-        ap (λ y. record { name = text; at = at; result = result; params = all; body = y }) (sym (rows body)) in
+            ap (λ y. record { name = text; at = at; result = result; params = all; body = y }) (sym (rows body)) in
         is_bare (record {
           first = record { kind = result; constant = constant };
           second = tree.function (record { name = text; at = at; result = result; params = all; body = body });
@@ -374,7 +362,6 @@ bare_back tokens rest item s = subst (λ y. AnItem tokens y rest) (sym s.whole) 
   where
     kd : SomeKind tokens s.first s.middle
     kd = s.begins
-
     go : ItemBehind s.first s.middle s.second rest → AnItem tokens s.second rest
     go (some_objects value all is l e) =
         let o = objects_of_listed (record { kind = value; constant = s.first.constant }) l in
@@ -489,7 +476,6 @@ object_name kind tokens rest o end d =
     init_first : {ts : List Terminal} (middle : List Terminal) (i : Option tree.InitTree) → middle ≡ ts ++ rest → g.DerivesInitialiser ts i → opens_paren middle ≡ false
     init_first middle i e g.no_initialiser = ap opens_paren e ∙ end
     init_first middle i e (g.an_initialiser at ts init d') = ap opens_paren e
-
     lengths_first : (behind middle : List Terminal) (ls : List (Option Tree)) → Lengths behind ls middle → opens_paren middle ≡ false → opens_paren behind ≡ false
     lengths_first behind middle ls l f = go (lengths_begin behind middle ls l)
       where
@@ -531,13 +517,9 @@ objects_step kind v tokens no_call is const_is = record {
     go : (item : ItemTree) (end : List Terminal) → ItemBehind kind tokens item end → (all : List ObjectTree) × (item ≡ tree.objects all) × Listed (AnObject v) p.Semicolon tokens all end × Unit {0}
     go item end (some_objects value all is' l e) =
         let both : Some value ≡ Some v.kind = sym is' ∙ is in
-        let same : value ≡ v.kind = cc in (
-          all,
-          e,
-          subst (λ y. Listed (AnObject (record { kind = v.kind; constant = y })) p.Semicolon tokens all end) (sym const_is)
-              (subst (λ y. Listed (AnObject (record { kind = y; constant = kind.constant })) p.Semicolon tokens all end) same l),
-          tt,
-        )
+        let same : value ≡ v.kind = cc in
+        (all, e, subst (λ y. Listed (AnObject (record { kind = v.kind; constant = y })) p.Semicolon tokens all end) (sym const_is)
+        (subst (λ y. Listed (AnObject (record { kind = y; constant = kind.constant })) p.Semicolon tokens all end) same l), tt)
     go item end (a_function f s e) = absurd (let both : true ≡ false = sym (function_call kind.kind tokens end f s) ∙ no_call in cc)
 
 pub void_objects_never : (kind : Kind) (tokens : List Terminal) → opens_call tokens ≡ false → kind.kind ≡ None → Never (ItemBehind kind) Anywhere tokens

@@ -52,10 +52,8 @@ number_found t value kind tokens new e f is whole =
 
 -- no expression begins so
 pub primary_never : (tokens : List Terminal) → starts_primary tokens ≡ false → Never (Expression 0) (Ends 0) tokens
-primary_never tokens e = record {
-  none = λ others b end same r ends.
-      let both : false ≡ true = sym e ∙ primary_starts tokens b end (as_primary others tokens b end same r) in cc;
-}
+primary_never tokens e = record { none = λ others b end same r ends.
+    let both : false ≡ true = sym e ∙ primary_starts tokens b end (as_primary others tokens b end same r) in cc }
 
 pub empty_never : (tokens : List Terminal) → tokens ≡ [] → Never (Expression 0) (Ends 0) tokens
 empty_never tokens e = primary_never tokens (ap starts_primary e)
@@ -164,11 +162,9 @@ target_found tokens rest grouped e t is q b =
     }
 
 pub target_absent : (tokens rest : List Terminal) (grouped : Bool) (e : Tree) → grouped ≡ opens_paren tokens → Found (Expression 0) (Ends 0) tokens e rest → bare_target grouped e ≡ None → Never Lvalue (Ends 0) tokens
-target_absent tokens rest grouped e is q b = record {
-  none = λ others u end same l ends.
-      let o = lvalue_only 0 tokens rest e q lvalue_reads others end u same l ends in
-      let both : Some u ≡ None = sym o.2 ∙ ap (λ y. bare_target y e) (sym is) ∙ b in cc;
-}
+target_absent tokens rest grouped e is q b = record { none = λ others u end same l ends.
+    let o = lvalue_only 0 tokens rest e q lvalue_reads others end u same l ends in
+    let both : Some u ≡ None = sym o.2 ∙ ap (λ y. bare_target y e) (sym is) ∙ b in cc }
 
 pub target_never : (tokens : List Terminal) → Never (Expression 0) (Ends 0) tokens → Never Lvalue (Ends 0) tokens
 target_never tokens q = record { none = λ others u end same l ends. q.none others (target_tree u) end same (lvalue_reads others end u l) ends }
@@ -219,10 +215,8 @@ bump_found tokens middle new grouped e punct up at t whole is q m b bare w =
     }
 
 pub bump_absent : (tokens middle new : List Terminal) (grouped : Bool) (e : Tree) (punct : Punct) (up : Bool) (at : Place) → grouped ≡ opens_paren tokens → Found (Expression 0) (Ends 0) tokens e middle → middle ≡ sign punct at ∷ new → bump_of punct ≡ Some up → bare_target grouped e ≡ None → Never (Expression 1) (Ends 1) tokens
-bump_absent tokens middle new grouped e punct up at is q m b bare = record {
-  none = λ others f end same r ends.
-      no_target tokens middle e q new punct up at m b f end (ap (λ y. bare_target y e) (sym is) ∙ bare) ends (as_postfix others tokens f end same r);
-}
+bump_absent tokens middle new grouped e punct up at is q m b bare = record { none = λ others f end same r ends.
+    no_target tokens middle e q new punct up at m b f end (ap (λ y. bare_target y e) (sym is) ∙ bare) ends (as_postfix others tokens f end same r) }
 
 pub bump_none : (tokens middle new : List Terminal) (e : Tree) → new ≡ middle → Found (Expression 0) (Ends 0) tokens e middle → ((punct : Punct) (at : Place) (rest : List Terminal) (up : Bool) → middle ≡ sign punct at ∷ rest → bump_of punct ≡ Some up → ⊥) → Found (Expression 1) (Ends 1) tokens e new
 bump_none tokens middle new e is q bare = subst (λ y. Found (Expression 1) (Ends 1) tokens e y) (sym is) (record {
@@ -294,7 +288,6 @@ operand_no_kind at tokens inside e end f h r = absurd (go (postfix_form tokens e
   where
     group : (a : Tree) (rest : List Terminal) → Primary tokens a rest → ⊥
     group a rest q = let c = group_into at tokens inside a rest f q in kind_no_expression inside h (expression_starts 15 inside c.first c.middle c.begins)
-
     go : Postfix tokens e end → ⊥
     go (bumped punct up at' u b l is) = let w = lvalue_word tokens _ u l in sign_no_word p.LeftParen w.0 at w.1 inside w.2 (sym f ∙ w.3)
     go (plain s) = group e end (primary_form tokens end refl s.split s.derives)
@@ -420,10 +413,8 @@ set_step tokens middle inside grouped e punct op at t is q m a bare =
     }
 
 pub set_absent : (tokens middle inside : List Terminal) (grouped : Bool) (e : Tree) (punct : Punct) (op : Option Binary) (at : Place) → grouped ≡ opens_paren tokens → Found (Expression 13) (Ends 13) tokens e middle → middle ≡ sign punct at ∷ inside → assignment_of punct ≡ Some op → bare_target grouped e ≡ None → Never (Expression 14) (Ends 14) tokens
-set_absent tokens middle inside grouped e punct op at is q m a bare = record {
-  none = λ others f end same r ends.
-      no_setting tokens middle e q inside punct op at f end m a (ap (λ y. bare_target y e) (sym is) ∙ bare) ends (as_setting others tokens f end same r);
-}
+set_absent tokens middle inside grouped e punct op at is q m a bare = record { none = λ others f end same r ends.
+    no_setting tokens middle e q inside punct op at f end m a (ap (λ y. bare_target y e) (sym is) ∙ bare) ends (as_setting others tokens f end same r) }
 
 pub unset_found : (tokens middle new : List Terminal) (e : Tree) → new ≡ middle → Found (Expression 13) (Ends 13) tokens e middle → ((punct : Punct) (at : Place) (rest : List Terminal) (op : Option Binary) → middle ≡ sign punct at ∷ rest → assignment_of punct ≡ Some op → ⊥) → Found (Expression 14) (Ends 14) tokens e new
 unset_found tokens middle new e is q none = subst (λ y. Found (Expression 14) (Ends 14) tokens e y) (sym is) (record {

@@ -59,7 +59,6 @@ bodied (r.more tokens a middle others rest l b) = go l (bodied b)
   where
     joined : (ts us : List Terminal) (at : Place) → tokens ≡ ts ++ middle → middle ≡ (us ++ sign p.RightBrace at ∷ []) ++ rest → tokens ≡ ((ts ++ us) ++ sign p.RightBrace at ∷ []) ++ rest
     joined ts us at e f = e ∙ ap (λ y. ts ++ y) f ∙ sym (append_assoc ts (us ++ sign p.RightBrace at ∷ []) rest) ∙ ap (λ y. y ++ rest) (sym (append_assoc ts us (sign p.RightBrace at ∷ [])))
-
     go : Local tokens a middle → Bodied middle others rest → Bodied tokens (a ∷ others) rest
     go (s.a_statement d) q = record { ts = d.taken ++ q.ts; at = q.at; split = joined d.taken q.ts q.at d.split q.split; derives = g.a_statement d.taken q.ts a (stmt_row others) d.derives q.derives }
     go (s.objects all d is) q = record {
@@ -235,7 +234,7 @@ statement_form tokens rest stmt d = go d.split d.derives
         let behind = sign p.RightParen closes ∷ (us ++ rest) in
         let inside = ((is ++ (ts ++ sign p.Semicolon ends ∷ ss)) ++ sign p.RightParen closes ∷ us) ++ rest in
         let flat : inside ≡ is ++ ((ts ++ sign p.Semicolon ends ∷ ss) ++ behind) =
-        append_assoc (is ++ (ts ++ sign p.Semicolon ends ∷ ss)) (sign p.RightParen closes ∷ us) rest ∙ append_assoc is (ts ++ sign p.Semicolon ends ∷ ss) behind in
+            append_assoc (is ++ (ts ++ sign p.Semicolon ends ∷ ss)) (sign p.RightParen closes ∷ us) rest ∙ append_assoc is (ts ++ sign p.Semicolon ends ∷ ss) behind in
         by_keyword w.For at (sign p.LeftParen opens ∷ inside) f (record {
           first = (init, test, step);
           second = body;
@@ -354,9 +353,9 @@ keyword_back w.For at tokens behind rest stmt f b =
     let semi = sign p.Semicolon o.at ∷ c.ts in
     let steps : t.middle ≡ c.ts ++ closer = c.split ∙ append_assoc c.ts (sign p.RightParen c.at ∷ []) b.middle ∙ ap (λ y. c.ts ++ sign p.RightParen c.at ∷ y) d.split in
     let tests : i.middle ≡ (o.ts ++ semi) ++ closer =
-    o.split ∙ append_assoc o.ts (sign p.Semicolon o.at ∷ []) t.middle ∙ ap (λ y. o.ts ++ sign p.Semicolon o.at ∷ y) steps ∙ sym (append_assoc o.ts semi closer) in
+        o.split ∙ append_assoc o.ts (sign p.Semicolon o.at ∷ []) t.middle ∙ ap (λ y. o.ts ++ sign p.Semicolon o.at ∷ y) steps ∙ sym (append_assoc o.ts semi closer) in
     let inits : h.middle ≡ ((first.taken ++ (o.ts ++ semi)) ++ sign p.RightParen c.at ∷ d.taken) ++ rest =
-    first.split ∙ ap (λ y. first.taken ++ y) tests ∙ sym (append_assoc first.taken (o.ts ++ semi) closer) ∙ sym (append_assoc (first.taken ++ (o.ts ++ semi)) (sign p.RightParen c.at ∷ d.taken) rest) in
+        first.split ∙ ap (λ y. first.taken ++ y) tests ∙ sym (append_assoc first.taken (o.ts ++ semi) closer) ∙ sym (append_assoc (first.taken ++ (o.ts ++ semi)) (sign p.RightParen c.at ∷ d.taken) rest) in
     let ts = word (codes "for") at ∷ sign p.LeftParen h.first ∷ ((first.taken ++ (o.ts ++ semi)) ++ sign p.RightParen c.at ∷ d.taken) in record {
       taken = ts;
       split = f ∙ ap (λ y. word (codes "for") at ∷ y) (h.begins ∙ ap (λ y. sign p.LeftParen h.first ∷ y) inits);
@@ -487,7 +486,6 @@ act_no_kind tokens rest all c = go (actions_form p.Semicolon tokens rest all c)
     either : (b : Bool) → starts_kind tokens ≡ b → starts_expression tokens ≡ true → starts_kind tokens ≡ false
     either true h e = absurd (kind_no_expression tokens h e)
     either false h e = h
-
     go : ActionsForm p.Semicolon tokens all rest → starts_kind tokens ≡ false
     go (no_actions at e i) = ap starts_kind e
     go (some_actions l) = either (starts_kind tokens) refl (listed_starts p.Semicolon l)
@@ -510,7 +508,6 @@ expression_no_else (t ∷ ts) e = go t.kind refl
         let kw : is_keyword text ≡ true = ap is_keyword ((bytes_eq-Decides text (codes "else")).0 h) in
         absurd (let both : false ≡ true = ap not (sym kw) ∙ ap (λ x. starts_expression (record { kind = x; at = t.at } ∷ ts)) (sym f) ∙ e in cc)
     text_case text f false h = h
-
     go : (kind : TokenKind) → t.kind ≡ kind → s.else_kind t.kind ≡ false
     go (k.Word text) f = ap s.else_kind f ∙ text_case text f (bytes_eq text (codes "else")) refl
     go (k.Number value kind) f = ap s.else_kind f
@@ -526,7 +523,6 @@ kind_no_else (t ∷ ts) e = go t.kind refl
         let is : text ≡ codes "else" = (bytes_eq-Decides text (codes "else")).0 h in
         absurd (let both : false ≡ true = ap (λ x. is_some (kind_word_of_text x)) (sym is) ∙ ap (λ x. starts_kind (record { kind = x; at = t.at } ∷ ts)) (sym f) ∙ e in cc)
     text_case text f false h = h
-
     go : (kind : TokenKind) → t.kind ≡ kind → s.else_kind t.kind ≡ false
     go (k.Word text) f = ap s.else_kind f ∙ text_case text f (bytes_eq text (codes "else")) refl
     go (k.Number value kind) f = ap s.else_kind f

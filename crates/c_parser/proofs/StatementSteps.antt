@@ -51,7 +51,6 @@ keyword_step text at keyword tokens behind f e = record {
   where
     text_is : text ≡ keyword_text keyword
     text_is = keyword_text_of text keyword e
-
     go : (stmt : StmtTree) (end : List Terminal) → StatementForm tokens stmt end → Behind keyword at behind stmt end
     go stmt end (by_keyword other at' behind' h b) =
         let w = words (keyword_text other) text at' at behind' behind (sym h ∙ f) in
@@ -122,7 +121,6 @@ brace_closes tokens rest at f stmt end (s.a_statement d) = go (statement_form to
     act : (all : List ActionTree) → ActionsForm p.Semicolon tokens all end → ⊥
     act all (no_actions at' e i) = let h : p.RightBrace ≡ p.Semicolon = (signs p.RightBrace p.Semicolon at at' rest end (sym f ∙ e)).0 in cc
     act all (some_actions l) = let both : false ≡ true = ap starts_expression (sym f) ∙ listed_starts p.Semicolon l in cc
-
     go : StatementForm tokens stmt end → ⊥
     go (by_keyword other at' behind h b) = sign_no_word p.RightBrace (keyword_text other) at at' rest behind (sym f ∙ h)
     go (is_block at' inside body h l is) = let q : p.RightBrace ≡ p.LeftBrace = (signs p.RightBrace p.LeftBrace at at' rest inside (sym f ∙ h)).0 in cc

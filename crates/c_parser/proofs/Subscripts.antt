@@ -50,11 +50,9 @@ arguments_into tokens es end lacks o = go o.split refl o.derives
   where
     flat : (ts : List Terminal) → tokens ≡ (ts ++ sign p.RightParen o.at ∷ []) ++ end → tokens ≡ ts ++ sign p.RightParen o.at ∷ end
     flat ts e = e ∙ append_assoc ts (sign p.RightParen o.at ∷ []) end
-
     unrow-row : (xs : List Tree) → unrow (row xs) ≡ xs
     unrow-row [] = refl
     unrow-row (x ∷ xs) = ap (λ y. x ∷ y) (unrow-row xs)
-
     go : {ts : List Terminal} {us : Trees} → tokens ≡ (ts ++ sign p.RightParen o.at ∷ []) ++ end → us ≡ row es → DerivesArguments ts us → Listed (Expression 14) p.RightParen tokens es end
     go e is g.no_argument = absurd (lacks o.at end e)
     go e is (g.arguments ts us d) =
@@ -81,7 +79,6 @@ none_only tokens new at es end f o = go o.split refl o.derives
     empty : (xs : List Tree) → tree.none ≡ row xs → xs ≡ []
     empty [] e = refl
     empty (x ∷ xs) e = absurd cc
-
     go : {ts : List Terminal} {us : Trees} → tokens ≡ (ts ++ sign p.RightParen o.at ∷ []) ++ end → us ≡ row es → DerivesArguments ts us → (end ≡ new) × (es ≡ [])
     go e is g.no_argument = ((signs p.RightParen p.RightParen o.at at end new (sym e ∙ f)).2, empty es is)
     go e is (g.arguments ts us d) =

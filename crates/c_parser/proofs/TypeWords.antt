@@ -20,6 +20,7 @@ use Rattle.c_parser.specs.declared.types.ValueKind.{ValueKind}
 use Rattle.c_parser.specs.declared.types.KindWord.{KindWord}
 use Rattle.c_parser.specs.declared.types.KindWord.TheVariants as w
 use Rattle.c_parser.specs.Types.{specifier_word, kind_word_of_text, kind_word_of, starts_kind, KindEnds, KindSign, NoKindWord, KindWords, specifiers, names, has_const, type_among, DerivesSomeKind, SomeKind, DerivesValueKind, AValueKind}
+
 use Rattle.c_parser.proofs.Readings.{repeated_last}
 
 -- ---- tokens and their words
@@ -136,7 +137,6 @@ const_text text e = go (bytes_eq text (codes "const")) refl
     specifier_only : (o : Option Specifier) → specifier_word o ≡ Some w.Const → ⊥
     specifier_only None f = cc
     specifier_only (Some s) f = let both : w.Specifier s ≡ w.Const = cc in cc
-
     go : (b : Bool) → bytes_eq text (codes "const") ≡ b → text ≡ codes "const"
     go true f = (bytes_eq-Decides text (codes "const")).0 f
     go false f = absurd (specifier_only (specifier_of text) (rw f at e))
@@ -147,7 +147,6 @@ specifier_text text s e = go (bytes_eq text (codes "const")) refl
     specifier_only : (o : Option Specifier) → specifier_word o ≡ Some (w.Specifier s) → o ≡ Some s
     specifier_only None f = absurd cc
     specifier_only (Some v) f = let both : w.Specifier v ≡ w.Specifier s = cc in let same : v ≡ s = cc in ap Some same
-
     go : (b : Bool) → bytes_eq text (codes "const") ≡ b → specifier_of text ≡ Some s
     go true f = absurd (let g : Some w.Const ≡ Some (w.Specifier s) = rw f at e in let both : w.Const ≡ w.Specifier s = cc in cc)
     go false f = specifier_only (specifier_of text) (rw f at e)
@@ -158,7 +157,6 @@ name_text text kind e = go (bytes_eq text (codes "const")) refl
     specifier_only : (o : Option Specifier) → specifier_word o ≡ Some (w.Name kind) → ⊥
     specifier_only None f = cc
     specifier_only (Some s) f = let both : w.Specifier s ≡ w.Name kind = cc in cc
-
     go : (b : Bool) → bytes_eq text (codes "const") ≡ b → ⊥
     go true f = let g : Some w.Const ≡ Some (w.Name kind) = rw f at e in let both : w.Const ≡ w.Name kind = cc in cc
     go false f = specifier_only (specifier_of text) (rw f at e)
@@ -284,7 +282,7 @@ pub kind_found : (tokens rest : List Terminal) (ws : List KindWord) (kind : Opti
 kind_found tokens rest ws kind k q a is c =
     let s = spelled_of_words q.reads in
     let d : DerivesKind s.ts k.kind k.constant =
-    subst (λ x. DerivesKind s.ts x k.constant) (sym is) (subst (λ x. DerivesKind s.ts kind x) (sym c) (derives_among (names ws) (specifiers ws) kind refl refl a s.spelled)) in
+        subst (λ x. DerivesKind s.ts x k.constant) (sym is) (subst (λ x. DerivesKind s.ts kind x) (sym c) (derives_among (names ws) (specifiers ws) kind refl refl a s.spelled)) in
     record {
       reads = record { taken = s.ts; split = s.split; derives = d };
       only = λ others b end e d ends.
@@ -297,12 +295,10 @@ kind_found tokens rest ws kind k q a is c =
     }
 
 pub kind_never : (tokens rest : List Terminal) (ws : List KindWord) → Found KindWords Anywhere tokens ws rest → type_among (names ws) (specifiers ws) ≡ None → Never SomeKind KindEnds tokens
-kind_never tokens rest ws q a = record {
-  none = λ others b end e d ends.
-      let h = read tokens others b end e d ends in
-      let o = q.only tokens h.ws end refl h.words tt in
-      let ks : Some b.kind ≡ None = sym h.among ∙ ap (λ x. type_among (names x) (specifiers x)) o.1 ∙ a in cc;
-}
+kind_never tokens rest ws q a = record { none = λ others b end e d ends.
+    let h = read tokens others b end e d ends in
+    let o = q.only tokens h.ws end refl h.words tt in
+    let ks : Some b.kind ≡ None = sym h.among ∙ ap (λ x. type_among (names x) (specifiers x)) o.1 ∙ a in cc }
 
 -- a type with values, as any type
 some_of : (k : ValueKind) → Kind
@@ -330,11 +326,9 @@ pub value_never : (tokens : List Terminal) → Never SomeKind KindEnds tokens �
 value_never tokens q = record { none = λ others b end e d ends. q.none others (record { kind = Some b.kind; constant = b.constant }) end e (as_some others b end d) ends }
 
 pub void_never : (tokens rest : List Terminal) (k : Kind) → Found SomeKind KindEnds tokens k rest → k.kind ≡ None → Never AValueKind KindEnds tokens
-void_never tokens rest k q is = record {
-  none = λ others b end e d ends.
-      let o = q.only others (record { kind = Some b.kind; constant = b.constant }) end e (as_some others b end d) ends in
-      let ks : Some b.kind ≡ None = ap (λ x. x.kind) o.1 ∙ is in cc;
-}
+void_never tokens rest k q is = record { none = λ others b end e d ends.
+    let o = q.only others (record { kind = Some b.kind; constant = b.constant }) end e (as_some others b end d) ends in
+    let ks : Some b.kind ≡ None = ap (λ x. x.kind) o.1 ∙ is in cc }
 
 -- ---- the words one by one
 

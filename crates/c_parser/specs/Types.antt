@@ -90,6 +90,7 @@ DerivesValueKind ts kind = DerivesKind ts (Some kind.kind) kind.constant
 abbrev pub AValueKind : List Terminal → ValueKind → List Terminal → Type 0
 AValueKind = Reads DerivesValueKind
 
+
 abbrev pub opens_cast : List Terminal → Bool
 opens_cast [] = false
 opens_cast (t ∷ ts) = is_paren t.kind && starts_kind ts

@@ -19,17 +19,11 @@ use hls_base::text::Text;
 use std::alloc::{AllocError, Global};
 
 const PRIMARY: u8 = 0;
-
 const POSTFIX: u8 = 1;
-
 const UNARY: u8 = 2;
-
 const BINARY: u8 = 12;
-
 pub const CHOICE: u8 = 13;
-
 pub const ASSIGN: u8 = 14;
-
 pub const COMMA: u8 = 15;
 
 /// Reads an expression of this level.

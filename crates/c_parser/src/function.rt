@@ -99,7 +99,11 @@ fn pass_over(cursor: &mut Cursor<'_>) -> bool
 }
 
 /// Reads a function behind its result.
-fn function(alloc: Global, cursor: &mut Cursor<'_>, kind: Option<CType>) -> Result<Function, Stop>
+fn function(
+    alloc: Global,
+    cursor: &mut Cursor<'_>,
+    kind: Option<CType>,
+) -> Result<Function, Stop>
     ensures found { IfOk result (λ f. Found (AFunction kind) Anywhere cursor.old (function_of f) cursor.new) }
     ensures absent { IfAbsent result (Never (AFunction kind) Anywhere cursor.old) }
     ensures shorter { OnOk result (length cursor.new < length cursor.old) }

@@ -136,7 +136,11 @@ fn object(alloc: Global, cursor: &mut Cursor<'_>, kind: ValueKind) -> Result<Obj
 }
 
 /// Reads the objects of this type, and the semicolon behind them.
-pub fn objects(alloc: Global, cursor: &mut Cursor<'_>, kind: ValueKind) -> Result<Vec<Object>, Stop>
+pub fn objects(
+    alloc: Global,
+    cursor: &mut Cursor<'_>,
+    kind: ValueKind,
+) -> Result<Vec<Object>, Stop>
     ensures found { IfOk result (λ all. Found (Listed (AnObject kind) p.Semicolon) Anywhere cursor.old (map object_of all.items) cursor.new) }
     ensures absent { IfAbsent result (Never (Listed (AnObject kind) p.Semicolon) Anywhere cursor.old) }
     ensures shorter { OnOk result (length cursor.new < length cursor.old) }

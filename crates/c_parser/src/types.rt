@@ -165,7 +165,11 @@ fn remove_one(words: &mut Vec<Specifier>, wanted: Specifier) -> bool
 }
 
 /// Whether these are the same words, in any order.
-fn same_words(alloc: Global, words: &[Specifier], others: &[Specifier]) -> Result<bool, AllocError>
+fn same_words(
+    alloc: Global,
+    words: &[Specifier],
+    others: &[Specifier],
+) -> Result<bool, AllocError>
     ensures { IfOk result (λ same. same ≡ same_words words.now others.now) }
 {
     let mut left = Vec::from_slice(alloc, others)?;
@@ -181,37 +185,30 @@ const INT_8: CType = CType::Int {
     signed: true,
     bits: 8,
 };
-
 const INT_16: CType = CType::Int {
     signed: true,
     bits: 16,
 };
-
 const INT_32: CType = CType::Int {
     signed: true,
     bits: 32,
 };
-
 const INT_64: CType = CType::Int {
     signed: true,
     bits: 64,
 };
-
 const UNSIGNED_8: CType = CType::Int {
     signed: false,
     bits: 8,
 };
-
 const UNSIGNED_16: CType = CType::Int {
     signed: false,
     bits: 16,
 };
-
 const UNSIGNED_32: CType = CType::Int {
     signed: false,
     bits: 32,
 };
-
 const UNSIGNED_64: CType = CType::Int {
     signed: false,
     bits: 64,
@@ -227,15 +224,9 @@ const ROWS: [(&[Specifier], Option<CType>); 28] = [
     (&[Specifier::Short], Some(INT_16)),
     (&[Specifier::Signed, Specifier::Short], Some(INT_16)),
     (&[Specifier::Short, Specifier::Int], Some(INT_16)),
-    (
-        &[Specifier::Signed, Specifier::Short, Specifier::Int],
-        Some(INT_16),
-    ),
+    (&[Specifier::Signed, Specifier::Short, Specifier::Int], Some(INT_16)),
     (&[Specifier::Unsigned, Specifier::Short], Some(UNSIGNED_16)),
-    (
-        &[Specifier::Unsigned, Specifier::Short, Specifier::Int],
-        Some(UNSIGNED_16),
-    ),
+    (&[Specifier::Unsigned, Specifier::Short, Specifier::Int], Some(UNSIGNED_16)),
     (&[Specifier::Int], Some(INT_32)),
     (&[Specifier::Signed], Some(INT_32)),
     (&[Specifier::Signed, Specifier::Int], Some(INT_32)),
@@ -244,46 +235,15 @@ const ROWS: [(&[Specifier], Option<CType>); 28] = [
     (&[Specifier::Long], Some(INT_64)),
     (&[Specifier::Signed, Specifier::Long], Some(INT_64)),
     (&[Specifier::Long, Specifier::Int], Some(INT_64)),
-    (
-        &[Specifier::Signed, Specifier::Long, Specifier::Int],
-        Some(INT_64),
-    ),
+    (&[Specifier::Signed, Specifier::Long, Specifier::Int], Some(INT_64)),
     (&[Specifier::Unsigned, Specifier::Long], Some(UNSIGNED_64)),
-    (
-        &[Specifier::Unsigned, Specifier::Long, Specifier::Int],
-        Some(UNSIGNED_64),
-    ),
+    (&[Specifier::Unsigned, Specifier::Long, Specifier::Int], Some(UNSIGNED_64)),
     (&[Specifier::Long, Specifier::Long], Some(INT_64)),
-    (
-        &[Specifier::Signed, Specifier::Long, Specifier::Long],
-        Some(INT_64),
-    ),
-    (
-        &[Specifier::Long, Specifier::Long, Specifier::Int],
-        Some(INT_64),
-    ),
-    (
-        &[
-            Specifier::Signed,
-            Specifier::Long,
-            Specifier::Long,
-            Specifier::Int,
-        ],
-        Some(INT_64),
-    ),
-    (
-        &[Specifier::Unsigned, Specifier::Long, Specifier::Long],
-        Some(UNSIGNED_64),
-    ),
-    (
-        &[
-            Specifier::Unsigned,
-            Specifier::Long,
-            Specifier::Long,
-            Specifier::Int,
-        ],
-        Some(UNSIGNED_64),
-    ),
+    (&[Specifier::Signed, Specifier::Long, Specifier::Long], Some(INT_64)),
+    (&[Specifier::Long, Specifier::Long, Specifier::Int], Some(INT_64)),
+    (&[Specifier::Signed, Specifier::Long, Specifier::Long, Specifier::Int], Some(INT_64)),
+    (&[Specifier::Unsigned, Specifier::Long, Specifier::Long], Some(UNSIGNED_64)),
+    (&[Specifier::Unsigned, Specifier::Long, Specifier::Long, Specifier::Int], Some(UNSIGNED_64)),
 ];
 
 fn row_in(

@@ -1,6 +1,6 @@
 -- The fault that the goals find is the one of the definitions.
-use Rattle.std.proofs.Common.{◌≡◌, ℕ, suc, ◌+◌, ◌<◌, ◌≤◌, Bool, true, false, List, [], ◌∷◌, ◌++◌, length, take, drop, get_or, Some, None, ◌⊎◌, refl, ap, sym, ◌∙◌, subst, arith, append_assoc, append-nil, length-append, inl, inr}
-use Rattle.std.specs.Prelude.{if◌then◌else◌, ◌||◌, nat_lt}
+use Rattle.std.proofs.Common.{◌≡◌, ℕ, suc, ◌+◌, ◌<◌, ◌≤◌, Bool, true, false, List, [], ◌∷◌, ◌++◌, length, take, drop, get_or, Some, None, ◌⊎◌, refl, ap, sym, ◌∙◌, subst, arith, append_assoc, append-nil, length-append}
+use Rattle.std.specs.Prelude.{if◌then◌else◌, ◌||◌}
 use Rattle.std.proofs.Math.Seq.{drop-cons}
 use Rattle.std.proofs.lemmas.Bool.{le-ltb}
 use Rattle.std.proofs.lemmas.List.{length-map, take_all, take-append-drop, drop_all, get_or-take, get_or-map, length-take-le, length-take}
@@ -10,7 +10,7 @@ use Rattle.c_token.specs.declared.token.Token.{Token}
 use Rattle.c_tree.specs.Tree.{ItemTree, ProgramTree}
 use Rattle.c_tree.specs.Terminals.{Terminal, terminals, terminal_of}
 use Rattle.c_tree.specs.Grammar.{DerivesItems}
-use Rattle.c_tree.specs.Limits.{item_list_marks, mark_at, exceeds, nesting_limit}
+use Rattle.c_tree.specs.Limits.{item_list_marks, mark_at, exceeds}
 use Rattle.c_tree.specs.Refusal.{Begins, Stops, IsBeyond, NoneBeyond, IsProgram, refusal, rule_of}
 use Rattle.c_syntax.specs.declared.goal.Goal.{Goal}
 use Rattle.c_syntax.specs.declared.goal.Goal.TheVariants as G
@@ -19,7 +19,7 @@ use Rattle.c_syntax.specs.declared.sort.Sort.{Sort}
 use Rattle.c_syntax.specs.declared.advance.Advance.{Advance}
 use Rattle.c_syntax.specs.declared.advance.Advance.TheVariants as a
 use Rattle.c_syntax.specs.Advances.{Advances}
-use Rattle.c_syntax.specs.Faults.{IsFoundFault, found_beyond, found_stop, rule_at_stop}
+use Rattle.c_syntax.specs.Faults.{IsFoundFault, found_beyond, found_stop}
 use Rattle.c_syntax.specs.Notes.{Noted, noting, raised, entry, is_beyond, Shows}
 use Rattle.c_syntax.specs.Sorts.{sort_of}
 use Rattle.c_syntax.specs.Steps.{Step, next, all_optional}
@@ -224,12 +224,3 @@ pub ended_beyond : (tokens : List Token) (j : ℕ) (goals : List Goal) (count : 
 ended_beyond [] j goals count noted nestings b end place le k s bad at = absurd (let h = shown_inside [] j goals count noted nestings b k s bad in omega (arith, h))
 ended_beyond (token ∷ tokens) j goals count noted nestings b end place le k s bad at =
     end_beyond (token ∷ tokens) j goals count noted nestings end place le k (subst (λ x. Shows nestings x noted) bad s) at token
-
--- the rule is one of the two
-pub stop_rule : (open_before : ℕ) (token : Token) (r : Refusal) → r ≡ refusal (rule_at_stop open_before token.kind) token.place
-    → (r ≡ refusal 32 token.place) ⊎ (r ≡ refusal (rule_of token.kind) token.place)
-stop_rule open_before token r e = either (nat_lt nesting_limit open_before) e
-  where
-    either : (b : Bool) → r ≡ refusal (if b then 32 else rule_of token.kind) token.place → (r ≡ refusal 32 token.place) ⊎ (r ≡ refusal (rule_of token.kind) token.place)
-    either true e = inl e
-    either false e = inr e

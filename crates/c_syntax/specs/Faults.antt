@@ -1,17 +1,11 @@
 -- The fault that the recogniser answers.
-use Rattle.std.specs.Prelude.{◌≡◌, List, [], ◌∷◌, ◌++◌, length, ◌⊎◌, ℕ, nat_lt, if◌then◌else◌}
+use Rattle.std.specs.Prelude.{◌≡◌, List, [], ◌∷◌, ◌++◌, length, ◌⊎◌}
 use Rattle.hls_base.specs.declared.place.Place.{Place}
 use Rattle.hls_base.specs.declared.refusal.Refusal.{Refusal}
 use Rattle.c_tree.specs.Tree.{ItemTree}
-use Rattle.c_token.specs.declared.token.TokenKind.{TokenKind}
 use Rattle.c_tree.specs.Terminals.{Terminal}
-use Rattle.c_tree.specs.Limits.{nesting_limit}
 use Rattle.c_tree.specs.Grammar.{DerivesItems}
 use Rattle.c_tree.specs.Refusal.{Reaches, IsBeyond, NoneBeyond, refusal, rule_of}
-
--- the rule where no program goes on, and so many constructs are open
-abbrev pub rule_at_stop : ℕ → TokenKind → ℕ
-rule_at_stop open_before kind = if nat_lt nesting_limit open_before then 32 else rule_of kind
 
 -- where no program goes on: rule 32 or the rule of the token, and rule 6 at the end
 abbrev pub StopsWith : List Terminal → List Terminal → Place → Refusal → Type 0

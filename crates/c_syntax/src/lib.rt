@@ -1,13 +1,13 @@
 //! The first token of a token list that no program of C has there, or that is beyond the limits.
 #![tactic(auto)]
 
-ghost use Rattle.std.specs.Prelude.{◌≡◌, IfOk};
+ghost use Rattle.std.specs.Prelude.{◌≡◌, ◌⊎◌, IfOk};
 ghost use Rattle.hls_base.specs.Refusals.{IfRefused};
 ghost use Rattle.c_tree.specs.Tree.{ProgramTree};
 ghost use Rattle.c_tree.specs.Terminals.{terminals};
-ghost use Rattle.c_tree.specs.Refusal.{IsProgram, refusal};
+ghost use Rattle.c_tree.specs.Refusal.{IsProgram, refusal, rule_of};
 ghost use Rattle.c_syntax.specs.Sorts.{sort_of, rule_of_sort};
-ghost use Rattle.c_syntax.specs.Faults.{IsFoundFault, rule_at_stop};
+ghost use Rattle.c_syntax.specs.Faults.{IsFoundFault};
 
 mod action;
 mod advance;
@@ -45,11 +45,11 @@ fn rule_of(sort: Sort) -> u8
 }
 
 /// The fault at a token with which no program goes on, where so many constructs are open.
-fn stop_at(token: &Token, sort: Sort, open_before: u8) -> Refusal
+fn stop_at(token: &Token, sort: Sort, open: u8) -> Refusal
     requires { sort ≡ sort_of token.now.kind }
-    ensures { result ≡ refusal (rule_at_stop open_before token.now.kind) token.now.place }
+    ensures { (result ≡ refusal 32 token.now.place) ⊎ (result ≡ refusal (rule_of token.now.kind) token.now.place) }
 {
-    let rule = if NESTING_LIMIT < open_before {
+    let rule = if NESTING_LIMIT < open {
         32
     } else {
         rule_of(sort)

@@ -1,5 +1,5 @@
 -- A list without a least fault is empty, and a least fault is less than none.
-use Rattle.std.proofs.Common.{◌≡◌, ℕ, zero, suc, ◌<◌, ◌≤◌, nat_lt, ◌==◌, ◌&&◌, ◌||◌, not, Bool, true, false, List, [], ◌∷◌, ◌++◌, Option, Some, None, is_some, All, IsTrue, refl, sym, ap, subst, ◌∙◌, arith, length, map, get_or, slice_get, bytes_eq, if◌then◌else◌, inl, inr, Vec, Global}
+use Rattle.std.proofs.Common.{◌≡◌, ℕ, zero, suc, ◌+◌, ◌^◌, ◌<◌, ◌≤◌, nat_lt, ◌==◌, ◌&&◌, ◌||◌, not, Bool, true, false, List, [], ◌∷◌, ◌++◌, Option, Some, None, is_some, All, Contains, IsTrue, refl, sym, ap, subst, ◌∙◌, arith, length, map, get_or, slice_get, bytes_eq, if◌then◌else◌, inl, inr, Vec, Global}
 use Rattle.std.proofs.lemmas.Slice.Eq.{bytes_eq-Decides}
 use Rattle.hls_base.specs.declared.place.Place.{Place}
 use Rattle.hls_base.specs.declared.refusal.Refusal.{Refusal}

@@ -1,5 +1,5 @@
 -- Initialisers, one equation for each variant.
-use Rattle.std.proofs.Common.{◌≡◌, ℕ, ◌+◌, ◌==◌, true, not, ◌||◌, List, [], ◌∷◌, Option, Some, None, Vec, Global, length, drop, refl, sym, ap, ◌∙◌, add-one}
+use Rattle.std.proofs.Common.{◌≡◌, ℕ, ◌+◌, ◌==◌, Bool, true, false, not, ◌||◌, List, [], ◌∷◌, Option, Some, None, Vec, Global, length, drop, refl, sym, ap, ◌∙◌, add-one}
 use Rattle.hls_base.specs.declared.place.Place.{Place}
 use Rattle.c_tree.specs.declared.expression.Expr.{Expr}
 use Rattle.c_tree.specs.declared.object.Init.{Init}

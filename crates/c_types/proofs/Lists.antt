@@ -1,10 +1,10 @@
 -- Two lists compared pair by pair, and lists from an index on.
-use Rattle.std.proofs.Common.{◌≡◌, ◌≢◌, ℕ, suc, ◌+◌, ◌<◌, ◌≤◌, Bool, true, false, ◌&&◌, List, [], ◌∷◌, length, drop, get_or, refl, sym, ap, ◌∙◌, arith, add-one, Option, Some, None, nat_lt, min, ◌^◌, ◌||◌, ◌⊎◌, inl, inr, add_assoc, add-zero}
+use Rattle.std.proofs.Common.{◌≡◌, ◌≢◌, ℕ, zero, suc, ◌+◌, ◌-◌, ◌<◌, ◌≤◌, Bool, true, false, ◌&&◌, List, [], ◌∷◌, ◌++◌, length, take, drop, get_or, refl, sym, ap, ◌∙◌, arith, map, add-one, Option, Some, None, nat_lt, min, ◌^◌, ◌||◌, ◌⊎◌, inl, inr, add_assoc, add-zero}
 use Rattle.std.specs.Cmp.Lexicographic.{pointwise}
 use Rattle.std.proofs.Math.ListN.{drop_of_length-le}
 use Rattle.std.proofs.lemmas.List.{at_drop_more}
 use Rattle.c_tree.specs.declared.expression.Expr.{Expr}
-use Rattle.c_tree.specs.View.{trees_of}
+use Rattle.c_tree.specs.View.{tree_of, trees_of}
 use Rattle.std.proofs.Math.Pow.{pow_mono}
 use Rattle.hls_base.specs.ArrayAddress.{address_bits, subscript_bits}
 use Rattle.c_checked.specs.Lengths.{all_usable, with_first}
@@ -66,14 +66,14 @@ pub product_more : (lengths : List (Option ℕ)) (i n bits more after total : �
 product_more lengths i n bits more after total lt is m way invariant =
     let rest = all_usable (drop (i + 1) lengths) in
     let whole : min (scaled (bits + more) rest) 131072 ≡ total =
-    ap (λ k. min (scaled (bits + k) rest) 131072) m
-    ∙ ap (λ k. min k 131072) (scaled_more bits n rest)
-    ∙ ap (λ o. min (scaled bits (all_usable (o ∷ drop (i + 1) lengths))) 131072) (sym is)
-    ∙ ap (λ o. min (scaled bits o) 131072) (sym (at_drop_more all_usable lengths i None lt))
-    ∙ invariant in
+        ap (λ k. min (scaled (bits + k) rest) 131072) m
+        ∙ ap (λ k. min k 131072) (scaled_more bits n rest)
+        ∙ ap (λ o. min (scaled bits (all_usable (o ∷ drop (i + 1) lengths))) 131072) (sym is)
+        ∙ ap (λ o. min (scaled bits o) 131072) (sym (at_drop_more all_usable lengths i None lt))
+        ∙ invariant in
     elim way [
-      | inl same ↦ ap (λ k. min (scaled k rest) 131072) same ∙ whole
-      | inr above ↦ ap (λ k. min (scaled k rest) 131072) above.1 ∙ scaled_capped (bits + more) rest above.0 ∙ whole
+      inl same ↦ ap (λ k. min (scaled k rest) 131072) same ∙ whole
+    | inr above ↦ ap (λ k. min (scaled k rest) 131072) above.1 ∙ scaled_capped (bits + more) rest above.0 ∙ whole
     ]
 
 pub product_end : (lengths : List (Option ℕ)) (i bits total : ℕ) → length lengths ≤ i → bits ≤ 17 → min (scaled bits (all_usable (drop i lengths))) 131072 ≡ total → 2 ^ bits ≡ total

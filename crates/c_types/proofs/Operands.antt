@@ -1,5 +1,5 @@
 -- Targets by their parts, and the operands from an index on.
-use Rattle.std.proofs.Common.{◌≡◌, ℕ, zero, suc, ◌+◌, ◌<◌, Bool, true, false, List, [], ◌∷◌, ◌++◌, Option, length, drop, get_or, refl, sym, ap, ◌∙◌, append_assoc, add-one, if◌then◌else◌}
+use Rattle.std.proofs.Common.{◌≡◌, ℕ, zero, suc, ◌+◌, ◌<◌, Bool, true, false, List, [], ◌∷◌, ◌++◌, Option, length, drop, get_or, refl, sym, ap, ◌∙◌, arith, append_assoc, add-one, if◌then◌else◌}
 use Rattle.std.proofs.lemmas.List.{at_drop_more}
 use Rattle.hls_base.specs.declared.place.Place.{Place}
 use Rattle.hls_base.specs.declared.refusal.Refusal.{Refusal}
@@ -20,11 +20,11 @@ target_parts t = fold_out-Target Tree TargetTree tree_step target_step t
 
 pub changed_parts : (bodies : List (List ℕ)) (names : List Declared) (t : Target) (at : Place) (valued : List Access) → least (changed_faults bodies names (target_of t) at valued)
     ≡ lesser (least (target_faults (sense_of t.name names) (count (trees_of t.subscripts.items)) t.at))
-    (lesser (least (conflicts_among names [] (trees_of t.subscripts.items)))
-    (lesser (least (between (all_accesses names (trees_of t.subscripts.items)) valued))
-    (lesser (least (conflicts_inside (change_of names t.name (count (trees_of t.subscripts.items)) at) (all_accesses names (trees_of t.subscripts.items))))
-    (lesser (least (conflicts_inside (change_of names t.name (count (trees_of t.subscripts.items)) at) valued))
-    (least (operand_faults bodies names [] (trees_of t.subscripts.items)))))))
+      (lesser (least (conflicts_among names [] (trees_of t.subscripts.items)))
+      (lesser (least (between (all_accesses names (trees_of t.subscripts.items)) valued))
+      (lesser (least (conflicts_inside (change_of names t.name (count (trees_of t.subscripts.items)) at) (all_accesses names (trees_of t.subscripts.items))))
+      (lesser (least (conflicts_inside (change_of names t.name (count (trees_of t.subscripts.items)) at) valued))
+      (least (operand_faults bodies names [] (trees_of t.subscripts.items)))))))
 changed_parts bodies names t at valued =
     let subscripts = trees_of t.subscripts.items in
     let own = change_of names t.name (count subscripts) at in
@@ -63,7 +63,7 @@ module _ (bodies : List (List ℕ)) (names : List Declared) (params : List Shape
       let here = if given then name_given_faults names (tree_of e) else expression_faults true bodies names (tree_of e) in
       ap (λ ps. lesser after (least (operand_faults bodies names ps (trees_of (drop (i + 1) es))))) (sym (drop-drop_1 i params))
       ∙ least_more (λ xs. operand_faults bodies names (drop i params) (trees_of xs)) es i e here (operand_faults bodies names (drop 1 (drop i params)) (trees_of (drop (i + 1) es)))
-      worst total after found lt is refl (f ∙ least-if given (name_given_faults names (tree_of e)) (expression_faults true bodies names (tree_of e)) own o) w invariant
+          worst total after found lt is refl (f ∙ least-if given (name_given_faults names (tree_of e)) (expression_faults true bodies names (tree_of e)) own o) w invariant
 
   pub conflicts_more : (before since own : List Access) (worst total after found : Option Refusal) → own ≡ accesses names (tree_of e) → since ≡ before ++ own → found ≡ least (between before own) → after ≡ lesser worst found →
       lesser worst (least (conflicts_among names before (trees_of (drop i es)))) ≡ total →
@@ -71,7 +71,7 @@ module _ (bodies : List (List ℕ)) (names : List Declared) (params : List Shape
   conflicts_more before since own worst total after found o s f w invariant =
       ap (λ zs. lesser after (least (conflicts_among names zs (trees_of (drop (i + 1) es))))) (s ∙ ap (λ zs. before ++ zs) o)
       ∙ least_more (λ xs. conflicts_among names before (trees_of xs)) es i e (between before (accesses names (tree_of e)))
-      (conflicts_among names (before ++ accesses names (tree_of e)) (trees_of (drop (i + 1) es))) worst total after found lt is refl (f ∙ ap (λ zs. least (between before zs)) o) w invariant
+          (conflicts_among names (before ++ accesses names (tree_of e)) (trees_of (drop (i + 1) es))) worst total after found lt is refl (f ∙ ap (λ zs. least (between before zs)) o) w invariant
 
   pub accesses_more : (before since own all : List Access) → own ≡ accesses names (tree_of e) → since ≡ before ++ own →
       before ++ all_accesses names (trees_of (drop i es)) ≡ all → since ++ all_accesses names (trees_of (drop (i + 1) es)) ≡ all

@@ -1,5 +1,5 @@
 -- Who comes to a function by calls: marks, and one call more.
-use Rattle.std.proofs.Common.{◌≡◌, ◌≢◌, ℕ, zero, suc, ◌+◌, ◌<◌, ◌≤◌, ◌==◌, ◌&&◌, ◌||◌, Bool, true, false, List, [], ◌∷◌, length, set, replicate, get_or, refl, sym, ap, ◌∙◌, arith, add-one, get_or-set_same, get_or-set_other, bytes_eq, if◌then◌else◌}
+use Rattle.std.proofs.Common.{◌≡◌, ◌≢◌, ℕ, zero, suc, ◌+◌, ◌<◌, ◌≤◌, ◌==◌, nat_le, ◌&&◌, ◌||◌, Bool, true, false, List, [], ◌∷◌, ◌++◌, length, set, replicate, drop, get_or, refl, sym, ap, ◌∙◌, arith, All, add-one, length-set, get_or-set_same, get_or-set_other, eq-eqb, bytes_eq, if◌then◌else◌}
 use Rattle.std.specs.List.{list_any}
 use Rattle.std.proofs.lemmas.List.{length-replicate, get_or-replicate}
 use Rattle.std.proofs.lemmas.List.Elements.{All-append}
@@ -58,7 +58,6 @@ mark_more next k f true rest lt = ap (λ b. b || rest) (set_one next k f (f == k
   where
     same : (f == k) ≡ (k == f)
     same = grind arith
-
     turned : (b b' c d : Bool) → b ≡ b' → ((b || c) || d) ≡ (c || ((b' && true) || d))
     turned true true true d e = refl
     turned true true false d e = refl
@@ -71,10 +70,10 @@ mark_more next k f true rest lt = ap (λ b. b || rest) (set_one next k f (f == k
 pub marks_more : (ls : List (ℕ × ℕ)) (size n target : ℕ) (marks next : List Bool) → AreWithin size ls → Marks ls size n target marks → length next ≡ size →
     ((f : ℕ) → f < length marks → get_or next f false ≡ ((f == target) || list_any (λ l. (l.0 == f) && get_or marks l.1 false) ls)) → Marks ls size (n + 1) target next
 marks_more ls size n target marks next within m long value = record {
-  long = long;
-  right = λ f lt.
+    long = long;
+    right = λ f lt.
       let below : f < length marks = omega (arith, m.long) in
       let found : get_or next f false ≡ reaches ls (suc n) f target =
-      value f below ∙ ap (λ b. (f == target) || b) (any_same (λ l. (l.0 == f) && get_or marks l.1 false) (λ l. (l.0 == f) && reaches ls n l.1 target) size ls within (λ l one two. ap (λ b. (l.0 == f) && b) (m.right l.1 two))) in
+          value f below ∙ ap (λ b. (f == target) || b) (any_same (λ l. (l.0 == f) && get_or marks l.1 false) (λ l. (l.0 == f) && reaches ls n l.1 target) size ls within (λ l one two. ap (λ b. (l.0 == f) && b) (m.right l.1 two))) in
       found ∙ ap (λ k. reaches ls k f target) (sym (add-one n));
-}
+  }

@@ -1,7 +1,7 @@
 -- The names that are visible, as a list that grows at its end.
-use Rattle.std.proofs.Common.{◌≡◌, ℕ, ◌+◌, ◌-◌, ◌<◌, List, [], ◌∷◌, ◌++◌, length, reverse, take, drop, get_or, Some, refl, sym, ap, ◌∙◌, bytes_eq, if◌then◌else◌, length-drop}
+use Rattle.std.proofs.Common.{◌≡◌, ℕ, zero, suc, ◌+◌, ◌-◌, ◌<◌, ◌≤◌, Bool, true, false, List, [], ◌∷◌, ◌++◌, length, reverse, take, drop, get_or, Option, Some, None, refl, sym, ap, ◌∙◌, arith, bytes_eq, if◌then◌else◌, length-drop}
 use Rattle.std.proofs.Math.Seq.{drop-append_seam}
-use Rattle.std.proofs.lemmas.List.{take_more, reverse-append, take-append-drop, length-reverse}
+use Rattle.std.proofs.lemmas.List.{take_more, reverse-append, take-append-drop, length-reverse, take-append-le}
 use Rattle.c_checked.specs.Names.{Declared, sense_of}
 
 -- a list in two parts, turned round

@@ -1,5 +1,5 @@
 -- Statements, one equation for each variant, and the names behind them.
-use Rattle.std.proofs.Common.{◌≡◌, ℕ, ◌+◌, ◌-◌, ◌≤◌, Bool, true, false, List, [], ◌∷◌, ◌++◌, Option, Some, None, map, Box, Vec, Global, length, drop, refl, sym, ap, ◌∙◌, append_assoc, arith, length-append, if◌then◌else◌}
+use Rattle.std.proofs.Common.{◌≡◌, ℕ, ◌+◌, ◌-◌, ◌≤◌, Bool, true, false, List, [], ◌∷◌, ◌++◌, Option, Some, None, is_some, map, Box, Vec, Global, length, drop, refl, sym, ap, ◌∙◌, append_assoc, arith, length-append, if◌then◌else◌}
 use Rattle.std.specs.Option.{option_map}
 use Rattle.std.proofs.Math.Seq.{drop-append_seam}
 use Rattle.hls_base.specs.declared.place.Place.{Place}
@@ -120,7 +120,7 @@ module _ (bodies : List (List ℕ)) (around : Around) (start : ℕ) (names : Lis
   pub for_parts : (init : Option (Box Stmt Global)) (test : Option Expr) (step : Vec Action Global) (body : Box Stmt Global) (at : Place) (inner : List Declared) →
       inner ≡ names_in_for names (first_part (option_map (λ p. stmt_of p.value) init)) → least (statement_faults bodies around start names (stmt_of (s.For init test step body at)))
       ≡ lesser (least (first_faults bodies (in_part around) (length names) names (first_part (option_map (λ p. stmt_of p.value) init)))) (lesser (least (optional_faults bodies inner (option_map tree_of test)))
-      (lesser (least (actions_faults bodies inner (map action_of step.items))) (least (statement_faults bodies (in_loop around) (length inner) inner (stmt_of body.value)))))
+        (lesser (least (actions_faults bodies inner (map action_of step.items))) (least (statement_faults bodies (in_loop around) (length inner) inner (stmt_of body.value)))))
   for_parts init test step body at inner is =
       let first = first_faults bodies (in_part around) (length names) names (first_part (option_map (λ p. stmt_of p.value) init)) in
       let tested : List Declared → List Refusal = λ ns. optional_faults bodies ns (option_map tree_of test) in

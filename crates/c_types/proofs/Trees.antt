@@ -1,7 +1,9 @@
 -- The trees of expressions, one equation for each variant.
-use Rattle.std.proofs.Common.{◌≡◌, ℕ, Bool, true, false, List, ◌++◌, Option, Box, Global, sym, ap, ◌∙◌}
+use Rattle.std.proofs.Common.{◌≡◌, ℕ, Bool, true, false, List, [], ◌++◌, Option, Box, Vec, Global, refl, sym, ap, ◌∙◌, rules}
 use Rattle.hls_base.specs.declared.place.Place.{Place}
+use Rattle.c_token.specs.declared.ctype.CType.{CType}
 use Rattle.c_tree.specs.declared.operator.Binary.{Binary}
+use Rattle.c_tree.specs.declared.operator.Unary.{Unary}
 use Rattle.c_tree.specs.declared.expression.Expr.{Expr}
 use Rattle.c_tree.specs.declared.expression.Expr.TheVariants as e
 use Rattle.c_tree.specs.declared.expression.Expr.TheOpen.{Expr-F}
@@ -9,7 +11,7 @@ use Rattle.c_tree.specs.declared.expression.Expr.TheFolds.{fold-roll-Expr}
 use Rattle.c_tree.specs.declared.expression.Target.{Target}
 use Rattle.c_tree.specs.Tree as tree
 use Rattle.c_tree.specs.Tree.{Tree, TargetTree}
-use Rattle.c_tree.specs.View.{tree_of, target_of, tree_step, target_step}
+use Rattle.c_tree.specs.View.{tree_of, target_of, trees_of, tree_step, target_step}
 use Rattle.c_checked.specs.Faults.{lesser, least}
 use Rattle.c_checked.specs.Names.{Declared}
 use Rattle.c_checked.specs.Conflicts.{accesses, operand_conflicts}

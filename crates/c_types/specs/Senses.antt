@@ -1,5 +1,5 @@
 -- What a name stands for, of the code's enum.
-use Rattle.std.specs.Prelude.{ℕ, List}
+use Rattle.std.specs.Prelude.{ℕ, List, Option}
 use Rattle.c_checked.specs.Names as names
 use Rattle.c_types.specs.declared.names.Sense.{Sense}
 use Rattle.c_types.specs.declared.names.Sense.TheVariants as s

@@ -1,4 +1,5 @@
 -- Lengths and labels, of the code's enums.
+use Rattle.std.specs.Prelude.{ℕ, List, Option}
 use Rattle.hls_base.specs.declared.place.Place.{Place}
 use Rattle.c_checked.specs.Lengths as lengths
 use Rattle.c_checked.specs.Labels as labels

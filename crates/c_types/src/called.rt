@@ -162,7 +162,11 @@ fn add_init_calls(alloc: Global, init: &Init, calls: &mut Vec<Called>) -> Result
 }
 
 #[cycle(inits)]
-fn add_inits_calls(alloc: Global, items: &[Init], calls: &mut Vec<Called>) -> Result<(), AllocError>
+fn add_inits_calls(
+    alloc: Global,
+    items: &[Init],
+    calls: &mut Vec<Called>,
+) -> Result<(), AllocError>
     ensures { OnOk result (calls.new.items ≡ calls.old.items ++ spec.inits_calls (inits_of items.now)) }
 {
     for item in items {
@@ -269,7 +273,11 @@ fn add_statement_calls(
 }
 
 #[cycle(statements)]
-fn add_block_calls(alloc: Global, body: &[Stmt], calls: &mut Vec<Called>) -> Result<(), AllocError>
+fn add_block_calls(
+    alloc: Global,
+    body: &[Stmt],
+    calls: &mut Vec<Called>,
+) -> Result<(), AllocError>
     ensures { OnOk result (calls.new.items ≡ calls.old.items ++ spec.statements_calls (stmts_of body.now)) }
 {
     for stmt in body {

@@ -10,7 +10,7 @@ ghost use Rattle.c_checked.specs.Expressions.{name_given_faults};
 ghost use Rattle.c_checked.specs.Calls as spec;
 
 use crate::faults::{fault, fault_if, lesser};
-use crate::names::{Scopes, Sense, Shape, is_same_name};
+use crate::names::{is_same_name, Scopes, Sense, Shape};
 use c_token::ctype::CType;
 use c_tree::expression::Expr;
 use hls_base::place::Place;

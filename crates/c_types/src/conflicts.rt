@@ -7,7 +7,7 @@ ghost use Rattle.c_checked.specs.Conflicts.{names_it, is_access, changes};
 ghost use Rattle.c_checked.specs.Conflicts as spec;
 
 use crate::faults::{fault_if, lesser};
-use crate::names::{Scopes, Sense, is_same_name};
+use crate::names::{is_same_name, Scopes, Sense};
 use c_tree::operator::Binary;
 use hls_base::place::Place;
 use hls_base::refusal::Refusal;

@@ -9,9 +9,9 @@ ghost use Rattle.c_checked.specs.Expressions as spec;
 ghost use Rattle.c_tree.specs.Tree as tree;
 
 use crate::calls::{call_fault, count, is_array, name_given_fault, params_of, void_fault};
-use crate::conflicts::{Access, between, change_of, conflict_inside, operand_conflict, read_of};
+use crate::conflicts::{between, change_of, conflict_inside, operand_conflict, read_of, Access};
 use crate::faults::lesser;
-use crate::names::{Scopes, Shape, target_fault, use_fault};
+use crate::names::{target_fault, use_fault, Scopes, Shape};
 use c_tree::expression::{Expr, Target};
 use hls_base::place::Place;
 use hls_base::refusal::Refusal;
@@ -76,10 +76,7 @@ pub fn expression(
         Expr::Call { callee, args, at } => call(alloc, bodies, names, used, callee, args, *at),
         Expr::Unary { arg, .. } => expression(alloc, bodies, names, true, arg),
         Expr::Binary {
-            op,
-            left,
-            right,
-            ..
+            op, left, right, ..
         } => {
             let left = expression(alloc, bodies, names, true, left)?;
             let right = expression(alloc, bodies, names, true, right)?;
@@ -100,10 +97,7 @@ pub fn expression(
         }
         Expr::Cast { arg, .. } => expression(alloc, bodies, names, true, arg),
         Expr::Assign {
-            target,
-            value,
-            at,
-            ..
+            target, value, at, ..
         } => {
             let value = expression(alloc, bodies, names, true, value)?;
             let target = changed(alloc, bodies, names, target, *at, &value.accesses)?;

@@ -25,7 +25,13 @@ pub fn lesser(r: Option<Refusal>, s: Option<Refusal>) -> Option<Refusal>
     match (r, s) {
         (None, s) => s,
         (Some(r), None) => Some(r),
-        (Some(r), Some(s)) => { if is_less(s, r) { Some(s) } else { Some(r) } }
+        (Some(r), Some(s)) => {
+            if is_less(s, r) {
+                Some(s)
+            } else {
+                Some(r)
+            }
+        }
     }
 }
 

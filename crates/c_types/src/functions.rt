@@ -45,12 +45,10 @@ fn disagrees(names: &Scopes, f: &Function, params: &[Shape]) -> bool
     match names.find(&f.name) {
         None => false,
         Some(Sense::Object(_)) => true,
-        Some(
-            Sense::Function {
-                result: gives,
-                params: first,
-            },
-        ) => !(same_result(*gives, f.result) && same_shapes(first, params)),
+        Some(Sense::Function {
+            result: gives,
+            params: first,
+        }) => !(same_result(*gives, f.result) && same_shapes(first, params)),
     }
 }
 

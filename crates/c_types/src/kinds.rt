@@ -7,7 +7,7 @@ ghost use Rattle.c_checked.specs.Names as spec;
 use crate::names::{Scopes, Sense};
 use c_token::ctype::CType;
 use c_tree::expression::Expr;
-use c_value::kind::{INT, common};
+use c_value::kind::{common, INT};
 use c_value::operate::{binary_kind, unary_kind};
 use hls_base::text::Text;
 
@@ -26,12 +26,10 @@ fn result_kind(names: &Scopes, name: &Text) -> CType
     ensures { result ≡ spec.result_kind (sense_of name.now names.now) }
 {
     match names.find(name) {
-        Some(
-            Sense::Function {
-                result: Some(kind),
-                ..
-            },
-        ) => *kind,
+        Some(Sense::Function {
+            result: Some(kind),
+            ..
+        }) => *kind,
         _ => INT,
     }
 }
@@ -47,10 +45,7 @@ pub fn kind_of(names: &Scopes, e: &Expr) -> CType
         Expr::Call { callee, .. } => result_kind(names, callee),
         Expr::Unary { op, arg, .. } => unary_kind(*op, kind_of(names, arg)),
         Expr::Binary {
-            op,
-            left,
-            right,
-            ..
+            op, left, right, ..
         } => binary_kind(*op, kind_of(names, left), kind_of(names, right)),
         Expr::Choice { yes, no, .. } => common(kind_of(names, yes), kind_of(names, no)),
         Expr::Cast { to, .. } => *to,

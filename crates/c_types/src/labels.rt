@@ -13,7 +13,7 @@ use crate::lengths::has_value;
 use c_token::ctype::CType;
 use c_tree::expression::Expr;
 use c_tree::statement::Stmt;
-use c_value::constant::{Constant, constant_value};
+use c_value::constant::{constant_value, Constant};
 use c_value::convert::convert;
 use hls_base::place::Place;
 use hls_base::refusal::Refusal;
@@ -137,7 +137,11 @@ fn label_of(kind: CType, value: &Option<Expr>) -> Label
 }
 
 /// Adds the labels of a statement, and of the statement that they label.
-fn add_labels(kind: CType, stmt: &Stmt, labels: &mut Vec<LabelAt>) -> Result<(), AllocError>
+fn add_labels(
+    kind: CType,
+    stmt: &Stmt,
+    labels: &mut Vec<LabelAt>,
+) -> Result<(), AllocError>
     ensures { OnOk result (labels.new.items ≡ labels.old.items ++ spec.labels_of kind (stmt_of stmt.now)) }
 {
     match stmt {

@@ -14,7 +14,7 @@ use crate::faults::{fault_if, lesser};
 use crate::names::Shape;
 use c_tree::expression::Expr;
 use c_tree::object::{Init, Object};
-use c_value::constant::{Constant, constant_value};
+use c_value::constant::{constant_value, Constant};
 use hls_base::refusal::Refusal;
 use std::alloc::{AllocError, Global};
 
@@ -158,7 +158,11 @@ fn subscript_bits(length: u32) -> u32
 fn above(length: u32, power: u32) -> u32
     ensures { result ≡ (if nat_lt power length then 1 else 0) }
 {
-    if power < length { 1 } else { 0 }
+    if power < length {
+        1
+    } else {
+        0
+    }
 }
 
 /// The product of the lengths, each rounded up to a power of two, up to 131,072; 0 where one is at fault.

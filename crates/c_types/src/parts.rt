@@ -54,10 +54,7 @@ fn action_fault(
 {
     match action {
         Action::Assign {
-            target,
-            value,
-            at,
-            ..
+            target, value, at, ..
         } => {
             let value = expression(alloc, bodies, names, true, value)?;
             let target = changed(alloc, bodies, names, target, *at, &value.accesses)?;

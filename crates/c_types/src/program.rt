@@ -12,7 +12,7 @@ use crate::called::callers_of;
 use crate::calls::is_in;
 use crate::faults::{fault_if, lesser};
 use crate::functions::{declaration_fault, function_fault};
-use crate::names::{Scopes, is_same_name};
+use crate::names::{is_same_name, Scopes};
 use crate::recursion::recursion_fault;
 use crate::statements::objects_fault;
 use c_checked::checked::Checked;
@@ -84,7 +84,11 @@ fn items_fault(
 
 /// The least fault of a program whose top function has this name.
 #[tactic(auto, using(crate::proofs::Least::least_append))]
-fn least_fault(alloc: Global, program: &Program, top: &Text) -> Result<Option<Refusal>, AllocError>
+fn least_fault(
+    alloc: Global,
+    program: &Program,
+    top: &Text,
+) -> Result<Option<Refusal>, AllocError>
     ensures { IfOk result (λ r. r ≡ least (program_faults (program_of program.now) top.now)) }
 {
     let items = program.items.as_slice();

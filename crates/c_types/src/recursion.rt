@@ -145,7 +145,10 @@ fn round_fault(
 }
 
 /// The least call that leads round. It takes time by the calls and twice the functions.
-pub fn recursion_fault(alloc: Global, callers: &[Caller]) -> Result<Option<Refusal>, AllocError>
+pub fn recursion_fault(
+    alloc: Global,
+    callers: &[Caller],
+) -> Result<Option<Refusal>, AllocError>
     ensures { IfOk result (λ r. r ≡ least (recursion_faults callers.now 0 callers.now)) }
 {
     let linked = links_of(alloc, callers)?;
@@ -153,10 +156,7 @@ pub fn recursion_fault(alloc: Global, callers: &[Caller]) -> Result<Option<Refus
     for (i, caller) in callers.iter().enumerate() {
         let target = number(callers, &caller.name);
         let marks = reaching(alloc, &linked, callers.len() + 1, callers.len(), target)?;
-        worst = lesser(
-            worst,
-            round_fault(callers, &marks, i, target, &caller.calls),
-        );
+        worst = lesser(worst, round_fault(callers, &marks, i, target, &caller.calls));
     }
     Ok(worst)
 }

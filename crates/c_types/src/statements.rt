@@ -13,12 +13,10 @@ ghost use Rattle.c_types.specs.Extended.{Extends};
 
 use crate::faults::{fault_if, lesser};
 use crate::kinds::kind_of;
-use crate::labels::{Around, has_no_value, outside_fault, repeated_fault, return_fault};
+use crate::labels::{has_no_value, outside_fault, repeated_fault, return_fault, Around};
 use crate::lengths::form_of;
 use crate::names::{Declared, Scopes, Sense};
-use crate::parts::{
-    actions_fault, lengths_fault, optional_fault, optional_init_fault, value_fault,
-};
+use crate::parts::{actions_fault, lengths_fault, optional_fault, optional_init_fault, value_fault};
 use c_tree::action::Action;
 use c_tree::expression::Expr;
 use c_tree::object::Object;

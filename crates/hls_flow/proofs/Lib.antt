@@ -1,1 +1,5 @@
-pub mod SumMade
+mod Words
+mod Outcomes
+mod SumMade
+pub mod Faults
+mod Lengths

@@ -1,6 +1,6 @@
 use Rattle.std.proofs.Common.{◌∙◌, [], sym, subst}
 use Rattle.c_syntax.specs.Notes.{Shows}
-use Rattle.c_syntax.proofs.Faults.{stop_rule, Known, known_first, taken_on, stopped_on, stopped_beyond, stop_fault, ended_beyond, end_fault, end_program}
+use Rattle.c_syntax.proofs.Faults.{Known, known_first, taken_on, stopped_on, stopped_beyond, stop_fault, ended_beyond, end_fault, end_program}
 use Rattle.c_syntax.proofs.find_fault.Goals as goal
 
 pub loop-index-init : goal.loop-index-init
@@ -29,7 +29,7 @@ returns-in-Stopped-clause-refused c =
     let none = stopped_on c.args.tokens.now c.loop-index.index c.index-tokens-index.result c.loop-index.stack c.take_token.new.stack c.loop-index.count i.0 c.sort_of-sort.result c.in_ok-take.field-0 c.in-Stopped.open
     c.loop-index-test.true c.sort_of-sort.ensures i.1 c.in-Stopped.is c.in_ok-take.ensures in
     stop_fault c.args.tokens.now c.loop-index.index c.index-tokens-index.result c.loop-index.stack c.loop-index.count i.0 c.loop-index.depths.nestings.items c.args.end c.stop_at.result
-    c.loop-index-test.true c.index-tokens-index.is i.1 none (subst (λ b. Shows c.loop-index.depths.nestings.items b i.0) c.in_default.ensures i.2) (stop_rule c.in-Stopped.open c.index-tokens-index.result c.stop_at.result c.stop_at.ensures)
+    c.loop-index-test.true c.index-tokens-index.is i.1 none (subst (λ b. Shows c.loop-index.depths.nestings.items b i.0) c.in_default.ensures i.2) c.stop_at.ensures
 
 pub returns-in-Some-place_beyond-clause-refused : goal.returns-in-Some-place_beyond-clause-refused
 returns-in-Some-place_beyond-clause-refused c =

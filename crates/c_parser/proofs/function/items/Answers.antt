@@ -6,7 +6,7 @@ use Rattle.c_parser.proofs.FunctionForms.{items_end, items_go_on, items_apart}
 use Rattle.c_parser.proofs.function.items.Goals as goal
 
 pub returns-in_err-one-clause-absent : goal.returns-in_err-one-clause-absent
-returns-in_err-one-clause-absent c = let o = c.in-Some.ensures in
+returns-in_err-one-clause-absent c = let o = c.in-Some.ensures in 
     through _ c.in_err-one.field-0.0 _ _ c.from_residual.ensures.1 (λ y e. e) c.in_err-one.ensures.absent
     (λ n. grows_never _ _ _ c.loop-token.invariant (repeated_never items_apart _ (items_go_on _ _ _ o.1) n))
 

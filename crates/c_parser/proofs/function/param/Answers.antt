@@ -8,7 +8,7 @@ pub returns-in_default-clause-absent : goal.returns-in_default-clause-absent
 returns-in_default-clause-absent c = no_param_here _ c.in_default.ensures
 
 pub returns-in_err-kind-clause-absent : goal.returns-in_err-kind-clause-absent
-returns-in_err-kind-clause-absent c = let o = c.in-Some.ensures in
+returns-in_err-kind-clause-absent c = let o = c.in-Some.ensures in 
     through _ c.in_err-kind.field-0.0 _ _ c.from_residual.ensures.1 (λ y e. e) c.in_err-kind.ensures.absent
     (λ n. step_never _ _ (param_step _ _ _ o.1) (loose_never _ (param_apart _) n))
 

@@ -8,7 +8,7 @@ use Rattle.c_parser.proofs.Actions.{comma_separates, closer_separates}
 use Rattle.c_parser.proofs.function.param_list.Goals as goal
 
 pub returns-in_err-one-clause-absent : goal.returns-in_err-one-clause-absent
-returns-in_err-one-clause-absent c =
+returns-in_err-one-clause-absent c = 
     through _ c.in_err-one.field-0.0 _ _ c.from_residual.ensures.1 (λ y e. e) c.in_err-one.ensures.absent
     (λ n. grows_never _ _ _ c.loop-all.invariant.grows (listed_never p.RightParen paren_no_comma comma_separates (closer_separates p.RightParen refl) _ n))
 
@@ -20,7 +20,7 @@ loop-all-preserved c = let x = c.if-not-eat.ensures in record {
 }
 
 pub returns-in_err-expect-clause-absent : goal.returns-in_err-expect-clause-absent
-returns-in_err-expect-clause-absent c = let x = c.if-not-eat.ensures in
+returns-in_err-expect-clause-absent c = let x = c.if-not-eat.ensures in 
     through _ c.in_err-expect.field-0.0 _ _ c.from_residual-in_err-expect.ensures.1 (λ y e. e) c.in_err-expect.ensures.absent
     (λ n. grows_never _ _ _ c.loop-all.invariant.grows (listed_unclosed p.RightParen paren_no_comma comma_separates (closer_separates p.RightParen refl) _ _ _ _ c.in_ok-one.ensures.found x.0 x.1 n))
 

@@ -15,7 +15,7 @@ pub returns-in_default-clause-absent : goal.returns-in_default-clause-absent
 returns-in_default-clause-absent c = let x = c.if-eat.ensures in let o = c.in_default.ensures in tail_absent _ _ _ (params_step _ _ _ x.0 x.1 o.0 o.1) c.param_list.ensures.absent
 
 pub returns-in_err-expect-clause-absent : goal.returns-in_err-expect-clause-absent
-returns-in_err-expect-clause-absent c = let x = c.if-eat.ensures in
+returns-in_err-expect-clause-absent c = let x = c.if-eat.ensures in 
     through _ c.in_err-expect.field-0.0 _ _ c.from_residual.ensures.1 (λ y e. e) c.in_err-expect.ensures.absent
     (λ n. step_never _ _ (void_step _ _ _ _ x.0 c.in-Some.ensures) n)
 

@@ -161,7 +161,7 @@ pub branches-returns-in_default-clause-fits : goal.branches-returns-in_default-c
 branches-returns-in_default-clause-fits t c = let o = c.in_default.ensures in no_else_fits (stmt_of c.in_ok-one.one) _ _ o.0 o.1
 
 pub branches-returns-clause-found : goal.branches-returns-clause-found
-branches-returns-clause-found t c =
+branches-returns-clause-found t c = 
     step_found _ _ _ _ _ (rw c.in_ok-no.ensures at c.in_ok-both.ensures) (else_step _ _ _ _ _ _ _ c.in_ok-yes.ensures.found c.in_ok-yes.ensures.fits c.in-Some.ensures) c.in_ok-second.ensures.found
 
 pub branches-returns-clause-fits : goal.branches-returns-clause-fits

@@ -20,5 +20,5 @@ returns-in_err-step-clause-absent c = through _ c.in_err-step.field-0.0 _ _ c.fr
     (λ n. then_stuck _ _ _ c.in_ok-expect.ensures.found (then_stuck _ _ _ c.in_ok-init.ensures.found (then_stuck _ _ _ c.in_ok-test.ensures.found n)))
 
 pub returns-clause-found : goal.returns-clause-found
-returns-clause-found c =
+returns-clause-found c = 
     then_found _ _ _ _ _ _ refl c.in_ok-expect.ensures.found (then_found _ _ _ _ _ _ refl c.in_ok-init.ensures.found (then_found _ _ _ _ _ _ refl c.in_ok-test.ensures.found c.in_ok-step.ensures.found))

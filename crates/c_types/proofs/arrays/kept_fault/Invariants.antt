@@ -1,7 +1,8 @@
-use Rattle.std.proofs.Common.{◌≡◌, ◌≤◌, drop, map}
-use Rattle.c_tree.specs.View.{item_of}
+use Rattle.std.proofs.Common.{◌≡◌, ◌++◌, ◌≤◌, [], drop, map, List}
+use Rattle.c_tree.specs.Tree.{ObjectTree}
+use Rattle.c_tree.specs.View.{object_of, param_of, item_of, stmts_of}
 use Rattle.c_checked.specs.Faults.{least}
-use Rattle.c_checked.specs.Limits.{kept_faults, file_objects}
+use Rattle.c_checked.specs.Limits.{array_places, param_arrays, statements_arrays, param_places, file_arrays, new_function_places, kept_faults, file_objects}
 use Rattle.c_types.proofs.arrays.kept_fault.Given as goal
 
 abbrev pub invariant-loop-item : goal.invariant-loop-item

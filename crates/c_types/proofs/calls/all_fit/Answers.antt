@@ -1,4 +1,4 @@
-use Rattle.std.proofs.Common.{◌≡◌, true, List, [], ◌∷◌, drop, refl, sym, ap, ◌∙◌}
+use Rattle.std.proofs.Common.{◌≡◌, Bool, true, List, [], ◌∷◌, drop, refl, sym, ap, ◌∙◌}
 use Rattle.c_tree.specs.Tree as tree
 use Rattle.c_tree.specs.View.{trees_of}
 use Rattle.c_checked.specs.Names.{Shape, Declared}

@@ -1,6 +1,7 @@
 use Rattle.std.proofs.Common.{◌≡◌, drop}
+use Rattle.std.specs.List.{list_any}
 use Rattle.c_checked.specs.Faults.{lesser, least}
-use Rattle.c_checked.specs.Conflicts.{changes, clashes}
+use Rattle.c_checked.specs.Conflicts.{names_it, changes, clashes}
 use Rattle.c_types.proofs.conflicts.clashes_with_changes.Given as goal
 
 abbrev pub invariant-loop-access : goal.invariant-loop-access

@@ -26,16 +26,16 @@ returns-clause-fault c =
     let named = params_faults bodies (is_some body) (length names) names params in
     let inside = body_faults bodies f.result (length names) (with_params params names) body in
     let one : c.limit_fault-many.result ≡ least many =
-    c.limit_fault-many.ensures ∙ ap (λ ps. least (limit_faults 32 34 ps)) (c.deref-2.ensures.value ∙ c.in_ok-places.ensures ∙ ap (λ ps. param_places (map param_of ps)) c.deref.ensures.value) in
+        c.limit_fault-many.ensures ∙ ap (λ ps. least (limit_faults 32 34 ps)) (c.deref-2.ensures.value ∙ c.in_ok-places.ensures ∙ ap (λ ps. param_places (map param_of ps)) c.deref.ensures.value) in
     let two : c.limit_fault-wide.result ≡ least wide =
-    c.limit_fault-wide.ensures ∙ ap (λ ps. least (limit_faults 32 35 ps)) (c.deref-3.ensures.value ∙ c.in_ok-arrays.ensures) in
+        c.limit_fault-wide.ensures ∙ ap (λ ps. least (limit_faults 32 35 ps)) (c.deref-3.ensures.value ∙ c.in_ok-arrays.ensures) in
     let three : c.in_ok-params.params ≡ least named =
-    c.in_ok-params.ensures.fault
-    ∙ ap (λ h. least (params_faults bodies h c.len-start.result names (map param_of c.deref-4.result.now))) (c.is_some-has_body.ensures ∙ sym (body_some f.body))
-    ∙ ap (λ s. least (params_faults bodies (is_some body) s names (map param_of c.deref-4.result.now))) c.len-start.ensures
-    ∙ ap (λ ps. least (params_faults bodies (is_some body) (length names) names (map param_of ps))) c.deref-4.ensures.value in
+        c.in_ok-params.ensures.fault
+        ∙ ap (λ h. least (params_faults bodies h c.len-start.result names (map param_of c.deref-4.result.now))) (c.is_some-has_body.ensures ∙ sym (body_some f.body))
+        ∙ ap (λ s. least (params_faults bodies (is_some body) s names (map param_of c.deref-4.result.now))) c.len-start.ensures
+        ∙ ap (λ ps. least (params_faults bodies (is_some body) (length names) names (map param_of ps))) c.deref-4.ensures.value in
     let four : c.in_ok-body.body ≡ least inside =
-    c.in_ok-body.ensures.fault
-    ∙ ap (λ s. least (body_faults bodies f.result s c.params_fault.new.names body)) c.len-start.ensures
-    ∙ ap (λ ns. least (body_faults bodies f.result (length names) ns body)) (c.in_ok-params.ensures.names ∙ ap (λ ps. with_params (map param_of ps) names) c.deref-4.ensures.value) in
+        c.in_ok-body.ensures.fault
+        ∙ ap (λ s. least (body_faults bodies f.result s c.params_fault.new.names body)) c.len-start.ensures
+        ∙ ap (λ ns. least (body_faults bodies f.result (length names) ns body)) (c.in_ok-params.ensures.names ∙ ap (λ ps. with_params (map param_of ps) names) c.deref-4.ensures.value) in
     join many (wide ++ (named ++ inside)) _ _ _ one (join wide (named ++ inside) _ _ _ two (join named inside _ _ _ three four c.lesser.ensures) c.lesser-2.ensures) c.lesser-3.ensures

@@ -1,4 +1,4 @@
-use Rattle.std.proofs.Common.{◌≡◌, ◌*◌, ◌^◌, ◌<◌, ◌≤◌, ◌⊎◌, ◌+◌, inl, inr, ◌∙◌, arith}
+use Rattle.std.proofs.Common.{◌≡◌, ℕ, ◌*◌, ◌%◌, ◌^◌, ◌<◌, ◌≤◌, ◌⊎◌, ◌+◌, inl, inr, sym, ap, ◌∙◌, arith}
 use Rattle.std.proofs.Math.Nat.{mod-eq_of_lt}
 use Rattle.std.proofs.Math.Pow.{pow_mono}
 use Rattle.c_types.proofs.Lists.{product_more, product_end}
@@ -8,7 +8,7 @@ use Rattle.c_types.proofs.lengths.capped_product.Goals.{then-bits-gt17, else-bit
 pub loop-length-preserved : goal.loop-length-preserved
 loop-length-preserved c =
     let way : (c.if-bits-gt17.bits ≡ c.loop-length.bits + c.subscript_bits-bits.result) ⊎ ((17 < c.loop-length.bits + c.subscript_bits-bits.result) × (c.if-bits-gt17.bits ≡ 17)) =
-    elim c.if-bits-gt17.branch [ then-bits-gt17 w ↦ inr (w.if-bits-gt17.true, w.bits-is) | else-bits-gt17 w ↦ inl w.bits-is ] in
+        elim c.if-bits-gt17.branch [ then-bits-gt17 w ↦ inr (w.if-bits-gt17.true, w.bits-is) | else-bits-gt17 w ↦ inl w.bits-is ] in
     record {
       bound = elim c.if-bits-gt17.branch [ then-bits-gt17 w ↦ omega arith | else-bits-gt17 w ↦ omega arith ];
       value = product_more c.args.lengths.now c.loop-length.length-index c.in-Some.length c.loop-length.bits c.subscript_bits-bits.result c.if-bits-gt17.bits _ c.loop-length-test.true c.in-Some.is

@@ -1,4 +1,4 @@
-use Rattle.std.proofs.Common.{◌≡◌, ◌<◌, [], Some, true, map, length, slice_get, sym, ap, ◌∙◌, arith}
+use Rattle.std.proofs.Common.{◌≡◌, ◌<◌, ◌^◌, [], Some, true, map, length, slice_get, sym, ap, ◌∙◌, arith}
 use Rattle.c_tree.specs.View.{item_of, program_of}
 use Rattle.c_token.specs.Replacement.{is_in}
 use Rattle.c_checked.specs.Programs.{program_faults, body_names, body_name_of, top_name}

@@ -1,4 +1,4 @@
-use Rattle.std.proofs.Common.{◌≡◌, ◌+◌, drop}
+use Rattle.std.proofs.Common.{◌≡◌, ◌+◌, ◌≤◌, drop, length}
 use Rattle.c_checked.specs.Calls.{number_of}
 use Rattle.c_types.proofs.recursion.number.Given as goal
 

@@ -1,6 +1,6 @@
 use Rattle.std.proofs.Common.{◌≡◌, ℕ, ◌<◌, ◌==◌, ◌&&◌, ◌||◌, false, List, Bool, get_or, length, subst, sym, ap, ◌∙◌, arith}
 use Rattle.std.specs.List.{list_any}
-use Rattle.c_types.specs.Linked.{AreWithin}
+use Rattle.c_types.specs.Linked.{AreWithin, Marks}
 use Rattle.c_types.proofs.Rounds.{marks_more}
 use Rattle.c_types.proofs.recursion.reaching.Goals as goal
 

@@ -1,10 +1,10 @@
-use Rattle.std.proofs.Common.{◌≡◌, true, refl, sym, ap, ◌∙◌, length}
+use Rattle.std.proofs.Common.{◌≡◌, true, refl, sym, ap, ◌∙◌, map, length}
 use Rattle.std.specs.Option.{option_map}
-use Rattle.c_tree.specs.View.{tree_of, stmt_of, stmts_of, else_of, else_part}
+use Rattle.c_tree.specs.View.{tree_of, stmt_of, stmts_of, else_of, else_part, first_part}
 use Rattle.c_checked.specs.Faults.{lesser, least}
 use Rattle.c_checked.specs.Labels.{in_part}
 use Rattle.c_checked.specs.Expressions.{expression_faults}
-use Rattle.c_checked.specs.Statements.{statement_faults, block_faults, else_faults, names_behind}
+use Rattle.c_checked.specs.Statements.{statement_faults, block_faults, else_faults, names_behind, names_in_for}
 use Rattle.c_types.specs.Written.{around_view}
 use Rattle.c_types.proofs.Least.{least_thread}
 use Rattle.c_types.proofs.StatementTrees.{if_parts, extends_behind, extends_in_for, extends_more, extends_by, may_forget, has_forgotten, names_behind_for}
@@ -35,13 +35,13 @@ statement-returns-in_ok-no-in-If-clause-fault t c =
     let branch = else_part (option_map else_of c.in-If.no) in
     let tested = least (expression_faults true bodies names (tree_of c.in-If.test)) in
     let first : c.in_ok-yes-in-If.yes ≡ least (statement_faults bodies part (length names) names (stmt_of c.in-If.yes.value)) =
-    c.in_ok-yes-in-If.ensures.fault
-    ∙ ap (λ a. least (statement_faults bodies a (length names) names (stmt_of c.deref-in-If.result.now))) c.in_part-in-If.ensures
-    ∙ ap (λ s. least (statement_faults bodies part (length names) names (stmt_of s))) c.deref-in-If.ensures in
+        c.in_ok-yes-in-If.ensures.fault
+        ∙ ap (λ a. least (statement_faults bodies a (length names) names (stmt_of c.deref-in-If.result.now))) c.in_part-in-If.ensures
+        ∙ ap (λ s. least (statement_faults bodies part (length names) names (stmt_of s))) c.deref-in-If.ensures in
     let second : c.in_ok-no-in-If.no ≡ least (else_faults bodies part (length names) names branch) =
-    c.in_ok-no-in-If.ensures.fault
-    ∙ ap (λ a. least (else_faults bodies a (length c.inner.new.names) c.inner.new.names branch)) c.in_part-in-If-2.ensures
-    ∙ ap (λ ns. least (else_faults bodies part (length ns) ns branch)) c.in_ok-yes-in-If.ensures.names in
+        c.in_ok-no-in-If.ensures.fault
+        ∙ ap (λ a. least (else_faults bodies a (length c.inner.new.names) c.inner.new.names branch)) c.in_part-in-If-2.ensures
+        ∙ ap (λ ns. least (else_faults bodies part (length ns) ns branch)) c.in_ok-yes-in-If.ensures.names in
     c.lesser-in-If.ensures
     ∙ ap (λ r. lesser r c.lesser.result) c.in_ok-test-in-If.ensures
     ∙ ap (lesser tested) (c.lesser.ensures ∙ ap (λ r. lesser r c.in_ok-no-in-If.no) first ∙ ap (lesser (least (statement_faults bodies part (length names) names (stmt_of c.in-If.yes.value)))) second)

@@ -1,3 +1,4 @@
+use Rattle.std.proofs.Common.{◌≡◌, ◌∙◌, sym, ap}
 use Rattle.c_types.proofs.Scopes.{reverse_take}
 use Rattle.c_types.proofs.names.Scopes.forget.Goals as goal
 
