@@ -1,7 +1,6 @@
 -- Calls and declarations of functions: C11 6.5.2.2, 6.7.6.3.
-use Rattle.std.specs.Prelude.{ℕ, zero, suc, ◌+◌, nat_le, ◌==◌, ◌&&◌, ◌||◌, not, Bool, true, false, List, [], ◌∷◌, ◌++◌, length, map, bytes_eq, Option, Some, None, is_some, if◌then◌else◌}
+use Rattle.std.specs.Prelude.{ℕ, zero, suc, ◌==◌, ◌&&◌, ◌||◌, not, Bool, true, false, List, [], ◌∷◌, ◌++◌, length, map, bytes_eq, Option, Some, None, is_some, if◌then◌else◌}
 use Rattle.std.specs.List.{list_any}
-use Rattle.std.specs.Cmp.Lexicographic.{pointwise}
 use Rattle.hls_base.specs.declared.place.Place.{Place}
 use Rattle.hls_base.specs.declared.refusal.Refusal.{Refusal}
 use Rattle.c_token.specs.declared.ctype.CType.{CType}
@@ -9,7 +8,7 @@ use Rattle.c_token.specs.Replacement.{is_in, same_type}
 use Rattle.c_tree.specs.Tree as tree
 use Rattle.c_tree.specs.Tree.{Tree, Trees, TargetTree, ActionTree, InitTree, InitTrees, ObjectTree, StmtTree, ElseTree, FirstTree, StmtTrees, ParamTree, FunctionTree, ItemTree}
 use Rattle.c_checked.specs.Faults.{fault, fault_if}
-use Rattle.c_checked.specs.Names.{Shape, is_array, Sense, object, function, Declared, sense_of, count, same_flag}
+use Rattle.c_checked.specs.Names.{Shape, is_array, Sense, object, function, Declared, find, sense_of, count, same_flag}
 use Rattle.c_checked.specs.Lengths.{shape_of}
 
 -- ---- two declarations of one function
@@ -20,14 +19,18 @@ same_length (Some n) (Some m) = n == m
 same_length _ _ = false
 
 abbrev pub same_lengths : List (Option ℕ) → List (Option ℕ) → Bool
-same_lengths = pointwise same_length
+same_lengths [] [] = true
+same_lengths (n ∷ ns) (m ∷ ms) = same_length n m && same_lengths ns ms
+same_lengths _ _ = false
 
 -- parameters of one type; that a scalar is const is no part of the function's type (C11 6.7.6.3 paragraph 15)
 abbrev pub same_shape : Shape → Shape → Bool
 same_shape s t = same_type s.kind t.kind && (same_lengths s.lengths t.lengths && (not (is_array s) || same_flag s.constant t.constant))
 
 abbrev pub same_shapes : List Shape → List Shape → Bool
-same_shapes = pointwise same_shape
+same_shapes [] [] = true
+same_shapes (s ∷ ss) (t ∷ ts) = same_shape s t && same_shapes ss ts
+same_shapes _ _ = false
 
 abbrev pub same_result : Option CType → Option CType → Bool
 same_result None None = true
@@ -44,7 +47,11 @@ agrees f (function result params) = same_result result f.result && same_shapes p
 
 -- the function with its name, where it is new; the first declaration counts
 abbrev pub with_function : FunctionTree → List Declared → List Declared
-with_function f names = if is_some (sense_of f.name names) then names else record { name = f.name; sense = function f.result (param_shapes f.params) } ∷ names
+with_function f names = added (find f.name names)
+  where
+    added : Option Declared → List Declared
+    added None = record { name = f.name; scope = 0; sense = function f.result (param_shapes f.params) } ∷ names
+    added (Some d) = names
 
 -- Rule 8: a later declaration of a function agrees with the first, and one function has one body (C11 6.7 paragraph 4, 6.9 paragraph 3).
 abbrev pub disagrees : FunctionTree → Option Sense → Bool
@@ -73,16 +80,16 @@ all_fit names (param ∷ params) (tree.more arg args) = fits names param arg && 
 all_fit names _ _ = true
 
 -- Rule 7: a function that is called is declared and has a body somewhere. Rule 9: an object is not called. Rule 10: a call has as many arguments as the function has parameters (C11 6.5.2.2 paragraph 2). Rule 11: arguments fit array parameters.
-abbrev pub called_faults : Bool → List Declared → Option Sense → Trees → Place → List Refusal
-called_faults has_body names None args at = fault 7 at ∷ []
-called_faults has_body names (Some (object shape)) args at = fault 9 at ∷ []
-called_faults has_body names (Some (function result params)) args at =
-    fault_if (not has_body) 7 at
-    ++ (fault_if (not (length params == count args)) 10 at
-    ++ fault_if (not (all_fit names params args)) 11 at)
-
 abbrev pub call_faults : List (List ℕ) → List Declared → List ℕ → Trees → Place → List Refusal
-call_faults bodies names callee args at = called_faults (is_in callee bodies) names (sense_of callee names) args at
+call_faults bodies names callee args at = called (sense_of callee names)
+  where
+    called : Option Sense → List Refusal
+    called None = fault 7 at ∷ []
+    called (Some (object shape)) = fault 9 at ∷ []
+    called (Some (function result params)) =
+        fault_if (not (is_in callee bodies)) 7 at
+        ++ fault_if (not (length params == count args)) 10 at
+        ++ fault_if (not (all_fit names params args)) 11 at
 
 -- Rule 9: a call without a result is no value, C11 6.3.2.2.
 abbrev pub is_void : Option Sense → Bool
@@ -202,45 +209,34 @@ abbrev pub body_calls : Option StmtTrees → List Called
 body_calls None = []
 body_calls (Some body) = statements_calls body
 
--- a function with a body, and the calls in it
-pub record Caller : Type 0 where
-  pub name : List ℕ
-  pub calls : List Called
+-- the calls in a function that has a body
+abbrev pub function_calls : FunctionTree → List Called
+function_calls f = if is_some f.body then params_calls f.params ++ body_calls f.body else []
 
-abbrev pub caller_of : ItemTree → List Caller
-caller_of (tree.objects os) = []
-caller_of (tree.function f) = if is_some f.body then record { name = f.name; calls = params_calls f.params ++ body_calls f.body } ∷ [] else []
+-- whom a function calls
+abbrev pub callees_in : List ℕ → ItemTree → List (List ℕ)
+callees_in name (tree.function f) = if bytes_eq name f.name then map (λ c. c.name) (function_calls f) else []
+callees_in name (tree.objects os) = []
 
-abbrev pub callers : List ItemTree → List Caller
-callers [] = []
-callers (item ∷ items) = caller_of item ++ callers items
+abbrev pub callees : List ItemTree → List ℕ → List (List ℕ)
+callees [] name = []
+callees (item ∷ items) name = callees_in name item ++ callees items name
 
--- Functions are numbered in the order of their bodies. One without a body has the number behind them.
-abbrev pub number_of : List Caller → List ℕ → ℕ
-number_of [] name = 0
-number_of (c ∷ cs) name = if bytes_eq name c.name then 0 else number_of cs name + 1
+-- whether a function comes to another, or to itself, by at most so many calls
+abbrev pub reaches : List ItemTree → ℕ → List ℕ → List ℕ → Bool
+reaches items zero f g = bytes_eq f g
+reaches items (suc n) f g = bytes_eq f g || list_any (λ h. reaches items n h g) (callees items f)
 
--- who calls whom, by their numbers
-abbrev pub call_links : List Caller → ℕ → List Called → List (ℕ × ℕ)
-call_links all from [] = []
-call_links all from (c ∷ cs) = (from, number_of all c.name) ∷ call_links all from cs
+-- Rule 18: no function comes back to itself by calls. Of the calls that lead round, those are at fault that stand at or behind the body of the called function.
+abbrev pub round_faults : List ItemTree → List (List ℕ) → List ℕ → List Called → List Refusal
+round_faults items before g [] = []
+round_faults items before g (c ∷ cs) = fault_if (is_in c.name before && reaches items (length items) c.name g) 18 c.at ++ round_faults items before g cs
 
-abbrev pub links : List Caller → List Caller → List (ℕ × ℕ)
-links all [] = []
-links all (c ∷ cs) = call_links all (number_of all c.name) c.calls ++ links all cs
-
--- whether a function comes to another, or to itself, by at most so many of these calls
-abbrev pub reaches : List (ℕ × ℕ) → ℕ → ℕ → ℕ → Bool
-reaches calls zero f g = f == g
-reaches calls (suc n) f g = (f == g) || list_any (λ c. (c.0 == f) && reaches calls n c.1 g) calls
-
--- Rule 18: no function comes back to itself by calls. Of the calls that lead round, those are at fault that stand at or behind the body of the called function; here in the body with this index, which is of function g.
-abbrev pub round_faults : List Caller → ℕ → ℕ → List Called → List Refusal
-round_faults all index g [] = []
-round_faults all index g (c ∷ cs) =
-    fault_if (nat_le (number_of all c.name) index && reaches (links all all) (length all) (number_of all c.name) g) 18 c.at ++ round_faults all index g cs
-
--- of the bodies from this index on
-abbrev pub recursion_faults : List Caller → ℕ → List Caller → List Refusal
-recursion_faults all index [] = []
-recursion_faults all index (c ∷ cs) = round_faults all index (number_of all c.name) c.calls ++ recursion_faults all (index + 1) cs
+-- the items from some place on, with the functions whose bodies stand before
+abbrev pub recursion_faults : List ItemTree → List (List ℕ) → List ItemTree → List Refusal
+recursion_faults items before [] = []
+recursion_faults items before (tree.objects os ∷ rest) = recursion_faults items before rest
+recursion_faults items before (tree.function f ∷ rest) =
+    if is_some f.body
+    then round_faults items (f.name ∷ before) f.name (function_calls f) ++ recursion_faults items (f.name ∷ before) rest
+    else recursion_faults items before rest

@@ -84,10 +84,10 @@ is_logical _ = false
 abbrev pub operand_conflicts : Binary → List Access → List Access → List Refusal
 operand_conflicts op left right = if is_logical op then [] else between left right
 
--- two subscripts of one element, or two arguments of one call, where those before have these accesses
-abbrev pub conflicts_among : List Declared → List Access → Trees → List Refusal
-conflicts_among names before tree.none = []
-conflicts_among names before (tree.more first rest) = between before (accesses names first) ++ conflicts_among names (before ++ accesses names first) rest
+-- two subscripts of one element, or two arguments of one call
+abbrev pub conflicts_among : List Declared → Trees → List Refusal
+conflicts_among names tree.none = []
+conflicts_among names (tree.more first rest) = between (accesses names first) (all_accesses names rest) ++ conflicts_among names rest
 
 -- an access, and the changes inside it: of an element that is read those in its subscripts, of a target those in its subscripts and in the value assigned to it
 abbrev pub changes : List Access → List Access
@@ -96,4 +96,4 @@ changes (read name ∷ rest) = changes rest
 changes (change name at ∷ rest) = change name at ∷ changes rest
 
 abbrev pub conflicts_inside : List Access → List Access → List Refusal
-conflicts_inside own inner = clashes own (changes inner) ++ clashes inner own
+conflicts_inside own inner = between own (changes inner)

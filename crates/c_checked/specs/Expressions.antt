@@ -1,5 +1,5 @@
 -- The faults of expressions: C11 6.5, 6.6.
-use Rattle.std.specs.Prelude.{drop, ℕ, Bool, true, false, List, [], ◌∷◌, ◌++◌, Option, Some, None, if◌then◌else◌}
+use Rattle.std.specs.Prelude.{ℕ, Bool, true, false, List, [], ◌∷◌, ◌++◌, Option, Some, None, if◌then◌else◌}
 use Rattle.hls_base.specs.declared.place.Place.{Place}
 use Rattle.hls_base.specs.declared.refusal.Refusal.{Refusal}
 use Rattle.c_tree.specs.Tree as tree
@@ -8,14 +8,10 @@ use Rattle.c_checked.specs.Names.{Shape, is_array, Declared, sense_of, count, us
 use Rattle.c_checked.specs.Calls.{call_faults, void_faults, params_of, given_faults}
 use Rattle.c_checked.specs.Conflicts.{Access, accesses, all_accesses, read_of, change_of, between, operand_conflicts, conflicts_among, conflicts_inside}
 
--- A name is not looked at as a value where it is given for an array, which the first of these parameters is.
-abbrev pub is_given : List Shape → Tree → Bool
-is_given (param ∷ params) (tree.name text at) = is_array param
-is_given params _ = false
-
-abbrev pub name_given_faults : List Declared → Tree → List Refusal
-name_given_faults names (tree.name text at) = given_faults (sense_of text names) at
-name_given_faults names _ = []
+-- A name is not looked at as a value where it is given for an array.
+abbrev pub is_given : Shape → Tree → Bool
+is_given param (tree.name text at) = is_array param
+is_given param _ = false
 
 -- `bodies` names the functions that have a body, and `names` is what is visible.
 abbrev mutual
@@ -25,14 +21,14 @@ abbrev mutual
   expression_faults used bodies names (tree.name text at) = use_faults (sense_of text names) 0 at
   expression_faults used bodies names (tree.index array subscripts at) =
       use_faults (sense_of array names) (count subscripts) at
-      ++ (conflicts_among names [] subscripts
+      ++ (conflicts_among names subscripts
       ++ (conflicts_inside (read_of names array (count subscripts)) (all_accesses names subscripts)
-      ++ operand_faults bodies names [] subscripts))
+      ++ subscript_faults bodies names subscripts))
   expression_faults used bodies names (tree.call callee args at) =
       (if used then void_faults names callee at else [])
       ++ (call_faults bodies names callee args at
-      ++ (conflicts_among names [] args
-      ++ operand_faults bodies names (params_of (sense_of callee names)) args))
+      ++ (conflicts_among names args
+      ++ argument_faults bodies names (params_of (sense_of callee names)) args))
   expression_faults used bodies names (tree.unary op arg at) = expression_faults true bodies names arg
   expression_faults used bodies names (tree.binary op left right at) =
       operand_conflicts op (accesses names left) (accesses names right)
@@ -49,18 +45,26 @@ abbrev mutual
   pub changed_faults : List (List ℕ) → List Declared → TargetTree → Place → List Access → List Refusal
   changed_faults bodies names (tree.target text subscripts place) at valued =
       target_faults (sense_of text names) (count subscripts) place
-      ++ (conflicts_among names [] subscripts
+      ++ (conflicts_among names subscripts
       ++ (between (all_accesses names subscripts) valued
-      ++ (conflicts_inside (change_of names text (count subscripts) at) (all_accesses names subscripts)
-      ++ (conflicts_inside (change_of names text (count subscripts) at) valued
-      ++ operand_faults bodies names [] subscripts))))
+      ++ (conflicts_inside (change_of names text (count subscripts) at) (all_accesses names subscripts ++ valued)
+      ++ subscript_faults bodies names subscripts)))
 
-  -- of subscripts, or of arguments for these parameters
-  pub operand_faults : List (List ℕ) → List Declared → List Shape → Trees → List Refusal
-  operand_faults bodies names params tree.none = []
-  operand_faults bodies names params (tree.more first rest) =
-      (if is_given params first then name_given_faults names first else expression_faults true bodies names first)
-      ++ operand_faults bodies names (drop 1 params) rest
+  pub subscript_faults : List (List ℕ) → List Declared → Trees → List Refusal
+  subscript_faults bodies names tree.none = []
+  subscript_faults bodies names (tree.more first rest) = expression_faults true bodies names first ++ subscript_faults bodies names rest
+
+  -- of arguments for these parameters
+  pub argument_faults : List (List ℕ) → List Declared → List Shape → Trees → List Refusal
+  argument_faults bodies names params tree.none = []
+  argument_faults bodies names [] (tree.more first rest) = expression_faults true bodies names first ++ argument_faults bodies names [] rest
+  argument_faults bodies names (param ∷ params) (tree.more first rest) =
+      (if is_given param first then name_given_faults names first else expression_faults true bodies names first)
+      ++ argument_faults bodies names params rest
+
+  pub name_given_faults : List Declared → Tree → List Refusal
+  name_given_faults names (tree.name text at) = given_faults (sense_of text names) at
+  name_given_faults names _ = []
 
 -- an action is an expression
 abbrev pub expression_of : ActionTree → Tree

@@ -11,13 +11,19 @@ abbrev pub fault_if : Bool → ℕ → Place → List Refusal
 fault_if true rule place = fault rule place ∷ []
 fault_if false rule place = []
 
--- by line, column and part, and at one place by rule
+-- by line, column and part
+abbrev pub is_earlier : Place → Place → Bool
+is_earlier p q =
+    nat_lt p.line q.line
+    || ((p.line == q.line) && (nat_lt p.column q.column
+    || ((p.column == q.column) && nat_lt p.part q.part)))
+
+abbrev pub is_same_place : Place → Place → Bool
+is_same_place p q = (p.line == q.line) && ((p.column == q.column) && (p.part == q.part))
+
+-- by place, and at one place by rule
 abbrev pub is_lesser : Refusal → Refusal → Bool
-is_lesser r s =
-    nat_lt r.place.line s.place.line
-    || ((r.place.line == s.place.line) && (nat_lt r.place.column s.place.column
-    || ((r.place.column == s.place.column) && (nat_lt r.place.part s.place.part
-    || ((r.place.part == s.place.part) && nat_lt r.rule s.rule)))))
+is_lesser r s = is_earlier r.place s.place || (is_same_place r.place s.place && nat_lt r.rule s.rule)
 
 abbrev pub lesser : Option Refusal → Option Refusal → Option Refusal
 lesser None s = s

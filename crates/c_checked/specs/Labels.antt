@@ -33,12 +33,12 @@ abbrev pub in_switch : Around → Around
 in_switch around = record { result = around.result; breaks = true; continues = around.continues; labels = true }
 
 -- Rule 14: a function without a result returns no value, and every other one returns one. C11 6.8.6.4 paragraph 1.
-abbrev pub is_mismatched : Option CType → Bool → Bool
-is_mismatched None has_value = has_value
-is_mismatched (Some kind) has_value = not has_value
+abbrev pub is_mismatched : Option CType → Option Tree → Bool
+is_mismatched None value = is_some value
+is_mismatched (Some kind) value = is_none value
 
 abbrev pub return_faults : Option CType → Option Tree → Place → List Refusal
-return_faults result value at = fault_if (is_mismatched result (is_some value)) 14 at
+return_faults result value at = fault_if (is_mismatched result value) 14 at
 
 -- Rule 15: break stands in a loop or a switch, continue in a loop, and a label directly in the block of a switch (C11 6.8.1 paragraph 2, 6.8.6.2, 6.8.6.3).
 abbrev pub outside_faults : Bool → Place → List Refusal
@@ -90,4 +90,4 @@ is_label_among label labels = list_any (λ l. same_label label l.label) labels
 -- Rule 16: no two labels of a switch are the same, C11 6.8.4.2 paragraph 3. The later ones are at fault.
 abbrev pub repeated_faults : List LabelAt → List LabelAt → List Refusal
 repeated_faults before [] = []
-repeated_faults before (l ∷ ls) = fault_if (is_label_among l.label before) 16 l.at ++ repeated_faults (before ++ l ∷ []) ls
+repeated_faults before (l ∷ ls) = fault_if (is_label_among l.label before) 16 l.at ++ repeated_faults (l ∷ before) ls

@@ -1,5 +1,5 @@
 -- The lengths of arrays, and initialisers: C11 6.6, 6.7.6.2, 6.7.9.
-use Rattle.std.specs.Prelude.{length, drop, ◌==◌, ℕ, ◌+◌, ◌^◌, ◌&&◌, ◌||◌, not, nat_lt, nat_le, Bool, true, false, List, [], ◌∷◌, ◌++◌, map, ℤ, pos, Option, Some, None, is_none, if◌then◌else◌}
+use Rattle.std.specs.Prelude.{ℕ, ◌+◌, ◌^◌, ◌==◌, ◌&&◌, ◌||◌, not, nat_lt, nat_le, Bool, true, false, List, [], ◌∷◌, ◌++◌, map, ℤ, pos, Option, Some, None, is_none, if◌then◌else◌}
 use Rattle.std.specs.List.{list_any}
 use Rattle.hls_base.specs.declared.refusal.Refusal.{Refusal}
 use Rattle.hls_base.specs.ArrayAddress.{address_bits}
@@ -31,20 +31,16 @@ item_count tree.no_init = 0
 item_count (tree.more_inits first rest) = item_count rest + 1
 
 -- The first length may be left out where an initialiser list is there, and is then the number of items (C11 6.7.9 paragraph 22).
-abbrev pub items_in : Option InitTree → Option ℕ
-items_in (Some (tree.braced items at)) = Some (item_count items)
-items_in _ = None
+abbrev pub first_length : Option InitTree → Option Tree → Length
+first_length (Some (tree.braced items at)) None = number (pos (item_count items))
+first_length init length = written_length length
 
-abbrev pub length_of : Option ℕ → Option Tree → Length
-length_of (Some items) None = number (pos items)
-length_of items length = written_length length
-
-abbrev pub all_lengths : Option ℕ → List (Option Tree) → List Length
-all_lengths items [] = []
-all_lengths items (length ∷ lengths) = length_of items length ∷ all_lengths None lengths
+abbrev pub all_lengths : Option InitTree → List (Option Tree) → List Length
+all_lengths init [] = []
+all_lengths init (length ∷ lengths) = first_length init length ∷ map written_length lengths
 
 abbrev pub lengths_of : ObjectTree → List Length
-lengths_of o = all_lengths (items_in o.init) o.lengths
+lengths_of o = all_lengths o.init o.lengths
 
 -- a length is 1 to 65,536
 abbrev pub usable : Length → Option ℕ
@@ -93,19 +89,16 @@ abbrev pub exceeds : ℕ → Option ℕ → Bool
 exceeds items None = false
 exceeds items (Some n) = nat_lt n items
 
--- a scalar has no braces
-abbrev pub overflows : List (Option ℕ) → ℕ → Bool
-overflows [] items = true
-overflows (n ∷ ns) items = exceeds items n
-
 abbrev mutual
   pub is_misshapen : List (Option ℕ) → InitTree → Bool
-  is_misshapen lengths (tree.single value) = not (length lengths == 0)
-  is_misshapen lengths (tree.braced items at) = overflows lengths (item_count items) || are_misshapen (drop 1 lengths) items
+  is_misshapen [] (tree.single value) = false
+  is_misshapen [] (tree.braced items at) = true
+  is_misshapen (n ∷ ns) (tree.single value) = true
+  is_misshapen (n ∷ ns) (tree.braced items at) = exceeds (item_count items) n || are_misshapen ns items
 
   pub are_misshapen : List (Option ℕ) → InitTrees → Bool
-  are_misshapen lengths tree.no_init = false
-  are_misshapen lengths (tree.more_inits first rest) = is_misshapen lengths first || are_misshapen lengths rest
+  are_misshapen ns tree.no_init = false
+  are_misshapen ns (tree.more_inits first rest) = is_misshapen ns first || are_misshapen ns rest
 
 abbrev pub has_bad_shape : List (Option ℕ) → Option InitTree → Bool
 has_bad_shape lengths None = false
@@ -131,9 +124,9 @@ is_variable (Some init) = not (is_fixed init)
 
 -- ---- the faults of a declaration that its lengths and the form of its initialiser make
 
--- of an object, and whether it stands at file scope
-abbrev pub form_faults : Bool → ObjectTree → List Refusal
-form_faults at_file o =
+-- of an object in a scope so deep
+abbrev pub form_faults : ℕ → ObjectTree → List Refusal
+form_faults scope o =
     fault_if (has_bad_length (lengths_of o)) 13 o.at
-    ++ (fault_if (list_any is_no_constant (lengths_of o) || (at_file && is_variable o.init)) 17 o.at
-    ++ fault_if (has_bad_shape (map usable (lengths_of o)) o.init) 22 o.at)
+    ++ fault_if (list_any is_no_constant (lengths_of o) || ((scope == 0) && is_variable o.init)) 17 o.at
+    ++ fault_if (has_bad_shape (map usable (lengths_of o)) o.init) 22 o.at

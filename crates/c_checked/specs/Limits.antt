@@ -23,7 +23,7 @@ abbrev pub new_function_places : List (List ℕ) → List ItemTree → List Plac
 new_function_places known [] = []
 new_function_places known (tree.objects os ∷ items) = new_function_places known items
 new_function_places known (tree.function f ∷ items) =
-    if is_in f.name known then new_function_places known items else f.at ∷ new_function_places (known ++ f.name ∷ []) items
+    if is_in f.name known then new_function_places known items else f.at ∷ new_function_places (f.name ∷ known) items
 
 -- ---- rule 34: at most 32 parameters
 

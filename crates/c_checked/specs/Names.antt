@@ -1,5 +1,5 @@
 -- What names stand for, and where: C11 6.2.1, 6.2.3, 6.7.
-use Rattle.std.specs.Prelude.{◌-◌, take, is_some, ℕ, ◌+◌, ◌==◌, ◌++◌, not, Bool, true, false, List, [], ◌∷◌, length, bytes_eq, Option, Some, None, if◌then◌else◌}
+use Rattle.std.specs.Prelude.{ℕ, ◌+◌, ◌==◌, ◌++◌, not, Bool, true, false, List, [], ◌∷◌, length, bytes_eq, Option, Some, None, if◌then◌else◌}
 use Rattle.hls_base.specs.declared.place.Place.{Place}
 use Rattle.hls_base.specs.declared.refusal.Refusal.{Refusal}
 use Rattle.c_token.specs.declared.ctype.CType.{CType}
@@ -23,23 +23,31 @@ pub data Sense : Type 0 where
   object : Shape → Sense
   function : (result : Option CType) (params : List Shape) → Sense
 
--- a name that is declared
+-- a name that is declared, in a scope so deep; file scope is scope 0
 pub record Declared : Type 0 where
   pub name : List ℕ
+  pub scope : ℕ
   pub sense : Sense
 
 -- The names that are visible at a place are listed from the latest to the earliest, so an inner one hides an outer one (C11 6.2.1 paragraph 4).
-abbrev pub sense_of : List ℕ → List Declared → Option Sense
-sense_of name [] = None
-sense_of name (d ∷ ds) = if bytes_eq name d.name then Some d.sense else sense_of name ds
+abbrev pub find : List ℕ → List Declared → Option Declared
+find name [] = None
+find name (d ∷ ds) = if bytes_eq name d.name then Some d else find name ds
 
--- A scope is given by the number of names that are visible where it begins.
-abbrev pub names_since : ℕ → List Declared → List Declared
-names_since start names = take (length names - start) names
+abbrev pub sense_found : Option Declared → Option Sense
+sense_found None = None
+sense_found (Some d) = Some d.sense
+
+abbrev pub sense_of : List ℕ → List Declared → Option Sense
+sense_of name names = sense_found (find name names)
+
+abbrev pub is_of_scope : ℕ → Option Declared → Bool
+is_of_scope scope None = false
+is_of_scope scope (Some d) = d.scope == scope
 
 -- Rule 8: a name is declared once in one scope, C11 6.7 paragraph 3.
-abbrev pub is_declared_since : ℕ → List ℕ → List Declared → Bool
-is_declared_since start name names = is_some (sense_of name (names_since start names))
+abbrev pub is_declared_in : ℕ → List ℕ → List Declared → Bool
+is_declared_in scope name names = is_of_scope scope (find name names)
 
 -- ---- uses of names
 

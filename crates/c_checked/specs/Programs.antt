@@ -1,12 +1,12 @@
 -- The faults of a program: C11 6.9.
-use Rattle.std.specs.Prelude.{◌&&◌, bytes_eq, ℕ, not, Bool, true, false, List, [], ◌∷◌, ◌++◌, Option, Some, None, is_some, slice_get, if◌then◌else◌}
+use Rattle.std.specs.Prelude.{ℕ, not, Bool, true, false, List, [], ◌∷◌, ◌++◌, Option, Some, None, is_some, slice_get, if◌then◌else◌}
 use Rattle.hls_base.specs.declared.refusal.Refusal.{Refusal}
 use Rattle.c_token.specs.Replacement.{is_in}
 use Rattle.c_tree.specs.Tree as tree
 use Rattle.c_tree.specs.Tree.{FunctionTree, ItemTree, ProgramTree}
 use Rattle.c_checked.specs.Faults.{fault_if}
 use Rattle.c_checked.specs.Names.{Declared}
-use Rattle.c_checked.specs.Calls.{with_function, declaration_faults, callers, recursion_faults}
+use Rattle.c_checked.specs.Calls.{with_function, declaration_faults, recursion_faults}
 use Rattle.c_checked.specs.Limits.{limit_faults, new_function_places, file_arrays, file_objects, kept_faults}
 use Rattle.c_checked.specs.Statements.{with_objects, objects_faults, function_faults}
 
@@ -16,25 +16,18 @@ body_names [] = []
 body_names (tree.objects os ∷ items) = body_names items
 body_names (tree.function f ∷ items) = if is_some f.body then f.name ∷ body_names items else body_names items
 
--- the functions whose bodies stand before, with this item if it is one
-abbrev pub with_body : ItemTree → List (List ℕ) → List (List ℕ)
-with_body (tree.objects os) before = before
-with_body (tree.function f) before = if is_some f.body then before ++ f.name ∷ [] else before
+-- the functions whose bodies stand before, with this one if it has a body
+abbrev pub with_body : FunctionTree → List (List ℕ) → List (List ℕ)
+with_body f before = if is_some f.body then f.name ∷ before else before
 
--- the names that are visible behind an item
-abbrev pub with_item : ItemTree → List Declared → List Declared
-with_item (tree.objects os) names = with_objects os names
-with_item (tree.function f) names = with_function f names
-
--- A function is visible from its name on.
-abbrev pub item_faults : List (List ℕ) → List (List ℕ) → List Declared → ItemTree → List Refusal
-item_faults bodies before names (tree.objects os) = objects_faults bodies true 0 names os
-item_faults bodies before names (tree.function f) = declaration_faults before names f ++ function_faults bodies (with_function f names) f
-
--- each item sees what stands before it
+-- A function is visible from its name on; each item sees what stands before it.
 abbrev pub items_faults : List (List ℕ) → List (List ℕ) → List Declared → List ItemTree → List Refusal
 items_faults bodies before names [] = []
-items_faults bodies before names (item ∷ items) = item_faults bodies before names item ++ items_faults bodies (with_body item before) (with_item item names) items
+items_faults bodies before names (tree.objects os ∷ items) = objects_faults bodies 0 names os ++ items_faults bodies before (with_objects 0 os names) items
+items_faults bodies before names (tree.function f ∷ items) =
+    declaration_faults before names f
+    ++ (function_faults bodies (with_function f names) f
+    ++ items_faults bodies (with_body f before) (with_function f names) items)
 
 -- Rule 19: a function with a body has the name of the top function.
 abbrev pub top_faults : List ℕ → ProgramTree → List Refusal
@@ -44,7 +37,7 @@ top_faults top p = fault_if (not (is_in top (body_names p.items))) 19 p.end
 abbrev pub program_faults : ProgramTree → List ℕ → List Refusal
 program_faults p top =
     items_faults (body_names p.items) [] [] p.items
-    ++ (recursion_faults (callers p.items) 0 (callers p.items)
+    ++ (recursion_faults p.items [] p.items
     ++ (limit_faults 64 33 (new_function_places [] p.items)
     ++ (limit_faults 32 35 (file_arrays p.items)
     ++ (kept_faults 0 (file_objects p.items)
@@ -55,11 +48,6 @@ program_faults p top =
 abbrev pub is_empty : List Refusal → Bool
 is_empty [] = true
 is_empty (r ∷ rs) = false
-
--- whether the item is a function with a body and this name
-abbrev pub is_body_of : List ℕ → ItemTree → Bool
-is_body_of name (tree.objects os) = false
-is_body_of name (tree.function f) = is_some f.body && bytes_eq name f.name
 
 -- the name of the function with a body that is the item with this index
 abbrev pub body_name_of : Option ItemTree → Option (List ℕ)

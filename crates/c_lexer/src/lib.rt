@@ -1,8 +1,8 @@
 //! The tokens of a source text of C.
 #![tactic(auto)]
 
-ghost use Rattle.std.specs.Prelude.{◌≡◌, ◌≤◌, IfOk, length};
-ghost use Rattle.c_token.specs.SourceText.{Spells, FirstFault, source_start, source_limit, place_after};
+ghost use Rattle.std.specs.Prelude.{IfOk};
+ghost use Rattle.c_token.specs.SourceText.{Spells, FirstFault};
 ghost use Rattle.hls_base.specs.Refusals.{IfRefused};
 
 mod bytes;
@@ -23,20 +23,6 @@ use std::alloc::Global;
 /// The most bytes that a source may have.
 const SOURCE_LIMIT: usize = 65536;
 
-const START: Place = Place {
-    line: 1,
-    column: 1,
-    part: 0,
-};
-
-/// The place just after the last byte of a source.
-pub fn end_of(source: &[u8]) -> Place
-    requires { length source.now ≤ source_limit }
-    ensures { result ≡ place_after source_start source.now }
-{
-    place_after(START, source)
-}
-
 /// The tokens of a source, or its first fault. No token is a `TypeWord`.
 pub fn lex(alloc: Global, source: &[u8]) -> Result<Vec<Token>, Fail>
     ensures spelled { IfOk result (λ tokens. Spells source.now tokens.items) }
@@ -44,7 +30,14 @@ pub fn lex(alloc: Global, source: &[u8]) -> Result<Vec<Token>, Fail>
 {
     if source.len() > SOURCE_LIMIT {
         let (front, _) = source.split_at(SOURCE_LIMIT);
-        let place = end_of(front);
+        let place = place_after(
+            Place {
+                line: 1,
+                column: 1,
+                part: 0,
+            },
+            front,
+        );
         return Err(Fail::Refused(Refusal { rule: 30, place }));
     }
     let mut cursor = Cursor::new(source);

@@ -7,7 +7,7 @@ use Rattle.c_token.specs.declared.punct.Punct.TheVariants as p
 use Rattle.c_token.specs.declared.token.Token.{Token}
 use Rattle.c_token.specs.declared.token.TokenKind.{TokenKind}
 use Rattle.c_token.specs.declared.token.TokenKind.TheVariants as k
-use Rattle.c_token.specs.Replacement.{Table, StandsFor, nothing, stays, is_replaced, directive, ordinary, Outcome, beginning}
+use Rattle.c_token.specs.Replacement.{directive, ordinary, outcome, beginning, expanded}
 use Rattle.c_token.specs.SourceText.{source_start, place_after}
 
 hexadecimal_unsigned : IsConstant (codes "0x10u") 16 (integer false 32)
@@ -61,49 +61,16 @@ abbrev hash_token : Token
 hash_token = token_of (k.Punct p.Hash) 1 1 true
 
 a_word_is_replaced :
-    Outcome beginning (directive hash_token define_line ∷ (ordinary (token_of (k.Word (codes "N")) 2 20 true) ∷ []))
-    (Ok (record { kind = number_16; place = record { line = 2; column = 20; part = 1 }; first = false; glued = false } ∷ []))
-a_word_is_replaced = (
-  _,
-  1,
-  (
-    token_of number_16 1 11 false ∷ [],
-    is_replaced _ (token_of (k.Word (codes "N")) 2 20 true) _ (token_of number_16 1 11 false ∷ []) [] [] 0 0 refl
-        (stays _ (token_of number_16 1 11 false) [] [] 0 refl (nothing _)) (nothing _),
-    refl,
-  ),
-  (Ok [], refl, refl),
-)
+    outcome beginning (directive hash_token define_line ∷ (ordinary (token_of (k.Word (codes "N")) 2 20 true) ∷ []))
+    ≡ Ok (record { kind = number_16; place = record { line = 2; column = 20; part = 1 }; first = false; glued = false } ∷ [])
+a_word_is_replaced = refl
 
 -- `#if 1`
 other_directives_are_refused :
-    Outcome beginning (directive hash_token (token_of (k.Word (codes "if")) 1 2 false ∷ (token_of number_16 1 5 false ∷ [])) ∷ [])
-    (Err (record { rule = 5; place = record { line = 1; column = 2; part = 0 } }))
+    outcome beginning (directive hash_token (token_of (k.Word (codes "if")) 1 2 false ∷ (token_of number_16 1 5 false ∷ [])) ∷ [])
+    ≡ Err (record { rule = 5; place = record { line = 1; column = 2; part = 0 } })
 other_directives_are_refused = refl
 
 -- a word that stands for itself stays
-abbrev itself : Table
-itself = (codes "N", token_of (k.Word (codes "N")) 1 11 false ∷ []) ∷ []
-
-hidden_words_stay : StandsFor itself (token_of (k.Word (codes "N")) 2 1 true ∷ []) (token_of (k.Word (codes "N")) 1 11 false ∷ []) 1
-hidden_words_stay =
-    is_replaced itself (token_of (k.Word (codes "N")) 2 1 true) (token_of (k.Word (codes "N")) 1 11 false ∷ []) (token_of (k.Word (codes "N")) 1 11 false ∷ []) [] [] 0 0 refl
-    (stays [] (token_of (k.Word (codes "N")) 1 11 false) [] [] 0 refl (nothing [])) (nothing itself)
-
--- `#define A B C` and `#define B A`: each hides itself, so that A stands for A C
-abbrev word : List ℕ → Token
-word text = token_of (k.Word text) 1 1 false
-
-abbrev only_b : Table
-only_b = (codes "B", word (codes "A") ∷ []) ∷ []
-
-abbrev mutual_words : Table
-mutual_words = (codes "A", word (codes "B") ∷ (word (codes "C") ∷ [])) ∷ only_b
-
-mutual_words_end : StandsFor mutual_words (word (codes "A") ∷ []) (word (codes "A") ∷ (word (codes "C") ∷ [])) 2
-mutual_words_end =
-    is_replaced mutual_words (word (codes "A")) (word (codes "B") ∷ (word (codes "C") ∷ [])) (word (codes "A") ∷ (word (codes "C") ∷ [])) [] [] 1 0 refl
-    (is_replaced only_b (word (codes "B")) (word (codes "A") ∷ []) (word (codes "A") ∷ []) (word (codes "C") ∷ []) (word (codes "C") ∷ []) 0 0 refl
-    (stays [] (word (codes "A")) [] [] 0 refl (nothing []))
-    (stays only_b (word (codes "C")) [] [] 0 refl (nothing only_b)))
-    (nothing mutual_words)
+hidden_words_stay : expanded 2 ((codes "N", token_of (k.Word (codes "N")) 1 11 false ∷ []) ∷ []) (token_of (k.Word (codes "N")) 2 1 true ∷ []) ≡ token_of (k.Word (codes "N")) 1 11 false ∷ []
+hidden_words_stay = refl

@@ -3,4 +3,3 @@ pub mod Fronts
 pub mod Signs
 pub mod Unique
 pub mod Divided
-pub mod Expansion

@@ -1,5 +1,5 @@
 -- What the tokens of a source become: directives, and words that stand for tokens. C11 6.10, 6.10.2, 6.10.3, 6.10.3.4, 6.10.3.5, 7.20.1.1.
-use Rattle.std.specs.Prelude.{◌≡◌, ℕ, ◌+◌, ◌==◌, ◌&&◌, ◌||◌, not, nat_lt, Bool, true, false, List, [], ◌∷◌, ◌++◌, length, codes, bytes_eq, Option, Some, None, is_none, Result, Ok, Err, if◌then◌else◌}
+use Rattle.std.specs.Prelude.{◌≡◌, ℕ, zero, suc, ◌+◌, ◌<◌, ◌==◌, ◌&&◌, ◌||◌, not, nat_lt, Bool, true, false, List, [], ◌∷◌, ◌++◌, length, codes, bytes_eq, Option, Some, None, is_none, Result, Ok, Err, flat_map, sum_by, if◌then◌else◌}
 use Rattle.hls_base.specs.declared.place.Place.{Place}
 use Rattle.hls_base.specs.declared.refusal.Refusal.{Refusal}
 use Rattle.c_token.specs.declared.ctype.CType.{CType}
@@ -78,15 +78,22 @@ abbrev pub hide : TokenKind → Table → Table
 hide (k.Word word) table = without word table
 hide _ table = table
 
--- What a row of tokens stands for, and how many words are replaced on the way, those inside replacements included. C11 6.10.3, 6.10.3.4.
+abbrev pub one_or : {A : Type 0} → Option (List Token) → A → (List Token → A) → A
+one_or None x f = x
+one_or (Some body) x f = f body
+
 -- A word that is not defined, or hidden, stays. A defined word stands for what its tokens become while it is hidden.
-pub data StandsFor : Table → List Token → List Token → ℕ → Type 0 where
-  nothing : (table : Table) → StandsFor table [] [] 0
-  stays : (table : Table) (token : Token) (tokens row : List Token) (words : ℕ)
-      → body_of table token.kind ≡ None → StandsFor table tokens row words → StandsFor table (token ∷ tokens) (token ∷ row) words
-  is_replaced : (table : Table) (token : Token) (body inner tokens row : List Token) (m n : ℕ)
-      → body_of table token.kind ≡ Some body → StandsFor (hide token.kind table) body inner m → StandsFor table tokens row n
-      → StandsFor table (token ∷ tokens) (inner ++ row) (1 + m + n)
+-- At most as many words are hidden at once as are defined, so that many levels are enough.
+abbrev pub expanded : ℕ → Table → List Token → List Token
+expanded zero table tokens = tokens
+expanded (suc levels) table tokens =
+    flat_map (λ token. one_or (body_of table token.kind) (token ∷ []) (λ body. expanded levels (hide token.kind table) body)) tokens
+
+-- how many words are replaced on the way, those inside replacements included
+abbrev pub words_replaced : ℕ → Table → List Token → ℕ
+words_replaced zero table tokens = 0
+words_replaced (suc levels) table tokens =
+    sum_by (λ token. one_or (body_of table token.kind) 0 (λ body. 1 + words_replaced levels (hide token.kind table) body)) tokens
 
 -- once `stdint.h` is included its eight names are type words
 abbrev pub typed_kind : Bool → TokenKind → TokenKind
@@ -104,15 +111,16 @@ numbered included at part (token ∷ tokens) =
     record token { kind = typed_kind included token.kind; place = record { line = at.line; column = at.column; part = part } }
     ∷ numbered included at (part + 1) tokens
 
--- a token of the source that stays where it is, or a row that stands for it
-abbrev pub placed : Bool → Token → Option (List Token) → List Token → List Token
-placed included token None row = record token { kind = typed_kind included token.kind } ∷ []
-placed included token (Some body) row = numbered included token.place 1 row
+-- what one token of the source becomes
+abbrev pub token_becomes : Bool → Table → Token → List Token
+token_becomes included table token =
+    one_or (body_of table token.kind)
+    (record token { kind = typed_kind included token.kind } ∷ [])
+    (λ body. numbered included token.place 1 (expanded (length table) (hide token.kind table) body))
 
--- what one token of the source becomes, and how many words are replaced for it
-abbrev pub TokenBecomes : Bool → Table → Token → List Token → ℕ → Type 0
-TokenBecomes included table token tokens words =
-    (row : List Token) × StandsFor table (token ∷ []) row words × (tokens ≡ placed included token (body_of table token.kind) row)
+abbrev pub token_replaces : Table → Token → ℕ
+token_replaces table token =
+    one_or (body_of table token.kind) 0 (λ body. 1 + words_replaced (length table) (hide token.kind table) body)
 
 -- ---- directives
 
@@ -225,56 +233,36 @@ token_limit = 16384
 abbrev pub word_limit : ℕ
 word_limit = 65536
 
--- one more token of the source, which becomes so many tokens, with so many words replaced
-abbrev pub count : Reading → Token → ℕ → ℕ → Result Reading Refusal
-count s token more_tokens more_words =
-    let tokens = s.tokens + more_tokens in
-    let words = s.words + more_words in
+-- one more token of the source
+abbrev pub count : Reading → Token → Result Reading Refusal
+count s token =
+    let tokens = s.tokens + length (token_becomes s.included s.table token) in
+    let words = s.words + token_replaces s.table token in
     if nat_lt token_limit tokens || nat_lt word_limit words then refuse 31 token
     else Ok (record s { tokens = tokens; words = words })
 
--- what follows where a part is taken; a fault is the answer
-abbrev pub AndThen : Result Reading Refusal → (Reading → Type 0) → Result (List Token) Refusal → Type 0
-AndThen (Ok s) P result = P s
-AndThen (Err r) P result = result ≡ Err r
+-- what the parts become one after another, up to the first fault
+abbrev pub and_then : Result Reading Refusal → (Reading → Result (List Token) Refusal) → Result (List Token) Refusal
+and_then (Ok s) f = f s
+and_then (Err r) f = Err r
 
 abbrev pub behind : List Token → Result (List Token) Refusal → Result (List Token) Refusal
 behind tokens (Ok rest) = Ok (tokens ++ rest)
 behind tokens (Err r) = Err r
 
--- what the parts become one after another, up to the first fault
-abbrev pub Outcome : Reading → List Part → Result (List Token) Refusal → Type 0
-Outcome s [] result = result ≡ Ok []
-Outcome s (directive hash line ∷ parts) result = AndThen (obey s line) (λ new. Outcome new parts result) result
-Outcome s (ordinary token ∷ parts) result =
-    (tokens : List Token) × (words : ℕ) × TokenBecomes s.included s.table token tokens words
-    × AndThen (count s token (length tokens) words)
-    (λ new. (rest : Result (List Token) Refusal) × Outcome new parts rest × (result ≡ behind tokens rest)) result
+abbrev pub outcome : Reading → List Part → Result (List Token) Refusal
+outcome s [] = Ok []
+outcome s (directive hash line ∷ parts) = and_then (obey s line) (λ new. outcome new parts)
+outcome s (ordinary token ∷ parts) =
+    and_then (count s token) (λ new. behind (token_becomes s.included s.table token) (outcome new parts))
 
 abbrev pub beginning : Reading
 beginning = record { table = []; included = false; defines = 0; tokens = 0; words = 0 }
 
--- what the tokens become, or their first fault
-abbrev pub Replaces : List Token → Result (List Token) Refusal → Type 0
-Replaces tokens result = (parts : List Part) × Divides tokens parts × Outcome beginning parts result
-
 -- the tokens become these tokens
 abbrev pub Becomes : List Token → List Token → Type 0
-Becomes tokens replaced = Replaces tokens (Ok replaced)
+Becomes tokens replaced = (parts : List Part) × Divides tokens parts × (outcome beginning parts ≡ Ok replaced)
 
 -- The first fault: rule 5, a directive that is not taken, rule 31, too many tokens or replaced words, or rule 38, too many `#define` lines.
 abbrev pub FirstReplacementFault : List Token → Refusal → Type 0
-FirstReplacementFault tokens r = Replaces tokens (Err r)
-
--- ---- what holds of these relations
-
--- a row of tokens stands for one row, however its words stand for one another, by one count of replaced words
-abbrev pub StandsForOne : Table → List Token → Type 0
-StandsForOne table tokens =
-    (row : List Token) × (words : ℕ) × StandsFor table tokens row words
-    × ((other : List Token) (count : ℕ) → StandsFor table tokens other count → (other ≡ row) × (count ≡ words))
-
--- a list of tokens becomes one list, or has one first fault, and never both
-abbrev pub ReplacesOnce : List Token → Type 0
-ReplacesOnce tokens =
-    (result : Result (List Token) Refusal) × Replaces tokens result × ((other : Result (List Token) Refusal) → Replaces tokens other → other ≡ result)
+FirstReplacementFault tokens r = (parts : List Part) × Divides tokens parts × (outcome beginning parts ≡ Err r)

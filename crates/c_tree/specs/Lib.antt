@@ -5,9 +5,3 @@ pub mod Kinds
 pub mod Grammar
 pub mod Limits
 pub mod Refusal
-pub mod Places
-pub mod ProgramText
-pub mod Rows
-pub mod StatementRows
-pub mod RowText
-pub mod PrintedExample

@@ -6,7 +6,6 @@ pub mod expression;
 pub mod function;
 pub mod object;
 pub mod operator;
-pub mod print;
 pub mod program;
 pub mod specifier;
 pub mod statement;

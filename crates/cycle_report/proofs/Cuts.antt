@@ -68,7 +68,7 @@ plain_from f a b c h =
 
 -- ---- numbers
 
-pub digit_of : (n : ℕ) → n < 10 → IsTrue (is_digit (48 + n))
+digit_of : (n : ℕ) → n < 10 → IsTrue (is_digit (48 + n))
 digit_of n h = grind (arith, nat_tests)
 
 pub decimal_digits : (n : ℕ) → n < 2 ^ 64 → IsTrue (list_all is_digit (decimal n))

@@ -1,8 +1,3 @@
-pub mod Ends
-pub mod KindWords
-pub mod Forms
-pub mod Reading
-pub mod Atoms
 pub mod Appends
 pub mod Cuts
 pub mod Readings

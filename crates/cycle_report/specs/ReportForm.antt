@@ -1,9 +1,11 @@
 -- Which reports have a text, and which bytes are a report's.
-use Rattle.std.specs.Prelude.{ℕ, ◌+◌, ◌^◌, ◌<◌, ◌≤◌, ◌≡◌, Bool, false, ◌&&◌, ◌||◌, ◌==◌, nat_le, if◌then◌else◌, IsTrue, List, [], ◌∷◌, ◌++◌, length, take, reverse, count_by, ◌⊎◌}
+use Rattle.std.specs.Prelude.{ℕ, ◌+◌, ◌^◌, ◌<◌, ◌≤◌, ◌≡◌, Bool, false, ◌&&◌, ◌||◌, ◌==◌, nat_le, if◌then◌else◌, IsTrue, List, [], ◌∷◌, ◌++◌, length, take, reverse, count_by, ◌⊎◌, Result, Ok, Err}
 use Rattle.std.specs.List.{All, list_all}
 use Rattle.hls_base.specs.declared.place.Place.{Place}
 use Rattle.hls_base.specs.declared.point.Point.{Point}
 use Rattle.hls_base.specs.declared.point.PointKind.TheVariants.{Body}
+use Rattle.hls_base.specs.declared.refusal.Fail.{Fail}
+use Rattle.hls_base.specs.declared.refusal.Fail.TheVariants.{Refused, Memory}
 use Rattle.hls_base.specs.declared.refusal.Refusal.{Refusal}
 use Rattle.hls_base.specs.declared.settings.Settings.{Settings}
 use Rattle.cycle_report.specs.declared.report.Cost.{Cost}
@@ -128,3 +130,8 @@ abbrev pub IsRefusedAs : List ℕ → Refusal → Type 0
 IsRefusedAs bytes why = (why.rule ≡ 60) × (
     ((largest_report < length bytes) × (why.place ≡ record { line = 1; column = 1; part = 0 }))
     ⊎ ((length bytes ≤ largest_report) × ((k : ℕ) × IsFirstBadByte bytes k × (why.place ≡ place_after (take k bytes)))))
+
+abbrev pub IfRefused : {A : Type 0} → Result A Fail → (Refusal → Type 0) → Type 0
+IfRefused (Ok x) P = Unit {0}
+IfRefused (Err (Refused why)) P = P why
+IfRefused (Err Memory) P = Unit {0}

@@ -130,8 +130,7 @@ fn print_cost(out: &mut Vec<u8>, row: &Cost) -> Result<(), AllocError>
     Ok(())
 }
 
-/// The word of a kind of point.
-pub fn kind_text(kind: PointKind) -> &'static [u8]
+fn kind_text(kind: PointKind) -> &'static [u8]
     ensures { result.now ≡ text.kind_text kind }
 {
     match kind {

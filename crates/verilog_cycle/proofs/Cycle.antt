@@ -1,13 +1,13 @@
 -- One cycle of the parts of a simulator.
-use Rattle.std.proofs.Common.{◌≡◌, ℕ, List, length, sym, ap, ◌∙◌, subst}
+use Rattle.std.proofs.Common.{◌≡◌, ◌<◌, ℕ, List, length, map, refl, sym, ap, ◌∙◌, subst}
 use Rattle.rtl_core.specs.Netlist.{Netlist}
-use Rattle.rtl_core.specs.ClockStep.{State, input_widths, register_widths, wire_widths, wire_values, seen, value_of, stepped, clocked_registers, clocked_memories, Fit, IsState, ArePins}
+use Rattle.rtl_core.specs.ClockStep.{State, input_widths, register_widths, wire_widths, wire_values, seen, value_of, stepped, clocked_registers, clocked_memories, Fit, AreMemories, IsState, ArePins}
 use Rattle.rtl_core.specs.Valid.{IsValid}
 use Rattle.rtl_core.proofs.Fits.{wires_fit, step_is_state, fit_length}
 use Rattle.std.proofs.lemmas.List.{length-map}
 use Rattle.rtl_core.specs.declared.design.Reg.{Reg}
 use Rattle.verilog_cycle.specs.declared.values.Values.{Values}
-use Rattle.verilog_cycle.specs.Inside.{AreValues, IsReady, Settled, value_in}
+use Rattle.verilog_cycle.specs.Inside.{AreValues, IsReady, Settled, state_of, value_in}
 use Rattle.verilog_cycle.proofs.Passes.{moved}
 
 -- the inputs of the cycle are taken

@@ -1,4 +1,3 @@
-pub mod Steps
 pub mod Remainders
 pub mod Passes
 pub mod Widths

@@ -1,10 +1,10 @@
 -- The words of a valid circuit's memories.
-use Rattle.std.proofs.Common.{◌≡◌, ◌<◌, ℕ, suc, zero, ◌^◌, List, [], ◌∷◌, length, map, drop, get_or, Some, refl, sym, ap, ◌∙◌, subst, arith}
+use Rattle.std.proofs.Common.{◌≡◌, ◌<◌, ◌≤◌, ℕ, suc, zero, ◌^◌, List, [], ◌∷◌, length, map, drop, get_or, slice_get, slice_index_or, Option, Some, refl, sym, ap, ◌∙◌, subst, arith}
 use Rattle.std.specs.List.{All}
 use Rattle.std.proofs.lemmas.Option.{slice_get-get_or, get_or_from_slice_get}
 use Rattle.rtl_core.specs.declared.design.Mem.{Mem}
 use Rattle.rtl_core.specs.Netlist.{Netlist, Memory, memory_of}
-use Rattle.rtl_core.specs.ClockStep.{widths, AreMemories}
+use Rattle.rtl_core.specs.ClockStep.{widths, AreMemories, AreWords}
 use Rattle.rtl_core.specs.Valid.{MemoryFits}
 use Rattle.rtl_core.proofs.Fits.{words_of}
 use Rattle.verilog_cycle.specs.declared.values.Values.{Values}

@@ -1,8 +1,8 @@
 -- What registers and memories hold after a power-up.
-use Rattle.std.proofs.Common.{◌≡◌, ◌<◌, ◌≤◌, ℕ, suc, ◌+◌, ◌%◌, ◌^◌, List, [], ◌∷◌, ◌++◌, length, map, take, drop, get_or, replicate, refl, sym, ap, ◌∙◌, subst, append_assoc, arith}
+use Rattle.std.proofs.Common.{◌≡◌, ◌<◌, ◌≤◌, ℕ, suc, zero, ◌+◌, ◌-◌, ◌%◌, ◌^◌, List, [], ◌∷◌, ◌++◌, length, map, take, drop, get_or, replicate, refl, sym, ap, ◌∙◌, subst, append_assoc, arith}
 use Rattle.std.specs.List.{All}
 use Rattle.std.proofs.lemmas.List.{append-nil, length-map, length-take-le, length-drop, length-replicate}
-use Rattle.std.proofs.lemmas.List.Elements.{All-nil, All-cons}
+use Rattle.std.proofs.lemmas.List.Elements.{All-nil, All-cons, All-map}
 use Rattle.std.proofs.lemmas.Nat.{pow_pos}
 use Rattle.std.proofs.Math.Nat.{mod-lt}
 use Rattle.std.proofs.Math.ListN.{drop_of_length-le}
@@ -10,12 +10,12 @@ use Rattle.rtl_core.specs.declared.design.Pin.{Pin}
 use Rattle.rtl_core.specs.declared.design.Reg.{Reg}
 use Rattle.rtl_core.specs.declared.design.Mem.{Mem}
 use Rattle.rtl_core.specs.Netlist.{Netlist, Memory, memory_of}
-use Rattle.rtl_core.specs.ClockStep.{Fit, fit_none, fit_one, AreMemories, no_memory, one_memory, IsState, ArePins, Widths, register_widths, input_widths, wire_widths}
+use Rattle.rtl_core.specs.ClockStep.{State, Fit, fit_none, fit_one, AreWords, AreMemories, no_memory, one_memory, IsState, ArePins, Widths, register_widths, input_widths, wire_widths}
 use Rattle.rtl_core.specs.Valid.{IsBetween, MemoryFits, IsValid}
 use Rattle.rtl_core.specs.declared.design.Wire.{Wire}
 use Rattle.rtl_core.proofs.Checks.{All-map_back}
 use Rattle.verilog_cycle.specs.declared.values.Values.{Values}
-use Rattle.verilog_cycle.specs.Inside.{IsReady}
+use Rattle.verilog_cycle.specs.Inside.{AreValues, IsReady}
 use Rattle.verilog_cycle.specs.Simulation.{modulo_widths, words_modulo, word_count, powered_words, powered_up, contents_count, reduced_pins}
 use Rattle.verilog_cycle.proofs.Passes.{drop_next}
 

@@ -1,8 +1,9 @@
 -- One wire more has its value.
-use Rattle.std.proofs.Common.{◌≡◌, ◌<◌, ◌≤◌, ℕ, suc, zero, ◌+◌, ◌^◌, List, [], ◌∷◌, ◌++◌, length, take, drop, get_or, set, min, slice_get, Some, refl, sym, ap, ◌∙◌, subst, append_assoc, arith}
+use Rattle.std.proofs.Common.{◌≡◌, ◌<◌, ◌≤◌, ℕ, suc, zero, ◌+◌, ◌^◌, List, [], ◌∷◌, ◌++◌, length, map, take, drop, get_or, set, min, slice_get, slice_index_or, Option, Some, None, refl, sym, ap, ◌∙◌, subst, append_assoc, arith}
 use Rattle.std.proofs.lemmas.List.{take-append-drop, take_more_set, append-nil, length-map, length-take, take_all, map-append}
 use Rattle.std.proofs.lemmas.Grind.{take_at_read}
 use Rattle.std.proofs.lemmas.Option.{none-some, same_Some, slice_get-get_or}
+use Rattle.rtl_core.specs.declared.design.Atom.{Atom}
 use Rattle.rtl_core.specs.declared.design.Pair.{Pair}
 use Rattle.rtl_core.specs.declared.design.Pair.TheVariants as pair
 use Rattle.rtl_core.specs.declared.design.Net.{Net}
@@ -10,7 +11,8 @@ use Rattle.rtl_core.specs.declared.design.Net.TheVariants as net
 use Rattle.rtl_core.specs.declared.design.Wire.{Wire}
 use Rattle.rtl_core.specs.Netlist.{Netlist, Memory}
 use Rattle.rtl_core.specs.ClockStep.{State, Widths, widths, widths_after, register_widths, wire_widths, bits_of, value_of, net_value, values_behind, Fit, fit_none, fit_one}
-use Rattle.rtl_core.specs.Valid.{HasBits, IsBetween, OperandsFit, NetFits, WiresFit}
+use Rattle.rtl_core.specs.Valid.{HasBits, IsBetween, OperandsFit, IsWordOf, NetFits, WiresFit}
+use Rattle.rtl_core.proofs.Fits.{fit_length, fit_parts}
 use Rattle.rtl_core.proofs.Stability.{Longer, bits_kept, width_kept, value_kept, net_kept}
 use Rattle.std.proofs.Math.ListN.{drop_of_length-le}
 use Rattle.verilog_cycle.proofs.Passes.{drop_next}

@@ -1,5 +1,5 @@
 -- Atoms of a valid circuit name values that there are.
-use Rattle.std.proofs.Common.{◌≡◌, ◌<◌, ◌≤◌, ℕ, suc, ◌^◌, List, [], length, get_or, slice_get, Some, refl, sym, ap, ◌∙◌, subst, arith}
+use Rattle.std.proofs.Common.{◌≡◌, ◌<◌, ◌≤◌, ℕ, suc, ◌+◌, ◌-◌, ◌*◌, ◌^◌, List, [], ◌∷◌, length, map, get_or, slice_get, slice_index_or, Option, Some, refl, sym, ap, ◌∙◌, subst, arith}
 use Rattle.std.specs.List.{All}
 use Rattle.std.proofs.lemmas.Option.{slice_get_within, slice_get-get_or}
 use Rattle.std.proofs.Math.Nat.{pow-le-pow_right}
@@ -8,12 +8,13 @@ use Rattle.rtl_core.specs.declared.design.Atom.TheVariants as atom
 use Rattle.rtl_core.specs.declared.design.Pair.{Pair}
 use Rattle.rtl_core.specs.declared.design.Pair.TheVariants as pair
 use Rattle.rtl_core.specs.declared.design.Net.{Net}
+use Rattle.rtl_core.specs.declared.design.Net.TheVariants as net
 use Rattle.rtl_core.specs.declared.design.OutPin.{OutPin}
 use Rattle.rtl_core.specs.declared.design.Port.{Port}
 use Rattle.rtl_core.specs.declared.design.Reg.{Reg}
 use Rattle.rtl_core.specs.Netlist.{Netlist, Memory}
-use Rattle.rtl_core.specs.ClockStep.{widths, AreMemories, no_memory, one_memory, Fit, net_value, bits_of}
-use Rattle.rtl_core.specs.Valid.{HasBits, OperandsFit, NetFits, RegisterFits, PortFits, MemoryFits, OutputFits}
+use Rattle.rtl_core.specs.ClockStep.{Widths, widths, widths_after, AreMemories, no_memory, one_memory, AreWords, Fit, net_value, bits_of}
+use Rattle.rtl_core.specs.Valid.{HasBits, IsBetween, OperandsFit, NetFits, RegisterFits, PortFits, MemoryFits, OutputFits, IsValid}
 use Rattle.rtl_core.proofs.Fits.{fit_length, atom_fits, words_of, net_fits}
 use Rattle.verilog_cycle.specs.declared.values.Values.{Values}
 use Rattle.verilog_cycle.specs.Inside.{value_in, IsThere, IsWord, AreValues, PortIsInside}

@@ -1,5 +1,5 @@
 -- A circuit that adds its input to a register of four bits, and one that writes a word by two ports at one address.
-use Rattle.std.specs.Prelude.{[], ◌∷◌, codes}
+use Rattle.std.specs.Prelude.{ℕ, List, [], ◌∷◌, codes}
 use Rattle.rtl_core.specs.declared.design.Atom.TheVariants as atom
 use Rattle.rtl_core.specs.declared.design.Pair.TheVariants as pair
 use Rattle.rtl_core.specs.declared.design.Net.TheVariants as net

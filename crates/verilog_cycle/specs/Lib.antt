@@ -1,5 +1,3 @@
 pub mod Simulation
 pub mod Inside
-pub mod Program
-pub mod Running
 pub mod Examples

@@ -22,6 +22,15 @@ pub fn low_bits(value: u128, bits: u8) -> u128
     value & ones(bits)
 }
 
+/// The lowest bits of a word.
+pub fn low_bits_of_word(value: u64, bits: u8) -> u64
+    requires some { 1 ≤ bits }
+    requires within { bits ≤ 64 }
+    ensures { result ≡ value % 2 ^ bits }
+{
+    value & (u64::MAX >> (64 - bits))
+}
+
 pub fn shifted_left(value: u128, count: u128) -> u128
     ensures { result ≡ (value * 2 ^ count) % 2 ^ 128 }
 {

@@ -12,7 +12,7 @@ use crate::contents::Contents;
 use crate::values::Values;
 use rtl_core::design::{Atom, Design, Net, OutPin, Pair, Wire};
 
-pub fn bits_of(design: &Design, atom: Atom) -> u8
+fn bits_of(design: &Design, atom: Atom) -> u8
     requires { (n : ℕ) × HasBits (widths (netlist_of design.now)) n atom }
     ensures { result ≡ bits_of (widths (netlist_of design.now)) atom }
 {
@@ -53,8 +53,7 @@ fn picked(values: &Values, test: Atom, chosen: Atom, other: Atom) -> u128
     }
 }
 
-/// The value of an expression of any width.
-pub fn net_value(design: &Design, mems: &[Contents], values: &Values, wire: Wire) -> u128
+fn net_value(design: &Design, mems: &[Contents], values: &Values, wire: Wire) -> u128
     requires values { AreValues (netlist_of design.now) values.now }
     requires words { AreMemories (netlist_of design.now).mems mems.now }
     requires some { 1 ≤ wire.bits }
@@ -73,6 +72,21 @@ pub fn net_value(design: &Design, mems: &[Contents], values: &Values, wire: Wire
             wire.bits,
         ),
         Net::Word { mem, addr } => word_at(mems, mem, values.value(addr)),
+    }
+}
+
+/// Gives each wire its value in the cycle.
+pub fn settle(design: &Design, mems: &[Contents], values: &mut Values)
+    requires valid { IsValid (netlist_of design.now) }
+    requires values { AreValues (netlist_of design.now) values.old }
+    requires words { AreMemories (netlist_of design.now).mems mems.now }
+    ensures pins { values.new.pins.items ≡ values.old.pins.items }
+    ensures regs { values.new.regs.items ≡ values.old.regs.items }
+    ensures next { values.new.next.items ≡ values.old.next.items }
+    ensures wires { values.new.wires.items ≡ wire_values (netlist_of design.now) (state_of values.old mems.now) values.old.pins.items }
+{
+    for k in 0..design.wires.len() {
+        values.wires[k] = net_value(design, mems, values, design.wires[k]);
     }
 }
 

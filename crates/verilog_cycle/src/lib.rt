@@ -5,10 +5,7 @@ mod arithmetic;
 mod contents;
 mod edge;
 mod expression;
-mod program;
-mod run;
 pub mod sim;
 #[cfg(test)]
 mod tests;
 mod values;
-mod word;

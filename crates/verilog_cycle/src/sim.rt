@@ -1,5 +1,5 @@
 //! Clocking a circuit.
-ghost use Rattle.std.specs.Prelude.{◌≡◌, ◌+◌, ◌<◌, ◌≤◌, ◌^◌, [], length, map, slice_index_or, replicate, IfOk, OnOk};
+ghost use Rattle.std.specs.Prelude.{◌≡◌, ◌<◌, ◌≤◌, ◌^◌, [], length, map, slice_index_or, replicate, IfOk};
 ghost use Rattle.std.specs.List.{All};
 ghost use Rattle.rtl_core.specs.declared.design.Reg.{Reg};
 ghost use Rattle.rtl_core.specs.declared.design.Mem.{Mem};
@@ -8,16 +8,12 @@ ghost use Rattle.rtl_core.specs.ClockStep.{stepped, outputs};
 ghost use Rattle.rtl_core.specs.Valid.{IsValid, IsBetween};
 ghost use Rattle.verilog_cycle.specs.Simulation.{modulo_widths, words_modulo, powered_words, powered_up, word_count, contents_count, reduced_pins};
 ghost use Rattle.verilog_cycle.specs.Inside.{state_of, IsReady, Settled};
-ghost use Rattle.verilog_cycle.specs.Program.{IsProgram};
-ghost use Rattle.verilog_cycle.specs.Running.{AreCells, cells_of};
 
+use crate::arithmetic::low_bits_of_word;
 use crate::contents::Contents;
 use crate::edge::clock_memories;
-use crate::expression::show;
-use crate::program::{Instruction, program_of};
-use crate::run::{settle, take_values};
+use crate::expression::{settle, show};
 use crate::values::Values;
-use crate::word::low_bits;
 use rtl_core::design::{Design, Mem, Reg};
 use std::alloc::{AllocError, Global};
 use std::marker::Model;
@@ -26,8 +22,6 @@ use std::marker::Model;
 #[derive(Debug, Drop)]
 pub struct Sim {
     design: Design,
-    program: Vec<Instruction>,
-    cells: Vec<u64>,
     values: Values,
     mems: Vec<Contents>,
 }
@@ -39,12 +33,10 @@ impl Model for Sim {
 
     ghost use Rattle.rtl_core.specs.Netlist.{netlist_of};
     ghost use Rattle.verilog_cycle.specs.Inside.{state_of, IsReady};
-    ghost use Rattle.verilog_cycle.specs.Program.{IsProgram};
-    ghost use Rattle.verilog_cycle.specs.Running.{AreCells};
 
     ghost view = { λ s. record { netlist = netlist_of s.design; state = state_of s.values s.mems.items } };
 
-    ghost invariant = { λ s. IsReady (netlist_of s.design) s.values s.mems.items × IsProgram (netlist_of s.design) s.program.items × AreCells s.values s.cells.items };
+    ghost invariant = { λ s. IsReady (netlist_of s.design) s.values s.mems.items };
 }
 
 /// What registers hold after a power-up with these numbers.
@@ -55,7 +47,7 @@ fn powered_registers(alloc: Global, regs: &[Reg], numbers: &[u64]) -> Result<Vec
 {
     let mut held = Vec::with_capacity(alloc, regs.len())?;
     for k in 0..regs.len() {
-        held.push(low_bits(numbers[k], regs[k].bits))?;
+        held.push(low_bits_of_word(numbers[k], regs[k].bits))?;
     }
     Ok(held)
 }
@@ -68,7 +60,7 @@ fn powered_memory(alloc: Global, bits: u8, numbers: &[u64]) -> Result<Contents, 
 {
     let mut words = Vec::with_capacity(alloc, numbers.len())?;
     for number in numbers {
-        words.push(low_bits(*number, bits))?;
+        words.push(low_bits_of_word(*number, bits))?;
     }
     Ok(Contents::new(words))
 }
@@ -112,63 +104,35 @@ fn values_before(alloc: Global, design: &Design, regs: Vec<u64>) -> Result<Value
     })
 }
 
-/// The cells before the first cycle of a circuit.
-fn cells_before(alloc: Global, design: &Design) -> Result<Vec<u64>, AllocError>
-    ensures cells { IfOk result (λ v. v.items ≡ replicate (length design.now.inputs.items + (length design.now.regs.items + length design.now.wires.items)) 0) }
-    ensures small { OnOk result (length design.now.inputs.items + (length design.now.regs.items + length design.now.wires.items) < 2 ^ 64) }
-{
-    let behind = design.regs.len() + design.wires.len();
-    match design.inputs.len().checked_add(behind) {
-        Some(count) => vec![in alloc; 0; count],
-        None => Err(AllocError),
-    }
-}
-
 /// Takes the inputs of a cycle and gives the wires their values.
-fn begin(
-    design: &Design,
-    program: &[Instruction],
-    cells: &mut [u64],
-    values: &mut Values,
-    mems: &[Contents],
-    pins: &[u64],
-)
-    requires program { IsProgram (netlist_of design.now) program.now }
-    requires cells { AreCells values.old cells.old }
+fn begin(design: &Design, values: &mut Values, mems: &[Contents], pins: &[u64])
     requires ready { IsReady (netlist_of design.now) values.old mems.now }
     requires pins { length pins.now ≡ length design.now.inputs.items }
-    ensures settled { Settled (netlist_of design.now) (state_of values.old mems.now) values.new (reduced_pins (netlist_of design.now) pins.now) }
-    ensures cells { cells.new ≡ cells_of values.new }
+    ensures { Settled (netlist_of design.now) (state_of values.old mems.now) values.new (reduced_pins (netlist_of design.now) pins.now) }
 {
     let inputs = design.inputs.as_slice();
     values.take_pins(inputs, pins);
-    take_values(values, cells);
-    settle(design, program, mems, values, cells);
+    settle(design, mems, values);
 }
 
 /// Writes the outputs of a cycle and takes the edge.
 fn clock_once(
     design: &Design,
-    program: &[Instruction],
-    cells: &mut [u64],
     values: &mut Values,
     mems: &mut [Contents],
     pins: &[u64],
     outs: &mut [u64],
 )
-    requires program { IsProgram (netlist_of design.now) program.now }
-    requires cells { AreCells values.old cells.old }
     requires ready { IsReady (netlist_of design.now) values.old mems.old }
     requires pins { length pins.now ≡ length design.now.inputs.items }
     requires outs { length outs.old ≡ length design.now.outputs.items }
-    ensures cells { AreCells values.new cells.new }
     ensures ready { IsReady (netlist_of design.now) values.new mems.new }
     ensures state { state_of values.new mems.new ≡ stepped (netlist_of design.now) (state_of values.old mems.old) (reduced_pins (netlist_of design.now) pins.now) }
     ensures outs { outs.new ≡ outputs (netlist_of design.now) (state_of values.old mems.old) (reduced_pins (netlist_of design.now) pins.now) }
 {
     let outputs = design.outputs.as_slice();
     let regs = design.regs.as_slice();
-    begin(design, program, cells, values, mems, pins);
+    begin(design, values, mems, pins);
     show(outputs, values, outs);
     clock_memories(design, values, mems);
     values.clock(regs);
@@ -185,12 +149,8 @@ impl Sim {
         let regs = powered_registers(alloc, &design.regs, &power_up[..count])?;
         let mems = powered_memories(alloc, &design.mems, &power_up[count..])?;
         let values = values_before(alloc, &design, regs)?;
-        let cells = cells_before(alloc, &design)?;
-        let program = program_of(alloc, &design)?;
         Ok(Sim {
             design,
-            program,
-            cells,
             values,
             mems,
         })
@@ -204,15 +164,7 @@ impl Sim {
         ensures state { self.new.state ≡ stepped self.old.netlist self.old.state (reduced_pins self.old.netlist pins.now) }
         ensures outs { outs.new ≡ outputs self.old.netlist self.old.state (reduced_pins self.old.netlist pins.now) }
     {
-        clock_once(
-            &self.design,
-            &self.program,
-            &mut self.cells,
-            &mut self.values,
-            &mut self.mems,
-            pins,
-            outs,
-        );
+        clock_once(&self.design, &mut self.values, &mut self.mems, pins, outs);
     }
 
     /// What the registers hold.

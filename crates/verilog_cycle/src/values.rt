@@ -7,7 +7,7 @@ ghost use Rattle.rtl_core.specs.Valid.{IsBetween};
 ghost use Rattle.verilog_cycle.specs.Simulation.{modulo_widths};
 ghost use Rattle.verilog_cycle.specs.Inside.{IsThere, IsWord, value_in};
 
-use crate::word::low_bits;
+use crate::arithmetic::low_bits_of_word;
 use rtl_core::design::{Atom, Pin, Reg};
 
 /// The values of inputs, registers and wires in a cycle, and of the registers in the next one.
@@ -50,7 +50,7 @@ impl Values {
         ensures wires { self.new.wires.items ≡ self.old.wires.items }
     {
         for k in 0..inputs.len() {
-            self.pins[k] = low_bits(pins[k], inputs[k].bits);
+            self.pins[k] = low_bits_of_word(pins[k], inputs[k].bits);
         }
     }
 

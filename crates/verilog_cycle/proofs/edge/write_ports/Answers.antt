@@ -1,4 +1,4 @@
-use Rattle.std.proofs.Common.{◌∙◌, ◌==◌, get_or, sym, subst}
+use Rattle.std.proofs.Common.{◌≡◌, ◌∙◌, ◌==◌, length, get_or, sym, subst}
 use Rattle.verilog_cycle.specs.Inside.{value_in, PortIsInside}
 use Rattle.verilog_cycle.proofs.Passes.{port_written, port_room, ports_written, no_port}
 use Rattle.verilog_cycle.proofs.edge.write_ports.Goals as goal

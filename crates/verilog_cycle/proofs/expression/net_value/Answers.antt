@@ -1,8 +1,10 @@
-use Rattle.std.proofs.Common.{◌≡◌, ◌∙◌, ◌<◌, ◌+◌, ◌-◌, ◌*◌, ◌/◌, ◌%◌, ◌^◌, [], length, get_or, sym, ap, subst, arith}
+use Rattle.std.proofs.Common.{◌≡◌, ◌∙◌, ◌<◌, ◌≤◌, ◌+◌, ◌-◌, ◌*◌, ◌/◌, ◌%◌, ◌^◌, ◌==◌, if◌then◌else◌, cond, ℕ, [], length, get_or, refl, sym, ap, subst, arith}
 use Rattle.std.proofs.lemmas.Option.{slice_get_within}
+use Rattle.rtl_core.specs.declared.design.Pair.{Pair}
+use Rattle.rtl_core.specs.declared.design.Pair.TheVariants as pair
 use Rattle.rtl_core.specs.declared.design.Net.TheVariants as net
 use Rattle.rtl_core.specs.Netlist.{netlist_of}
-use Rattle.rtl_core.specs.ClockStep.{widths, bits_of, pair_value, word_at}
+use Rattle.rtl_core.specs.ClockStep.{widths, bits_of, pair_value, word_at, net_value}
 use Rattle.rtl_core.specs.Valid.{HasBits, OperandsFit}
 use Rattle.rtl_core.proofs.Fits.{words_of}
 use Rattle.verilog_cycle.specs.Inside.{value_in}

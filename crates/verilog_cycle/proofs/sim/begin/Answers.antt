@@ -1,4 +1,4 @@
-use Rattle.std.proofs.Common.{◌≡◌, ◌∙◌, List, length, map, sym, ap, subst}
+use Rattle.std.proofs.Common.{◌≡◌, ◌∙◌, ℕ, List, length, map, sym, ap, subst}
 use Rattle.std.proofs.lemmas.List.{length-map}
 use Rattle.std.specs.List.{All}
 use Rattle.rtl_core.specs.declared.design.Pin.{Pin}
@@ -9,7 +9,6 @@ use Rattle.rtl_core.proofs.Fits.{fit_length}
 use Rattle.verilog_cycle.specs.Simulation.{reduced_pins, modulo_widths}
 use Rattle.verilog_cycle.proofs.Passes.{moved}
 use Rattle.verilog_cycle.proofs.Powered.{reduced_are_pins}
-use Rattle.verilog_cycle.proofs.Steps.{cells_moved}
 use Rattle.verilog_cycle.proofs.Cycle.{Taken, taken}
 use Rattle.verilog_cycle.proofs.sim.begin.Goals as goal
 
@@ -24,16 +23,6 @@ take_pins-requires c =
       count = c.requires.pins ∙ sym (ap (λ (l : List Pin). length l) inputs);
     }
 
-pub take_values-requires : goal.take_values-requires
-take_values-requires c =
-    let d = netlist_of c.args.design.now in
-    let old = c.args.values.now in
-    let e = c.take_pins.ensures in
-    let pins = e.pins ∙ ap (λ (i : List Pin). modulo_widths (map (λ (p : Pin). p.bits) i) c.args.pins.now) c.as_slice-inputs.ensures.value in
-    let same : length c.take_pins.new.self.pins.items ≡ length old.pins.items =
-    ap length pins ∙ (sym (fit_length (input_widths d) (reduced_pins d c.args.pins.now) (reduced_are_pins d c.args.pins.now c.requires.pins)) ∙ fit_length (input_widths d) old.pins.items c.requires.ready.values.pins) in
-    cells_moved old c.take_pins.new.self c.args.cells.now c.requires.cells same (ap length e.regs) e.wires
-
 pub settle-requires : goal.settle-requires
 settle-requires c =
     let d = netlist_of c.args.design.now in
@@ -47,8 +36,6 @@ settle-requires c =
     } in
     record {
       valid = c.requires.ready.valid;
-      program = c.requires.program;
-      cells = c.take_values.ensures;
       values = taken d c.args.values.now c.take_pins.new.self pins c.requires.ready.values (reduced_are_pins d c.args.pins.now c.requires.pins) t;
       words = c.requires.ready.words;
     }
@@ -64,12 +51,9 @@ returns c =
     let f = c.settle.ensures in
     let pins_are = e.pins ∙ ap (λ (i : List Pin). modulo_widths (map (λ (p : Pin). p.bits) i) c.args.pins.now) c.as_slice-inputs.ensures.value in
     record {
-      cells = f.cells;
-      settled = record {
-        pins_are = f.pins ∙ pins_are;
-        regs = f.regs ∙ e.regs;
-        wires = moved (λ p r n. w.wires.items ≡ wire_values d (record { regs = r; mems = c.args.mems.now }) p) v.pins.items pins v.regs.items old.regs.items v.next.items old.next.items
-            (sym pins_are) (sym e.regs) (sym e.next) f.wires;
-        next = ap length (f.next ∙ e.next) ∙ c.requires.ready.values.next;
-      };
+      pins_are = f.pins ∙ pins_are;
+      regs = f.regs ∙ e.regs;
+      wires = moved (λ p r n. w.wires.items ≡ wire_values d (record { regs = r; mems = c.args.mems.now }) p) v.pins.items pins v.regs.items old.regs.items v.next.items old.next.items
+          (sym pins_are) (sym e.regs) (sym e.next) f.wires;
+      next = ap length (f.next ∙ e.next) ∙ c.requires.ready.values.next;
     }

@@ -1,16 +1,15 @@
-use Rattle.std.proofs.Common.{◌≡◌, ◌∙◌, List, length, map, sym, ap, subst}
+use Rattle.std.proofs.Common.{◌≡◌, ◌∙◌, ℕ, List, length, map, sym, ap, subst}
 use Rattle.std.proofs.lemmas.List.{length-map}
 use Rattle.std.specs.List.{All}
 use Rattle.rtl_core.specs.declared.design.OutPin.{OutPin}
 use Rattle.rtl_core.specs.declared.design.Reg.{Reg}
 use Rattle.rtl_core.specs.Netlist.{netlist_of}
-use Rattle.rtl_core.specs.ClockStep.{value_of, register_widths, clocked_registers, IsState}
+use Rattle.rtl_core.specs.ClockStep.{State, value_of, register_widths, clocked_registers, IsState, ArePins}
 use Rattle.rtl_core.proofs.Fits.{fit_length}
 use Rattle.verilog_cycle.specs.Simulation.{reduced_pins}
 use Rattle.verilog_cycle.specs.Inside.{state_of, value_in, IsThere, IsWord}
 use Rattle.verilog_cycle.proofs.Powered.{reduced_are_pins}
 use Rattle.verilog_cycle.proofs.Widths.{enables_there, nexts_are_words, outputs_are_words}
-use Rattle.verilog_cycle.proofs.Steps.{cells_moved, cells_settled}
 use Rattle.verilog_cycle.proofs.Cycle.{settled, of_seen, edge_taken, ready_again}
 use Rattle.verilog_cycle.proofs.sim.clock_once.Goals as goal
 
@@ -21,7 +20,7 @@ show-requires c =
     let s = state_of c.args.values.now c.args.mems.now in
     let is : IsState d s = record { regs = ready.values.regs; mems = ready.words } in
     let v = c.begin.new.values in
-    let are = settled d s v (reduced_pins d c.args.pins.now) ready.valid is (reduced_are_pins d c.args.pins.now c.requires.pins) c.begin.ensures.settled in
+    let are = settled d s v (reduced_pins d c.args.pins.now) ready.valid is (reduced_are_pins d c.args.pins.now c.requires.pins) c.begin.ensures in
     let outputs = c.as_slice-outputs.ensures.value in
     record {
       words = subst (All (λ (o : OutPin). IsWord v o.from)) (sym outputs) (outputs_are_words d v are d.outputs ready.valid.outputs);
@@ -36,7 +35,7 @@ clock_memories-requires c =
     let is : IsState d s = record { regs = ready.values.regs; mems = ready.words } in
     record {
       valid = ready.valid;
-      values = settled d s c.begin.new.values (reduced_pins d c.args.pins.now) ready.valid is (reduced_are_pins d c.args.pins.now c.requires.pins) c.begin.ensures.settled;
+      values = settled d s c.begin.new.values (reduced_pins d c.args.pins.now) ready.valid is (reduced_are_pins d c.args.pins.now c.requires.pins) c.begin.ensures;
       words = ready.words;
     }
 
@@ -47,7 +46,7 @@ clock-requires c =
     let s = state_of c.args.values.now c.args.mems.now in
     let is : IsState d s = record { regs = ready.values.regs; mems = ready.words } in
     let v = c.begin.new.values in
-    let are = settled d s v (reduced_pins d c.args.pins.now) ready.valid is (reduced_are_pins d c.args.pins.now c.requires.pins) c.begin.ensures.settled in
+    let are = settled d s v (reduced_pins d c.args.pins.now) ready.valid is (reduced_are_pins d c.args.pins.now c.requires.pins) c.begin.ensures in
     let regs = c.as_slice-regs.ensures.value in
     let count = sym (ap (λ (l : List Reg). length l) regs) in
     record {
@@ -68,14 +67,10 @@ returns c =
     let are = reduced_are_pins d c.args.pins.now c.requires.pins in
     let e = c.clock.ensures in
     let regs = e.regs ∙ ap (λ (rs : List Reg). clocked_registers (value_in v) rs v.regs.items) c.as_slice-regs.ensures.value in
-    let state = edge_taken d s v pins c.clock.new.self.regs.items c.clock_memories.new.mems c.begin.ensures.settled regs c.clock_memories.ensures in
-    let again = ready_again d s v c.clock.new.self pins c.clock_memories.new.mems ready.valid is are c.begin.ensures.settled e.pins e.wires e.next state in
-    let seen = settled d s v pins ready.valid is are c.begin.ensures.settled in
-    let kept : length c.clock.new.self.regs.items ≡ length v.regs.items = sym (fit_length (register_widths d) c.clock.new.self.regs.items again.values.regs) ∙ fit_length (register_widths d) v.regs.items seen.regs in
+    let state = edge_taken d s v pins c.clock.new.self.regs.items c.clock_memories.new.mems c.begin.ensures regs c.clock_memories.ensures in
     record {
-      cells = cells_moved v c.clock.new.self c.begin.new.cells (cells_settled v c.begin.new.cells c.begin.ensures.cells) (ap length e.pins) kept e.wires;
-      ready = again;
+      ready = ready_again d s v c.clock.new.self pins c.clock_memories.new.mems ready.valid is are c.begin.ensures e.pins e.wires e.next state;
       state = state;
-      outs = of_seen d s v pins (λ p r w. c.show.new.outs ≡ map (λ (o : OutPin). value_of p r w o.from) d.outputs) c.begin.ensures.settled
+      outs = of_seen d s v pins (λ p r w. c.show.new.outs ≡ map (λ (o : OutPin). value_of p r w o.from) d.outputs) c.begin.ensures
           (c.show.ensures ∙ ap (λ (os : List OutPin). map (λ (o : OutPin). value_in v o.from) os) c.as_slice-outputs.ensures.value);
     }

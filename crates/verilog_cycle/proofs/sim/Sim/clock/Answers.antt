@@ -1,4 +1,4 @@
-use Rattle.std.proofs.Common.{◌≡◌, ◌∙◌, length, drop, ap, rules}
+use Rattle.std.proofs.Common.{◌≡◌, ◌∙◌, ◌++◌, ℕ, List, length, take, drop, ap, rules}
 use Rattle.std.proofs.lemmas.List.{take_at}
 use Rattle.rtl_core.specs.Netlist.{netlist_of}
 use Rattle.rtl_core.specs.ClockStep.{stepped}
@@ -13,4 +13,4 @@ returns-clause-state c =
     let d = netlist_of inside.design in
     let count : length mems ≡ inside.mems.len = search rules in
     let whole = take_at mems (drop (length mems) inside.mems.items) inside.mems.len count in
-    ap (state_of c.clock_once.new.values) whole ∙ (c.clock_once.ensures.state ∙ (ap (λ m. stepped d (state_of inside.values m) (reduced_pins d c.args.pins.now)) c.deref_mut-2.ensures.value ∙ ap (λ (s : Simulation). stepped s.netlist s.state (reduced_pins s.netlist c.args.pins.now)) c.self.view_is))
+    ap (state_of c.clock_once.new.values) whole ∙ (c.clock_once.ensures.state ∙ (ap (λ m. stepped d (state_of inside.values m) (reduced_pins d c.args.pins.now)) c.deref_mut.ensures.value ∙ ap (λ (s : Simulation). stepped s.netlist s.state (reduced_pins s.netlist c.args.pins.now)) c.self.view_is))

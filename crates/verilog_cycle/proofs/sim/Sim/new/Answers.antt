@@ -1,15 +1,11 @@
-use Rattle.std.proofs.Common.{◌≡◌, ◌∙◌, ℕ, List, length, take, drop, sym, ap, subst, arith}
+use Rattle.std.proofs.Common.{◌≡◌, ◌∙◌, ℕ, List, length, map, take, drop, sym, ap, subst, arith}
 use Rattle.std.specs.List.{All}
 use Rattle.std.proofs.lemmas.Grind.{common_steps}
 use Rattle.rtl_core.specs.declared.design.Mem.{Mem}
 use Rattle.rtl_core.specs.Netlist.{netlist_of}
-use Rattle.rtl_core.specs.ClockStep.{widths, register_widths}
+use Rattle.rtl_core.specs.ClockStep.{State, widths, register_widths}
 use Rattle.rtl_core.specs.Valid.{IsBetween}
 use Rattle.verilog_cycle.specs.Simulation.{Simulation, modulo_widths, powered_words, powered_up}
-use Rattle.std.proofs.lemmas.List.{length-map, length-replicate}
-use Rattle.rtl_core.specs.declared.design.Reg.{Reg}
-use Rattle.rtl_core.proofs.Fits.{fit_length}
-use Rattle.verilog_cycle.proofs.Steps.{cells_new}
 use Rattle.verilog_cycle.proofs.Powered.{memory_bits, memory_depths, new_is_ready}
 use Rattle.verilog_cycle.proofs.sim.Sim.new.Goals as goal
 
@@ -28,10 +24,7 @@ invariant_of-result c =
     let e = c.in_ok-values.ensures in
     let regs : c.in_ok-regs.regs.items ≡ modulo_widths (register_widths d) (take (length d.regs) xs) = grind (arith, common_steps, c.in_ok-regs.ensures, c.deref.ensures.value, c.len-count.ensures) in
     let mems : c.in_ok-mems.mems.items ≡ powered_words d.mems (drop (length d.regs) xs) = grind (arith, common_steps, c.in_ok-mems.ensures, c.deref-2.ensures.value, c.len-count.ensures) in
-    let ready = new_is_ready d c.in_ok-values.values c.in_ok-mems.mems.items xs c.requires.valid c.requires.count e.0 (e.1 ∙ regs) e.2 e.3 mems in
-    let held : length c.in_ok-values.values.regs.items ≡ length d.regs = sym (fit_length (register_widths d) c.in_ok-values.values.regs.items ready.values.regs) ∙ length-map d.regs (λ (r : Reg). r.bits) in
-    let cells = cells_new c.in_ok-values.values c.in_ok-cells.cells.items (length d.inputs) (length d.regs) (length d.wires) (ap length e.0 ∙ length-replicate (length d.inputs) 0) held e.3 c.in_ok-cells.ensures.cells in
-    (ready, c.in_ok-program.ensures, cells)
+    new_is_ready d c.in_ok-values.values c.in_ok-mems.mems.items xs c.requires.valid c.requires.count e.0 (e.1 ∙ regs) e.2 e.3 mems
 
 pub returns : goal.returns
 returns c =

@@ -1,5 +1,0 @@
-pub mod TableLemmas
-pub mod SameTokens
-pub mod Lines
-pub mod Expanding
-pub mod Taking

@@ -1,4 +1,0 @@
-pub mod Tables
-pub mod Emitted
-pub mod Views
-pub mod Steps

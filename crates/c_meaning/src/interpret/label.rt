@@ -1,0 +1,62 @@
+//! The labels of a switch.
+
+use c_token::ctype::CType;
+use c_tree::expression::Expr;
+use c_tree::statement::Stmt;
+use c_value::constant::{Constant, constant_value};
+use c_value::convert::convert;
+
+/// The label to which a switch jumps: the default, or the case of this number in the type of the controlling expression.
+#[derive(Clone, Copy, Debug, PartialEq, Eq)]
+pub struct Wanted {
+    pub kind: CType,
+    pub number: i128,
+    pub default: bool,
+}
+
+fn is_label(kind: CType, number: i128, value: &Option<Expr>) -> bool {
+    let Some(e) = value else { return false };
+    match constant_value(e) {
+        Constant::Number { number: n, .. } => convert(kind, n) == number,
+        _ => false,
+    }
+}
+
+pub fn is_wanted(wanted: Wanted, value: &Option<Expr>) -> bool {
+    if wanted.default {
+        value.is_none()
+    } else {
+        is_label(wanted.kind, wanted.number, value)
+    }
+}
+
+/// Whether a statement has the label in front.
+pub fn has_label(wanted: Wanted, stmt: &Stmt) -> bool {
+    match stmt {
+        Stmt::Case { value, body, .. } => is_wanted(wanted, value) || has_label(wanted, body),
+        _ => false,
+    }
+}
+
+fn any_label(wanted: Wanted, body: &[Stmt]) -> bool {
+    for stmt in body {
+        if has_label(wanted, stmt) {
+            return true;
+        }
+    }
+    false
+}
+
+/// The label to which a switch jumps.
+pub fn target_label(kind: CType, number: i128, body: &[Stmt]) -> Wanted {
+    let case = Wanted {
+        kind,
+        number,
+        default: false,
+    };
+    Wanted {
+        kind,
+        number,
+        default: !any_label(case, body),
+    }
+}

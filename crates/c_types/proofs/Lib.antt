@@ -1,9 +1,0 @@
-pub mod Accepted
-pub mod Inits
-pub mod Least
-pub mod Lists
-pub mod Operands
-pub mod Rounds
-pub mod Scopes
-pub mod StatementTrees
-pub mod Trees
