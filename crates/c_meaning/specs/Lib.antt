@@ -2,6 +2,7 @@ pub mod Store
 pub mod Names
 pub mod Steps
 pub mod Inside
+pub mod Labels
 pub mod Points
 pub mod Expression
 pub mod Statement

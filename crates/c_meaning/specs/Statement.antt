@@ -15,6 +15,7 @@ use Rattle.c_meaning.specs.declared.value.Completion.{Completion}
 use Rattle.c_meaning.specs.declared.value.Completion.TheVariants as end
 use Rattle.c_meaning.specs.declared.value.Round.{Round}
 use Rattle.c_meaning.specs.declared.value.Round.TheVariants as round
+use Rattle.c_meaning.specs.declared.value.Value.{Value}
 use Rattle.c_meaning.specs.Store.{State, Environment, declared, all_declared, declared_by, declared_in, declared_first, entered, inside, left_block, lengths_in, forget, kind_of_object, write_element}
 use Rattle.c_meaning.specs.Steps.{Ran, goes, waits, then_, pass}
 use Rattle.c_meaning.specs.Expression.{Calls, expression_meaning}
@@ -189,6 +190,11 @@ abbrev pub converted_result : Option CType → ℤ → ℤ
 converted_result None n = n
 converted_result (Some kind) n = convert kind n
 
+-- the number that a return gives, in the type of the function's result
+abbrev pub returned_number : Calls → Option Tree → Environment → State → Ran (Option ℤ)
+returned_number c None env s = goes None s
+returned_number c (Some t) env s = then_ (expression_meaning c true t env s) (λ x s1. goes (Some (converted_result env.result x.number)) s1)
+
 abbrev mutual
   -- The flag says whether the statement is in a tail position.
   pub statement_meaning : Calls → Bool → StmtTree → Environment → State → Ran Completion
@@ -209,9 +215,7 @@ abbrev mutual
       loop at (all_declared env1 (declared_first init)) (test_first c test (statement_meaning c false body) step at (all_declared env1 (declared_first init))) s2)) env s
   statement_meaning c tail (tree.break_ at) env s = goes end.Broke s
   statement_meaning c tail (tree.continue_ at) env s = goes end.Continued s
-  statement_meaning c tail (tree.return_ None at) env s = goes (end.Returned None tail) s
-  statement_meaning c tail (tree.return_ (Some t) at) env s =
-      then_ (expression_meaning c true t env s) (λ x s1. goes (end.Returned (Some (converted_result env.result x.number)) tail) s1)
+  statement_meaning c tail (tree.return_ v at) env s = then_ (returned_number c v env s) (λ n s1. goes (end.Returned n tail) s1)
 
   pub else_meaning : Calls → Bool → ElseTree → Environment → State → Ran Completion
   else_meaning c tail tree.no_else env s = goes end.Normal s
@@ -240,3 +244,7 @@ abbrev mutual
   labelled_meaning c wanted (tree.case_ v body at) env s =
       if wanted v then arm at (statement_meaning c false body) env s else labelled_meaning c wanted body env s
   labelled_meaning c wanted _ env s = goes end.Normal s
+
+-- the branch of an `if` that its test chooses
+abbrev pub branch_meaning : Calls → Bool → Bool → Place → StmtTree → ElseTree → Environment → State → Ran Completion
+branch_meaning c tail holds at body other env s = if holds then arm at (statement_meaning c tail body) env s else else_meaning c tail other env s

@@ -5,10 +5,10 @@ ghost use Rattle.c_meaning.specs.Expression.{expression_meaning, numbers, argume
 ghost use Rattle.c_value.specs.Values.{common};
 ghost use Rattle.c_meaning.specs.Inside.{state_of, Goes, GoesTo, calls_of};
 
+use crate::interpret::{Context, Depth};
 use crate::interpret::function::call;
 use crate::interpret::operator::{assigned, bumped, operated, unary};
 use crate::interpret::tree::{acts, kind_of, result_kind};
-use crate::interpret::{Context, Depth};
 use crate::machine::Machine;
 use crate::names::Environment;
 use crate::value::{Argument, Stop, Value};
@@ -30,7 +30,9 @@ pub fn expression(
     e: &Expr,
     env: &Environment,
     m: &mut Machine,
-) -> Result<Value, Stop> {
+) -> Result<Value, Stop>
+    ensures { Goes (expression_meaning (calls_of cx.now depth.calls) used (tree_of e.now) env.now (state_of m.old)).outcome result (state_of m.new) }
+{
     let depth = depth.inner()?;
     match e {
         Expr::Number { value, kind, .. } => Ok(Value {
@@ -114,6 +116,7 @@ pub fn expression(
     }
 }
 
+#[tactic(auto, using(crate::proofs::Evaluating::evaluating))]
 /// The numbers of subscripts.
 #[cycle(run)]
 pub fn numbers(
@@ -122,7 +125,9 @@ pub fn numbers(
     subscripts: &[Expr],
     env: &Environment,
     m: &mut Machine,
-) -> Result<Vec<i128>, Stop> {
+) -> Result<Vec<i128>, Stop>
+    ensures { GoesTo (numbers (calls_of cx.now depth.calls) (trees_of subscripts.now) [] env.now (state_of m.old)).outcome result (state_of m.new) }
+{
     let depth = depth.inner()?;
     let mut all = Vec::new(cx.alloc);
     for subscript in subscripts {
@@ -132,6 +137,7 @@ pub fn numbers(
     Ok(all)
 }
 
+#[tactic(auto, using(crate::proofs::Evaluating::evaluating))]
 /// The arguments of a call.
 #[cycle(run)]
 fn arguments(
@@ -140,7 +146,9 @@ fn arguments(
     args: &[Expr],
     env: &Environment,
     m: &mut Machine,
-) -> Result<Vec<Argument>, Stop> {
+) -> Result<Vec<Argument>, Stop>
+    ensures { GoesTo (arguments (calls_of cx.now depth.calls) (trees_of args.now) [] env.now (state_of m.old)).outcome result (state_of m.new) }
+{
     let depth = depth.inner()?;
     let mut all = Vec::new(cx.alloc);
     for arg in args {
@@ -157,7 +165,9 @@ fn argument(
     arg: &Expr,
     env: &Environment,
     m: &mut Machine,
-) -> Result<Argument, Stop> {
+) -> Result<Argument, Stop>
+    ensures { Goes (argument_of (array_given env.now (state_of m.old) (tree_of arg.now)) (expression_meaning (calls_of cx.now depth.calls) true (tree_of arg.now) env.now) (state_of m.old)).outcome result (state_of m.new) }
+{
     let depth = depth.inner()?;
     match array_given(arg, env, m) {
         Some(object) => Ok(Argument::Array(object)),
@@ -174,11 +184,7 @@ fn array_given(arg: &Expr, env: &Environment, m: &Machine) -> Option<usize>
     match arg {
         Expr::Name { name, .. } => {
             let object = env.find(name.items());
-            if m.is_array(object) {
-                Some(object)
-            } else {
-                None
-            }
+            if m.is_array(object) { Some(object) } else { None }
         }
         _ => None,
     }
@@ -195,7 +201,9 @@ fn call_value(
     at: Place,
     env: &Environment,
     m: &mut Machine,
-) -> Result<Value, Stop> {
+) -> Result<Value, Stop>
+    ensures { Goes (call_value (calls_of cx.now depth.calls) used callee.now given.now at env.now (state_of m.old)).outcome result (state_of m.new) }
+{
     let depth = depth.inner()?;
     let mut path = Vec::from_slice(cx.alloc, env.path())?;
     path.push(at)?;
@@ -222,6 +230,7 @@ fn pass_if(
     Ok(())
 }
 
+#[tactic(auto, using(crate::proofs::Evaluating::joining))]
 /// An operator behind its first operand.
 #[cycle(run)]
 fn joined(
@@ -233,7 +242,9 @@ fn joined(
     at: Place,
     env: &Environment,
     m: &mut Machine,
-) -> Result<Value, Stop> {
+) -> Result<Value, Stop>
+    ensures { Goes (joined op x (acts (tree_of right.now)) at env.now (expression_meaning (calls_of cx.now depth.calls) true (tree_of right.now) env.now) (state_of m.old)).outcome result (state_of m.new) }
+{
     let depth = depth.inner()?;
     match op {
         Binary::LogAnd if x.number == 0 => not_reached(cx, acts(right), at, env, false, m),
@@ -255,7 +266,9 @@ fn reached(
     at: Place,
     env: &Environment,
     m: &mut Machine,
-) -> Result<Value, Stop> {
+) -> Result<Value, Stop>
+    ensures { Goes (reached (acts (tree_of right.now)) at env.now (expression_meaning (calls_of cx.now depth.calls) true (tree_of right.now) env.now) (state_of m.old)).outcome result (state_of m.new) }
+{
     let depth = depth.inner()?;
     let fork = acts(right);
     pass_if(cx, fork, PointKind::Arm, at, env, m)?;
@@ -319,7 +332,9 @@ fn chosen(
     operand: &Expr,
     env: &Environment,
     m: &mut Machine,
-) -> Result<Value, Stop> {
+) -> Result<Value, Stop>
+    ensures { Goes (chosen fork arm at kind env.now (expression_meaning (calls_of cx.now depth.calls) true (tree_of operand.now) env.now) (state_of m.old)).outcome result (state_of m.new) }
+{
     let depth = depth.inner()?;
     pass_if(cx, fork, PointKind::Arm, arm, env, m)?;
     let y = expression(cx, depth, true, operand, env, m)?;

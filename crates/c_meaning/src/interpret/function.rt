@@ -1,7 +1,6 @@
 //! Calls.
-ghost use Rattle.c_tree.specs.View.{function_of};
-ghost use Rattle.c_meaning.specs.Run.{function_left};
-ghost use Rattle.c_meaning.specs.Inside.{state_of, Goes};
+ghost use Rattle.std.specs.Prelude.{◌≡◌, map};
+ghost use Rattle.c_meaning.specs.Inside.{state_of, Goes, calls_of};
 
 use crate::interpret::statement::block;
 use crate::interpret::tree::function_named;
@@ -28,7 +27,9 @@ pub fn call(
     given: &[Argument],
     path: Vec<Place>,
     m: &mut Machine,
-) -> Result<Option<i128>, Stop> {
+) -> Result<Option<i128>, Stop>
+    ensures { Goes ((calls_of cx.now depth.calls).call used callee.now given.now path.items (state_of m.old)).outcome result (state_of m.new) }
+{
     let depth = depth.inner()?;
     let Some(calls) = depth.calls.checked_sub(1) else {
         return Err(Stop::Waiting);
@@ -53,7 +54,9 @@ pub fn function(
     given: &[Argument],
     path: Vec<Place>,
     m: &mut Machine,
-) -> Result<Option<i128>, Stop> {
+) -> Result<Option<i128>, Stop>
+    ensures { Goes (function_meaning (calls_of cx.now depth.calls) used (function_of f.now) given.now path.items cx.now.file.now (state_of m.old)).outcome result (state_of m.new) }
+{
     let depth = depth.inner()?;
     let count = m.objects.len();
     let mut env = Environment::new(cx.alloc, cx.file, path, f.result);

@@ -1,4 +1,9 @@
 //! The labels of a switch.
+ghost use Rattle.std.specs.Prelude.{◌≡◌};
+ghost use Rattle.std.specs.Option.{option_map};
+ghost use Rattle.c_tree.specs.View.{tree_of, stmt_of, stmts_of};
+ghost use Rattle.c_meaning.specs.Statement.{is_label, has_label, any_label, target_label};
+ghost use Rattle.c_meaning.specs.Labels.{wanted_by};
 
 use c_token::ctype::CType;
 use c_tree::expression::Expr;
@@ -14,7 +19,9 @@ pub struct Wanted {
     pub default: bool,
 }
 
-fn is_label(kind: CType, number: i128, value: &Option<Expr>) -> bool {
+fn is_label(kind: CType, number: i128, value: &Option<Expr>) -> bool
+    ensures { result ≡ is_label kind number (option_map tree_of value.now) }
+{
     let Some(e) = value else { return false };
     match constant_value(e) {
         Constant::Number { number: n, .. } => convert(kind, n) == number,
@@ -22,7 +29,9 @@ fn is_label(kind: CType, number: i128, value: &Option<Expr>) -> bool {
     }
 }
 
-pub fn is_wanted(wanted: Wanted, value: &Option<Expr>) -> bool {
+pub fn is_wanted(wanted: Wanted, value: &Option<Expr>) -> bool
+    ensures { result ≡ wanted_by wanted (option_map tree_of value.now) }
+{
     if wanted.default {
         value.is_none()
     } else {
@@ -31,14 +40,19 @@ pub fn is_wanted(wanted: Wanted, value: &Option<Expr>) -> bool {
 }
 
 /// Whether a statement has the label in front.
-pub fn has_label(wanted: Wanted, stmt: &Stmt) -> bool {
+pub fn has_label(wanted: Wanted, stmt: &Stmt) -> bool
+    ensures { result ≡ has_label (wanted_by wanted) (stmt_of stmt.now) }
+{
     match stmt {
         Stmt::Case { value, body, .. } => is_wanted(wanted, value) || has_label(wanted, body),
         _ => false,
     }
 }
 
-fn any_label(wanted: Wanted, body: &[Stmt]) -> bool {
+#[tactic(auto, using(crate::proofs::Labelling::labelling))]
+fn any_label(wanted: Wanted, body: &[Stmt]) -> bool
+    ensures { result ≡ any_label (wanted_by wanted) (stmts_of body.now) }
+{
     for stmt in body {
         if has_label(wanted, stmt) {
             return true;
@@ -48,7 +62,9 @@ fn any_label(wanted: Wanted, body: &[Stmt]) -> bool {
 }
 
 /// The label to which a switch jumps.
-pub fn target_label(kind: CType, number: i128, body: &[Stmt]) -> Wanted {
+pub fn target_label(kind: CType, number: i128, body: &[Stmt]) -> Wanted
+    ensures { wanted_by result ≡ target_label kind number (stmts_of body.now) }
+{
     let case = Wanted {
         kind,
         number,

@@ -1,6 +1,10 @@
 //! The lengths of arrays.
-ghost use Rattle.std.specs.Prelude.{◌≡◌, ◌≤◌, IfOk, IfSome, IsTrue};
+ghost use Rattle.std.specs.Prelude.{◌≡◌, ◌≤◌, IfOk, IfSome, IsTrue, map};
+ghost use Rattle.std.specs.Option.{option_map};
 ghost use Rattle.hls_base.specs.ArrayAddress.{element_count};
+ghost use Rattle.c_tree.specs.View.{object_of, tree_of, init_of};
+ghost use Rattle.c_checked.specs.Lengths.{usable, written_length, first_length, lengths_of, all_usable};
+ghost use Rattle.c_meaning.specs.Store.{lengths_in};
 
 use c_tree::expression::Expr;
 use c_tree::object::{Init, Object};
@@ -9,6 +13,7 @@ use std::alloc::{AllocError, Global};
 
 /// A length that is written, if it is 1 to 65,536.
 fn written_length(length: &Option<Expr>) -> Option<usize>
+    ensures value { result ≡ usable (written_length (option_map tree_of length.now)) }
     ensures bound { IfSome result (λ n. n ≤ 65536) }
 {
     let Some(e) = length else { return None };
@@ -20,6 +25,7 @@ fn written_length(length: &Option<Expr>) -> Option<usize>
 
 /// The first length, which may be left out where the initialiser tells it.
 fn first_length(init: &Option<Init>, length: &Option<Expr>) -> Option<usize>
+    ensures value { result ≡ usable (first_length (option_map init_of init.now) (option_map tree_of length.now)) }
     ensures bound { IfSome result (λ n. n ≤ 65536) }
 {
     match (init, length) {
@@ -59,6 +65,7 @@ fn count_within_limits(lengths: &[usize]) -> Option<usize>
 
 /// The lengths of an object's dimensions.
 pub fn lengths(alloc: Global, o: &Object) -> Result<Vec<usize>, AllocError>
+    ensures value { IfOk result (λ v. v.items ≡ lengths_in (object_of o.now)) }
     ensures bound { IfOk result (λ v. element_count v.items ≤ 65536) }
 {
     let mut all = Vec::new(alloc);

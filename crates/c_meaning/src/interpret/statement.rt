@@ -1,14 +1,20 @@
 //! Statements.
-ghost use Rattle.std.specs.Prelude.{◌≡◌};
-ghost use Rattle.c_meaning.specs.Statement.{round_of, behind_if, behind_breakable, behind_loop};
-ghost use Rattle.c_meaning.specs.Inside.{state_of, Goes};
+ghost use Rattle.std.specs.Prelude.{◌≡◌, true, false, map, Some, OnOk, IfOk};
+ghost use Rattle.std.specs.Option.{option_map, option_copied};
+ghost use Rattle.c_tree.specs.View.{tree_of, action_of, object_of, init_of, inits_of, stmt_of, stmts_of, else_of, else_part};
+ghost use Rattle.c_meaning.specs.Store.{all_declared, declared_by, declared_in, lengths_in};
+ghost use Rattle.c_meaning.specs.Expression.{expression_meaning};
+ghost use Rattle.c_meaning.specs.Statement.{statement_meaning, else_meaning, items_meaning, jump_meaning, labelled_meaning, act_all, declare_all, initialise, initialise_rows, in_block, arm, behind_if, behind_breakable, behind_loop, branch_meaning, returned_number, action_tree, declare_object, repeat, test_first, test_last, run_body, run_step, round_of, has_label, any_label, target_label};
+ghost use Rattle.hls_base.specs.ArrayAddress.{element_count};
+ghost use Rattle.c_meaning.specs.Inside.{state_of, Goes, calls_of, Extends};
+ghost use Rattle.c_meaning.specs.Labels.{wanted_by};
 
+use crate::interpret::{Context, Depth};
 use crate::interpret::block::{declare_names, enter_block, enter_statement};
 use crate::interpret::expression::{expression, numbers};
 use crate::interpret::label::{Wanted, has_label, is_wanted, target_label};
-use crate::interpret::lengths::lengths;
 use crate::interpret::operator::{assigned, bumped};
-use crate::interpret::{Context, Depth};
+use crate::interpret::lengths::lengths;
 use crate::machine::Machine;
 use crate::names::Environment;
 use crate::value::{Completion, Round, Stop, Value};
@@ -30,7 +36,10 @@ pub fn statement(
     stmt: &Stmt,
     env: &mut Environment,
     m: &mut Machine,
-) -> Result<Completion, Stop> {
+) -> Result<Completion, Stop>
+    ensures goes { Goes (statement_meaning (calls_of cx.now depth.calls) tail (stmt_of stmt.now) env.old (state_of m.old)).outcome result (state_of m.new) }
+    ensures names { OnOk result (env.new ≡ all_declared env.old (declared_by (stmt_of stmt.now))) }
+{
     let depth = depth.inner()?;
     match stmt {
         Stmt::Block(body) => block(cx, depth, tail, body, env, m),
@@ -101,7 +110,10 @@ fn nested(
     stmt: &Stmt,
     env: &mut Environment,
     m: &mut Machine,
-) -> Result<Completion, Stop> {
+) -> Result<Completion, Stop>
+    ensures goes { Goes (statement_meaning (calls_of cx.now depth.calls) tail (stmt_of stmt.now) env.old (state_of m.old)).outcome result (state_of m.new) }
+    ensures names { OnOk result (env.new ≡ env.old) }
+{
     let depth = depth.inner()?;
     let mark = env.mark();
     let r = statement(cx, depth, tail, stmt, env, m)?;
@@ -119,7 +131,10 @@ fn arm(
     stmt: &Stmt,
     env: &mut Environment,
     m: &mut Machine,
-) -> Result<Completion, Stop> {
+) -> Result<Completion, Stop>
+    ensures goes { Goes (arm at (statement_meaning (calls_of cx.now depth.calls) tail (stmt_of stmt.now)) env.old (state_of m.old)).outcome result (state_of m.new) }
+    ensures names { OnOk result (env.new ≡ env.old) }
+{
     let depth = depth.inner()?;
     m.pass(cx.alloc, PointKind::Arm, at, env)?;
     nested(cx, depth, tail, stmt, env, m)
@@ -134,7 +149,10 @@ fn else_arm(
     no: &Option<Else>,
     env: &mut Environment,
     m: &mut Machine,
-) -> Result<Completion, Stop> {
+) -> Result<Completion, Stop>
+    ensures goes { Goes (else_meaning (calls_of cx.now depth.calls) tail (else_part (option_map else_of no.now)) env.old (state_of m.old)).outcome result (state_of m.new) }
+    ensures names { OnOk result (env.new ≡ env.old) }
+{
     let depth = depth.inner()?;
     match no {
         None => Ok(Completion::Normal),
@@ -154,7 +172,10 @@ fn branch(
     no: &Option<Else>,
     env: &mut Environment,
     m: &mut Machine,
-) -> Result<Completion, Stop> {
+) -> Result<Completion, Stop>
+    ensures goes { Goes (branch_meaning (calls_of cx.now depth.calls) tail holds at (stmt_of yes.now) (else_part (option_map else_of no.now)) env.old (state_of m.old)).outcome result (state_of m.new) }
+    ensures names { OnOk result (env.new ≡ env.old) }
+{
     let depth = depth.inner()?;
     if holds {
         arm(cx, depth, tail, at, yes, env, m)
@@ -227,7 +248,10 @@ pub fn block(
     body: &[Stmt],
     env: &mut Environment,
     m: &mut Machine,
-) -> Result<Completion, Stop> {
+) -> Result<Completion, Stop>
+    ensures goes { Goes (in_block (declared_in (stmts_of body.now)) (items_meaning (calls_of cx.now depth.calls) tail (stmts_of body.now)) env.old (state_of m.old)).outcome result (state_of m.new) }
+    ensures names { OnOk result (env.new ≡ env.old) }
+{
     let depth = depth.inner()?;
     let count = m.objects.len();
     let mark = env.mark();
@@ -248,7 +272,10 @@ fn switch_block(
     body: &[Stmt],
     env: &mut Environment,
     m: &mut Machine,
-) -> Result<Completion, Stop> {
+) -> Result<Completion, Stop>
+    ensures goes { Goes (in_block (declared_in (stmts_of body.now)) (jump_meaning (calls_of cx.now depth.calls) (wanted_by wanted) (stmts_of body.now)) env.old (state_of m.old)).outcome result (state_of m.new) }
+    ensures names { OnOk result (env.new ≡ env.old) }
+{
     let depth = depth.inner()?;
     let count = m.objects.len();
     let mark = env.mark();
@@ -269,7 +296,10 @@ fn items(
     body: &[Stmt],
     env: &mut Environment,
     m: &mut Machine,
-) -> Result<Completion, Stop> {
+) -> Result<Completion, Stop>
+    ensures goes { Goes (items_meaning (calls_of cx.now depth.calls) tail (stmts_of body.now) env.old (state_of m.old)).outcome result (state_of m.new) }
+    ensures names { OnOk result (Extends env.old env.new) }
+{
     let depth = depth.inner()?;
     for i in 0..body.len() {
         let last = i + 1 == body.len();
@@ -290,7 +320,10 @@ fn jump(
     body: &[Stmt],
     env: &mut Environment,
     m: &mut Machine,
-) -> Result<Completion, Stop> {
+) -> Result<Completion, Stop>
+    ensures goes { Goes (jump_meaning (calls_of cx.now depth.calls) (wanted_by wanted) (stmts_of body.now) env.old (state_of m.old)).outcome result (state_of m.new) }
+    ensures names { OnOk result (Extends env.old env.new) }
+{
     let depth = depth.inner()?;
     for i in 0..body.len() {
         if has_label(wanted, &body[i]) {
@@ -314,7 +347,10 @@ fn labelled(
     stmt: &Stmt,
     env: &mut Environment,
     m: &mut Machine,
-) -> Result<Completion, Stop> {
+) -> Result<Completion, Stop>
+    ensures goes { Goes (labelled_meaning (calls_of cx.now depth.calls) (wanted_by wanted) (stmt_of stmt.now) env.old (state_of m.old)).outcome result (state_of m.new) }
+    ensures names { OnOk result (env.new ≡ env.old) }
+{
     let depth = depth.inner()?;
     match stmt {
         Stmt::Case { value, body, at } => {
@@ -336,7 +372,9 @@ fn returned(
     value: &Option<Expr>,
     env: &Environment,
     m: &mut Machine,
-) -> Result<Option<i128>, Stop> {
+) -> Result<Option<i128>, Stop>
+    ensures { Goes (returned_number (calls_of cx.now depth.calls) (option_map tree_of value.now) env.now (state_of m.old)).outcome result (state_of m.new) }
+{
     let depth = depth.inner()?;
     match value {
         None => Ok(None),
@@ -358,7 +396,9 @@ fn act_all(
     actions: &[Action],
     env: &Environment,
     m: &mut Machine,
-) -> Result<(), Stop> {
+) -> Result<(), Stop>
+    ensures { Goes (act_all (calls_of cx.now depth.calls) (map action_of actions.now) env.now (state_of m.old)).outcome result (state_of m.new) }
+{
     let depth = depth.inner()?;
     for action in actions {
         act(cx, depth, action, env, m)?;
@@ -373,7 +413,9 @@ fn act(
     action: &Action,
     env: &Environment,
     m: &mut Machine,
-) -> Result<Value, Stop> {
+) -> Result<Value, Stop>
+    ensures { Goes (expression_meaning (calls_of cx.now depth.calls) false (action_tree (action_of action.now)) env.now (state_of m.old)).outcome result (state_of m.new) }
+{
     let depth = depth.inner()?;
     match action {
         Action::Assign {
@@ -404,7 +446,10 @@ fn declare_all(
     objects: &[Object],
     env: &mut Environment,
     m: &mut Machine,
-) -> Result<(), Stop> {
+) -> Result<(), Stop>
+    ensures goes { Goes (declare_all (calls_of cx.now depth.calls) (map object_of objects.now) env.old (state_of m.old)).outcome result (state_of m.new) }
+    ensures names { OnOk result (env.new ≡ all_declared env.old (map object_of objects.now)) }
+{
     let depth = depth.inner()?;
     for o in objects {
         let object = env.next();
@@ -422,7 +467,9 @@ fn declare(
     o: &Object,
     env: &Environment,
     m: &mut Machine,
-) -> Result<(), Stop> {
+) -> Result<(), Stop>
+    ensures { Goes (declare_object (calls_of cx.now depth.calls) object (lengths_in (object_of o.now)) (option_map init_of o.now.init) env.now (state_of m.old)).outcome result (state_of m.new) }
+{
     let depth = depth.inner()?;
     match &o.init {
         None => {
@@ -447,7 +494,10 @@ fn initialise(
     element: usize,
     env: &Environment,
     m: &mut Machine,
-) -> Result<(), Stop> {
+) -> Result<(), Stop>
+    requires { element + element_count lengths.now ≤ 65536 }
+    ensures { Goes (initialise (calls_of cx.now depth.calls) object lengths.now (init_of init.now) element env.now (state_of m.old)).outcome result (state_of m.new) }
+{
     let depth = depth.inner()?;
     match init {
         Init::Single(value) => {
@@ -475,7 +525,10 @@ fn initialise_rows(
     element: usize,
     env: &Environment,
     m: &mut Machine,
-) -> Result<(), Stop> {
+) -> Result<(), Stop>
+    requires { element + len * element_count inner.now ≤ 65536 }
+    ensures { Goes (initialise_rows (calls_of cx.now depth.calls) object len inner.now (inits_of inits.now) element env.now (state_of m.old)).outcome result (state_of m.new) }
+{
     let depth = depth.inner()?;
     let count = row_count(inner);
     let mut rows = len;
@@ -503,7 +556,10 @@ fn rounds_first(
     at: Place,
     env: &mut Environment,
     m: &mut Machine,
-) -> Result<Round, Stop> {
+) -> Result<Round, Stop>
+    ensures goes { Goes (repeat m.old.meter.left (test_first (calls_of cx.now depth.calls) (option_map tree_of (option_copied test)) (statement_meaning (calls_of cx.now depth.calls) false (stmt_of body.now)) (map action_of step.now) at env.old) (state_of m.old)).outcome result (state_of m.new) }
+    ensures names { OnOk result (env.new ≡ env.old) }
+{
     let depth = depth.inner()?;
     for _ in 0..m.meter.left {
         let r = round_first(cx, depth, test, body, step, at, env, m)?;
@@ -524,7 +580,10 @@ fn round_first(
     at: Place,
     env: &mut Environment,
     m: &mut Machine,
-) -> Result<Round, Stop> {
+) -> Result<Round, Stop>
+    ensures goes { Goes (test_first (calls_of cx.now depth.calls) (option_map tree_of (option_copied test)) (statement_meaning (calls_of cx.now depth.calls) false (stmt_of body.now)) (map action_of step.now) at env.old (state_of m.old)).outcome result (state_of m.new) }
+    ensures names { OnOk result (env.new ≡ env.old) }
+{
     let depth = depth.inner()?;
     let holds = tested(cx, depth, test, at, env, m)?;
     if !holds {
@@ -546,7 +605,9 @@ fn tested(
     at: Place,
     env: &Environment,
     m: &mut Machine,
-) -> Result<bool, Stop> {
+) -> Result<bool, Stop>
+    ensures { Goes (tested (calls_of cx.now depth.calls) (option_map tree_of (option_copied test)) at env.now (state_of m.old)).outcome result (state_of m.new) }
+{
     let depth = depth.inner()?;
     m.pass(cx.alloc, PointKind::Test, at, env)?;
     match test {
@@ -566,7 +627,10 @@ fn run_body(
     at: Place,
     env: &mut Environment,
     m: &mut Machine,
-) -> Result<Round, Stop> {
+) -> Result<Round, Stop>
+    ensures goes { Goes (run_body (statement_meaning (calls_of cx.now depth.calls) false (stmt_of body.now)) at env.old (state_of m.old)).outcome result (state_of m.new) }
+    ensures names { OnOk result (env.new ≡ env.old) }
+{
     let depth = depth.inner()?;
     m.pass(cx.alloc, PointKind::Body, at, env)?;
     let r = nested(cx, depth, false, body, env, m)?;
@@ -592,7 +656,9 @@ fn run_step(
     at: Place,
     env: &Environment,
     m: &mut Machine,
-) -> Result<Round, Stop> {
+) -> Result<Round, Stop>
+    ensures { Goes (run_step (calls_of cx.now depth.calls) (map action_of step.now) at env.now (state_of m.old)).outcome result (state_of m.new) }
+{
     let depth = depth.inner()?;
     if step.is_empty() {
         return Ok(Round::Again);
@@ -612,7 +678,10 @@ fn rounds_last(
     at: Place,
     env: &mut Environment,
     m: &mut Machine,
-) -> Result<Round, Stop> {
+) -> Result<Round, Stop>
+    ensures goes { Goes (repeat m.old.meter.left (test_last (calls_of cx.now depth.calls) (tree_of test.now) (statement_meaning (calls_of cx.now depth.calls) false (stmt_of body.now)) at env.old) (state_of m.old)).outcome result (state_of m.new) }
+    ensures names { OnOk result (env.new ≡ env.old) }
+{
     let depth = depth.inner()?;
     for _ in 0..m.meter.left {
         let r = round_last(cx, depth, test, body, at, env, m)?;
@@ -632,7 +701,10 @@ fn round_last(
     at: Place,
     env: &mut Environment,
     m: &mut Machine,
-) -> Result<Round, Stop> {
+) -> Result<Round, Stop>
+    ensures goes { Goes (test_last (calls_of cx.now depth.calls) (tree_of test.now) (statement_meaning (calls_of cx.now depth.calls) false (stmt_of body.now)) at env.old (state_of m.old)).outcome result (state_of m.new) }
+    ensures names { OnOk result (env.new ≡ env.old) }
+{
     let depth = depth.inner()?;
     let r = run_body(cx, depth, body, at, env, m)?;
     if r != Round::Again {
