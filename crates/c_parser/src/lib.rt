@@ -7,8 +7,7 @@ ghost use Rattle.c_tree.specs.Terminals.{terminals};
 ghost use Rattle.c_tree.specs.Tree.{ProgramTree};
 ghost use Rattle.c_tree.specs.View.{program_of};
 ghost use Rattle.c_tree.specs.Grammar.{DerivesProgram};
-ghost use Rattle.c_tree.specs.Refusal.{IsProgram};
-ghost use Rattle.c_syntax.specs.Faults.{IsFoundFault};
+ghost use Rattle.c_tree.specs.Refusal.{IsFaultOf, IsProgram};
 
 mod action;
 mod cursor;
@@ -37,7 +36,7 @@ use std::alloc::Global;
 pub fn parse(alloc: Global, tokens: &[Token], end: Place) -> Result<Program, Fail>
     ensures derived { IfOk result (λ p. IsProgram (terminals tokens.now) end (program_of p)) }
     ensures only { IfOk result (λ p. (other : ProgramTree) → DerivesProgram (terminals tokens.now) end other → other ≡ program_of p) }
-    ensures refused { IfRefused result (IsFoundFault (terminals tokens.now) end) }
+    ensures refused { IfRefused result (IsFaultOf (terminals tokens.now) end) }
 {
     // What has no fault nests at most 64 deep, so that the builder may recurse.
     find_fault(alloc, tokens, end)?;

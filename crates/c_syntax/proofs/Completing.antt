@@ -12,17 +12,17 @@ use Rattle.c_tree.specs.Terminals.{Terminal, terminal, sign, word, is_keyword, p
 use Rattle.c_tree.specs.Tree.{TargetTree, Trees, ActionTree}
 use Rattle.c_tree.specs.Grammar as g
 use Rattle.c_tree.specs.Grammar.{Derives, DerivesTarget, DerivesSubscripts, DerivesArguments, DerivesList, DerivesChange}
-use Rattle.c_tree.specs.Limits.{Mark, plain, closing, inside, pair, whole, marks, target_marks, subscript_marks}
+use Rattle.c_tree.specs.Limits.{Mark, plain, closing, inside, held, pair, whole, marks, target_marks, subscript_marks}
 use Rattle.c_syntax.specs.declared.goal.Goal.{Goal}
 use Rattle.c_syntax.specs.declared.goal.Goal.TheVariants as G
 use Rattle.c_syntax.specs.declared.goal.Spot.{Spot}
 use Rattle.c_syntax.specs.declared.sort.Sort.{Sort}
 use Rattle.c_syntax.specs.declared.sort.Sort.TheVariants as o
 use Rattle.c_syntax.specs.Sorts.{sort_of, sort_of_sign}
-use Rattle.c_syntax.specs.Steps.{deeper, step_of, is_optional, taken_or, next, all_optional}
+use Rattle.c_syntax.specs.Steps.{deeper, opened, step_of, is_optional, taken_or, next, all_optional}
 use Rattle.c_syntax.proofs.Seen.{name_sort}
-use Rattle.c_syntax.specs.Notes.{Noted}
-use Rattle.c_syntax.proofs.Marking.{run, going, place, count_after, noted_at, place-inside, count-inside, place-whole, count-whole, place-pair, count-pair}
+use Rattle.c_syntax.proofs.Noting.{Noted, hold_from}
+use Rattle.c_syntax.proofs.Marking.{run, going, place, count_at, count_after, noted_at, place-append, place-inside, count-inside, place-whole, count-whole, place-closing, place-pair, count-pair, SomeMarks, opened_at, place_opened, place_opened-append, held_from, opened_held}
 
 -- ---- sorts of signs
 
@@ -269,48 +269,94 @@ bracket (bumping first) named depth at ts goals count noted = refl
 
 -- ---- claims
 
--- with which goal an operand begins
+-- with which goal an operand begins, and how many constructs are open before an action
 pub data Mode : Type 0 where
   bare : Mode
   assigning : Mode
-  acting : Mode
+  acting : (before : ℕ) → Mode
 
 abbrev pub start : Mode → ℕ → List Goal → List Goal
 start bare depth goals = G.Operand depth ∷ goals
 start assigning depth goals = G.Assign depth ∷ goals
-start acting depth goals = G.Action depth ∷ goals
+start (acting before) depth goals = G.Action depth ∷ goals
 
 abbrev pub finish : Mode → ℕ → ℕ → List Goal → List Goal
 finish bare depth first goals = goals
 finish assigning depth first goals = G.Operators depth first ∷ goals
-finish acting depth first goals = G.Operators depth first ∷ goals
+finish (acting before) depth first goals = G.Operators depth first ∷ goals
 
 abbrev pub begin : Mode → ℕ → ℕ → List Goal → List Goal
 begin bare first depth goals = G.Operand depth ∷ G.Operators depth first ∷ goals
 begin assigning first depth goals = G.Assign depth ∷ goals
-begin acting first depth goals = G.Action depth ∷ goals
+begin (acting before) first depth goals = G.Action depth ∷ goals
 
 abbrev pub first_of : Mode → ℕ → ℕ → ℕ
 first_of bare first index = first
 first_of assigning first index = index
-first_of acting first index = index
+first_of (acting before) first index = index
 
 -- an action that is no change
 abbrev pub Proper : Mode → List Terminal → List Terminal → Type 0
-Proper acting ts us = (goes_on us ≡ true) ⊎ ((action : ActionTree) → DerivesChange ts action → ⊥)
+Proper (acting before) ts us = (goes_on us ≡ true) ⊎ ((action : ActionTree) → DerivesChange ts action → ⊥)
 Proper _ ts us = Unit {0}
+
+-- the first token is noted with so many constructs open before it
+abbrev pub run_opened : ℕ → List Terminal → List Goal → ℕ → List Noted → Option (List Noted)
+run_opened before [] goals count noted = run [] goals count noted
+run_opened before (t ∷ ts) goals count noted = going (opened before (next goals (spot_at noted count) (sort_of t.kind))) noted (run ts)
+
+pub run_opened_as : (before : ℕ) (t : Terminal) (sort : Sort) (ts : List Terminal) (goals : List Goal) (count : ℕ) (noted : List Noted) → sort_of t.kind ≡ sort
+    → run_opened before (t ∷ ts) goals count noted ≡ going (opened before (next goals (spot_at noted count) sort)) noted (run ts)
+run_opened_as before t sort ts goals count noted e = ap (λ x. going (opened before (next goals (spot_at noted count) x)) noted (run ts)) e
+
+abbrev pub run_by : Mode → List Terminal → List Goal → ℕ → List Noted → Option (List Noted)
+run_by bare ts goals count noted = run ts goals count noted
+run_by assigning ts goals count noted = run ts goals count noted
+run_by (acting before) ts goals count noted = run_opened before ts goals count noted
+
+abbrev pub note_by : Mode → ℕ → ℕ → Mark → Noted
+note_by bare depth count x = noted_at depth count x
+note_by assigning depth count x = noted_at depth count x
+note_by (acting before) depth count x = opened_at before depth count x
+
+abbrev pub place_by : Mode → ℕ → ℕ → List Mark → List Noted → List Noted
+place_by bare depth count ms noted = place depth count ms noted
+place_by assigning depth count ms noted = place depth count ms noted
+place_by (acting before) depth count ms noted = place_opened before depth count ms noted
+
+pub place_by-first : (m : Mode) (depth count : ℕ) (x : Mark) (ms : List Mark) (noted : List Noted) → place_by m depth count (x ∷ ms) noted ≡ place depth (count_at count x.counts) ms (note_by m depth count x ∷ noted)
+place_by-first bare depth count x ms noted = refl
+place_by-first assigning depth count x ms noted = refl
+place_by-first (acting before) depth count x ms noted = refl
+
+pub place_by-append : (m : Mode) (depth count : ℕ) (ms ns : List Mark) (noted : List Noted) → SomeMarks ms
+    → place_by m depth count (ms ++ ns) noted ≡ place depth (count_after count ms) ns (place_by m depth count ms noted)
+place_by-append bare depth count ms ns noted s = place-append depth count ms ns noted
+place_by-append assigning depth count ms ns noted s = place-append depth count ms ns noted
+place_by-append (acting before) depth count ms ns noted s = place_opened-append before depth count ms ns noted s
+
+pub place_by-pair : (m : Mode) (depth count : ℕ) (ms rest : List Mark) (noted : List Noted) → count_after count ms ≡ count
+    → place_by m depth count (pair ms rest) noted ≡ place depth count rest (noted_at depth count closing ∷ place (deeper depth) count ms (note_by m depth count plain ∷ noted))
+place_by-pair m depth count ms rest noted e =
+    place_by-first m depth count plain (inside ms ++ closing ∷ rest) noted ∙ place-closing depth count ms rest (note_by m depth count plain ∷ noted) e
+
+pub held_by : (m : Mode) (depth count : ℕ) (x : Mark) (ms : List Mark) (noted : List Noted)
+    → hold_from (length noted) (place_by m depth count (x ∷ ms) noted) ≡ place_by m depth count (held (x ∷ ms)) noted
+held_by bare depth count x ms noted = held_from depth count x ms noted
+held_by assigning depth count x ms noted = held_from depth count x ms noted
+held_by (acting before) depth count x ms noted = opened_held before depth count x ms noted
 
 abbrev pub ReadsOperand : List Terminal → List Mark → Type 0
 ReadsOperand ts ms = (m : Mode) (depth count : ℕ) (goals : List Goal) (noted : List Noted) (us : List Terminal) → at_first ends_operand us ≡ true → Proper m ts us
-    → run (ts ++ us) (start m depth goals) count noted ≡ run us (finish m depth (length noted) goals) (count_after count ms) (place depth count ms noted)
+    → run_by m (ts ++ us) (start m depth goals) count noted ≡ run us (finish m depth (length noted) goals) (count_after count ms) (place_by m depth count ms noted)
 
 abbrev pub ReadsBinary : List Terminal → List Mark → Type 0
 ReadsBinary ts ms = (m : Mode) (first depth count : ℕ) (goals : List Goal) (noted : List Noted) (us : List Terminal) → at_first ends_operand us ≡ true → Proper m ts us
-    → run (ts ++ us) (begin m first depth goals) count noted ≡ run us (G.Operators depth (first_of m first (length noted)) ∷ goals) (count_after count ms) (place depth count ms noted)
+    → run_by m (ts ++ us) (begin m first depth goals) count noted ≡ run us (G.Operators depth (first_of m first (length noted)) ∷ goals) (count_after count ms) (place_by m depth count ms noted)
 
 abbrev pub ReadsChoice : List Terminal → List Mark → Type 0
 ReadsChoice ts ms = (m : Mode) (depth count : ℕ) (goals : List Goal) (noted : List Noted) (us : List Terminal) → at_first ends_choice us ≡ true → Proper m ts us
-    → run (ts ++ us) (begin m (length noted) depth goals) count noted ≡ run us goals (count_after count ms) (place depth count ms noted)
+    → run_by m (ts ++ us) (begin m (length noted) depth goals) count noted ≡ run us goals (count_after count ms) (place_by m depth count ms noted)
 
 abbrev pub ReadsAssign : List Terminal → List Mark → Type 0
 ReadsAssign ts ms = (depth count : ℕ) (goals : List Goal) (noted : List Noted) (us : List Terminal) → at_first ends_choice us ≡ true
@@ -331,12 +377,12 @@ pub record Claims (n : ℕ) (ts : List Terminal) (ms : List Mark) : Type 0 where
 operand_binary : (ts : List Terminal) (ms : List Mark) → ReadsOperand ts ms → ReadsBinary ts ms
 operand_binary ts ms f bare first depth count goals noted us e pr = f bare depth count (G.Operators depth first ∷ goals) noted us e pr
 operand_binary ts ms f assigning first depth count goals noted us e pr = f assigning depth count goals noted us e pr
-operand_binary ts ms f acting first depth count goals noted us e pr = f acting depth count goals noted us e pr
+operand_binary ts ms f (acting before) first depth count goals noted us e pr = f (acting before) depth count goals noted us e pr
 
 binary_choice : (ts : List Terminal) (ms : List Mark) → ReadsBinary ts ms → ReadsChoice ts ms
 binary_choice ts ms f m depth count goals noted us e pr =
     f m (length noted) depth count goals noted us (for_operand us e) pr
-    ∙ skip_operators us e depth (first_of m (length noted) (length noted)) goals (count_after count ms) (place depth count ms noted)
+    ∙ skip_operators us e depth (first_of m (length noted) (length noted)) goals (count_after count ms) (place_by m depth count ms noted)
 
 choice_assign : (ts : List Terminal) (ms : List Mark) → ReadsChoice ts ms → ReadsAssign ts ms
 choice_assign ts ms f depth count goals noted us e = f assigning depth count goals noted us e tt
@@ -436,28 +482,23 @@ target_count (g.a_target _ _ _ _ _ d) count = subscript_count d count
 -- ---- operands
 
 -- behind a name with its subscripts stands the end of the operand
-after_mode : Mode → ℕ → After
-after_mode bare first = operand
-after_mode assigning first = target false first
-after_mode acting first = target true first
-
 abbrev pub named_goals : Mode → Bool → ℕ → ℕ → List Goal → List Goal
 named_goals bare named depth first goals = G.AfterOperand named depth ∷ goals
 named_goals assigning named depth first goals = G.AfterTarget named false depth first ∷ goals
-named_goals acting named depth first goals = G.AfterTarget named true depth first ∷ goals
+named_goals (acting before) named depth first goals = G.AfterTarget named true depth first ∷ goals
 
 -- a name
 pub name_start : (m : Mode) (text : List ℕ) (at : Place) → is_keyword text ≡ false → (depth count : ℕ) (goals : List Goal) (noted : List Noted) (us : List Terminal)
-    → run (word text at ∷ us) (start m depth goals) count noted ≡ run us (named_goals m true depth (length noted) goals) count (noted_at depth count plain ∷ noted)
+    → run_by m (word text at ∷ us) (start m depth goals) count noted ≡ run us (named_goals m true depth (length noted) goals) count (note_by m depth count plain ∷ noted)
 name_start bare text at free depth count goals noted us = run_as (word text at) o.Name us (G.Operand depth ∷ goals) count noted (name_sort text free)
 name_start assigning text at free depth count goals noted us = run_as (word text at) o.Name us (G.Assign depth ∷ goals) count noted (name_sort text free)
-name_start acting text at free depth count goals noted us = run_as (word text at) o.Name us (G.Action depth ∷ goals) count noted (name_sort text free)
+name_start (acting before) text at free depth count goals noted us = run_opened_as before (word text at) o.Name us (G.Action depth ∷ goals) count noted (name_sort text free)
 
 pub name_subscripts : (m : Mode) (ts : List Terminal) (ms : List Mark) → ReadsSubscripts ts ms → (named : Bool) (depth count first : ℕ) (goals : List Goal) (noted : List Noted) (us : List Terminal) → at_first no_bracket us ≡ true
     → run (ts ++ us) (named_goals m named depth first goals) count noted ≡ run us (named_goals m false depth first goals) count (place depth count ms noted)
 name_subscripts bare ts ms f named depth count first goals noted us e = f operand named depth count goals noted us e
 name_subscripts assigning ts ms f named depth count first goals noted us e = f (target false first) named depth count goals noted us e
-name_subscripts acting ts ms f named depth count first goals noted us e = f (target true first) named depth count goals noted us e
+name_subscripts (acting before) ts ms f named depth count first goals noted us e = f (target true first) named depth count goals noted us e
 
 -- the operand ends behind them
 name_ends : (m : Mode) (named : Bool) (depth count first : ℕ) (goals : List Goal) (noted : List Noted) (us : List Terminal) → at_first ends_operand us ≡ true
@@ -465,7 +506,7 @@ name_ends : (m : Mode) (named : Bool) (depth count first : ℕ) (goals : List Go
 name_ends bare named depth count first goals noted us e = skip ends_operand (G.AfterOperand named depth) refl (after_operand_ends named depth) us e goals count noted
 name_ends assigning named depth count first goals noted us e =
     same_goal ends_operand (G.AfterTarget named false depth first) (G.Operators depth first) refl refl (after_target_ends named false depth first) us e goals count noted
-name_ends acting named depth count first goals noted us e =
+name_ends (acting before) named depth count first goals noted us e =
     same_goal ends_operand (G.AfterTarget named true depth first) (G.Operators depth first) refl refl (after_target_ends named true depth first) us e goals count noted
 
 -- `++` or `--` behind it
@@ -473,14 +514,15 @@ pub name_bumped : (m : Mode) (punct : Punct) (up : Bool) (at : Place) → bump_o
     → run (sign punct at ∷ us) (named_goals m named depth first goals) count noted ≡ run us (finish m depth first goals) count (noted_at depth count plain ∷ noted)
 name_bumped bare punct up at e named depth count first goals noted us = run_as (sign punct at) o.Bump us (G.AfterOperand named depth ∷ goals) count noted (bump_sort punct up e)
 name_bumped assigning punct up at e named depth count first goals noted us = run_as (sign punct at) o.Bump us (G.AfterTarget named false depth first ∷ goals) count noted (bump_sort punct up e)
-name_bumped acting punct up at e named depth count first goals noted us = run_as (sign punct at) o.Bump us (G.AfterTarget named true depth first ∷ goals) count noted (bump_sort punct up e)
+name_bumped (acting before) punct up at e named depth count first goals noted us = run_as (sign punct at) o.Bump us (G.AfterTarget named true depth first ∷ goals) count noted (bump_sort punct up e)
 
 pub name_reads : (text : List ℕ) (at : Place) (ts : List Terminal) (ms : List Mark) → is_keyword text ≡ false → ReadsSubscripts ts ms → ((count : ℕ) → count_after count ms ≡ count) → ReadsOperand (word text at ∷ ts) (plain ∷ ms)
 name_reads text at ts ms free f same m depth count goals noted us e pr =
     name_start m text at free depth count goals noted (ts ++ us)
-    ∙ name_subscripts m ts ms f true depth count (length noted) goals (noted_at depth count plain ∷ noted) us (weaker ends_operand no_bracket operand_bracket us e)
-    ∙ name_ends m false depth count (length noted) goals (place depth count ms (noted_at depth count plain ∷ noted)) us e
-    ∙ ap (λ c. run us (finish m depth (length noted) goals) c (place depth count ms (noted_at depth count plain ∷ noted))) (sym (same count))
+    ∙ name_subscripts m ts ms f true depth count (length noted) goals (note_by m depth count plain ∷ noted) us (weaker ends_operand no_bracket operand_bracket us e)
+    ∙ name_ends m false depth count (length noted) goals (place depth count ms (note_by m depth count plain ∷ noted)) us e
+    ∙ ap (λ x. run us (finish m depth (length noted) goals) count x) (sym (place_by-first m depth count plain ms noted))
+    ∙ ap (λ c. run us (finish m depth (length noted) goals) c (place_by m depth count (plain ∷ ms) noted)) (sym (same count))
 
 -- a call
 call_start : (m : Mode) (opens : Place) (depth count first : ℕ) (goals : List Goal) (noted : List Noted) (us : List Terminal)
@@ -488,7 +530,7 @@ call_start : (m : Mode) (opens : Place) (depth count first : ℕ) (goals : List 
     ≡ run us (G.Arguments (deeper depth) ∷ G.CloseParen depth count ∷ finish m depth first goals) 0 (noted_at depth count plain ∷ noted)
 call_start bare opens depth count first goals noted us = refl
 call_start assigning opens depth count first goals noted us = refl
-call_start acting opens depth count first goals noted us = refl
+call_start (acting before) opens depth count first goals noted us = refl
 
 abbrev pub ReadsArguments : List Terminal → List Mark → Type 0
 ReadsArguments ts ms = (depth count : ℕ) (goals : List Goal) (noted : List Noted) (at : Place) (us : List Terminal)
@@ -498,42 +540,43 @@ ReadsArguments ts ms = (depth count : ℕ) (goals : List Goal) (noted : List Not
 pub call_reads : (text : List ℕ) (at opens closes : Place) (ts : List Terminal) (ms : List Mark) → is_keyword text ≡ false → ReadsArguments ts ms → ((count : ℕ) → count_after count ms ≡ count)
     → ReadsOperand (word text at ∷ sign p.LeftParen opens ∷ (ts ++ sign p.RightParen closes ∷ [])) (plain ∷ pair ms [])
 call_reads text at opens closes ts ms free f same m depth count goals noted us e pr =
-    let first = noted_at depth count plain ∷ noted in
+    let first = note_by m depth count plain ∷ noted in
     name_start m text at free depth count goals noted (sign p.LeftParen opens ∷ ((ts ++ sign p.RightParen closes ∷ []) ++ us))
     ∙ call_start m opens depth count (length noted) goals first ((ts ++ sign p.RightParen closes ∷ []) ++ us)
     ∙ ap (λ x. run x (G.Arguments (deeper depth) ∷ G.CloseParen depth count ∷ finish m depth (length noted) goals) 0 (noted_at depth count plain ∷ first)) (append_assoc ts (sign p.RightParen closes ∷ []) us)
     ∙ f depth count (finish m depth (length noted) goals) (noted_at depth count plain ∷ first) closes us
-    ∙ ap (λ x. run us (finish m depth (length noted) goals) count x) (sym (place-pair depth count ms [] first (same count)))
-    ∙ ap (λ c. run us (finish m depth (length noted) goals) c (place depth count (pair ms []) first)) (sym (count-pair count ms [] (same count)))
+    ∙ ap (λ x. run us (finish m depth (length noted) goals) count x) (sym (place_by-first m depth count plain (pair ms []) noted ∙ place-pair depth count ms [] first (same count)))
+    ∙ ap (λ c. run us (finish m depth (length noted) goals) c (place_by m depth count (plain ∷ pair ms []) noted)) (sym (count-pair count ms [] (same count)))
 
 -- the other beginnings of an operand are the same in each mode
 number_start : (m : Mode) (value : ℕ) (type : CType) (at : Place) (depth count : ℕ) (goals : List Goal) (noted : List Noted) (us : List Terminal)
-    → run (terminal (k.Number value type) at ∷ us) (start m depth goals) count noted ≡ run us (finish m depth (length noted) goals) count (noted_at depth count plain ∷ noted)
+    → run_by m (terminal (k.Number value type) at ∷ us) (start m depth goals) count noted ≡ run us (finish m depth (length noted) goals) count (note_by m depth count plain ∷ noted)
 number_start bare value type at depth count goals noted us = refl
 number_start assigning value type at depth count goals noted us = refl
-number_start acting value type at depth count goals noted us = refl
+number_start (acting before) value type at depth count goals noted us = refl
 
 pub group_start : (m : Mode) (at : Place) (depth count : ℕ) (goals : List Goal) (noted : List Noted) (us : List Terminal)
-    → run (sign p.LeftParen at ∷ us) (start m depth goals) count noted ≡ run us (G.Group depth ∷ finish m depth (length noted) goals) count (noted_at depth count plain ∷ noted)
+    → run_by m (sign p.LeftParen at ∷ us) (start m depth goals) count noted ≡ run us (G.Group depth ∷ finish m depth (length noted) goals) count (note_by m depth count plain ∷ noted)
 group_start bare at depth count goals noted us = refl
 group_start assigning at depth count goals noted us = refl
-group_start acting at depth count goals noted us = refl
+group_start (acting before) at depth count goals noted us = refl
 
 prefix_start : (m : Mode) (t : Terminal) (sort : Sort) → (sort ≡ o.Prefix) ⊎ (sort ≡ o.Sign) → sort_of t.kind ≡ sort → (depth count : ℕ) (goals : List Goal) (noted : List Noted) (us : List Terminal)
-    → run (t ∷ us) (start m depth goals) count noted ≡ run us (G.Operand (deeper depth) ∷ finish m depth (length noted) goals) count (noted_at depth count plain ∷ noted)
+    → run_by m (t ∷ us) (start m depth goals) count noted ≡ run us (G.Operand (deeper depth) ∷ finish m depth (length noted) goals) count (note_by m depth count plain ∷ noted)
 prefix_start bare t sort (inl f) e depth count goals noted us = run_as t o.Prefix us (G.Operand depth ∷ goals) count noted (e ∙ f)
 prefix_start bare t sort (inr f) e depth count goals noted us = run_as t o.Sign us (G.Operand depth ∷ goals) count noted (e ∙ f)
 prefix_start assigning t sort (inl f) e depth count goals noted us = run_as t o.Prefix us (G.Assign depth ∷ goals) count noted (e ∙ f)
 prefix_start assigning t sort (inr f) e depth count goals noted us = run_as t o.Sign us (G.Assign depth ∷ goals) count noted (e ∙ f)
-prefix_start acting t sort (inl f) e depth count goals noted us = run_as t o.Prefix us (G.Action depth ∷ goals) count noted (e ∙ f)
-prefix_start acting t sort (inr f) e depth count goals noted us = run_as t o.Sign us (G.Action depth ∷ goals) count noted (e ∙ f)
+prefix_start (acting before) t sort (inl f) e depth count goals noted us = run_opened_as before t o.Prefix us (G.Action depth ∷ goals) count noted (e ∙ f)
+prefix_start (acting before) t sort (inr f) e depth count goals noted us = run_opened_as before t o.Sign us (G.Action depth ∷ goals) count noted (e ∙ f)
 
 pub number_reads : (value : ℕ) (type : CType) (at : Place) → ReadsOperand (terminal (k.Number value type) at ∷ []) (plain ∷ [])
-number_reads value type at m depth count goals noted us e pr = number_start m value type at depth count goals noted us
+number_reads value type at m depth count goals noted us e pr =
+    number_start m value type at depth count goals noted us ∙ ap (λ x. run us (finish m depth (length noted) goals) count x) (sym (place_by-first m depth count plain [] noted))
 
 pub prefix_reads : (punct : Punct) (op : Unary) (at : Place) (ts : List Terminal) (ms : List Mark) → prefix_of punct ≡ Some op → ReadsOperand ts ms → ReadsOperand (sign punct at ∷ ts) (plain ∷ inside ms)
 prefix_reads punct op at ts ms o f m depth count goals noted us e pr =
     prefix_start m (sign punct at) (sort_of_sign punct) (prefix_sort punct op o) refl depth count goals noted (ts ++ us)
-    ∙ f bare (deeper depth) count (finish m depth (length noted) goals) (noted_at depth count plain ∷ noted) us e tt
-    ∙ ap (λ x. run us (finish m depth (length noted) goals) (count_after count ms) x) (sym (place-inside depth count ms (noted_at depth count plain ∷ noted)))
-    ∙ ap (λ c. run us (finish m depth (length noted) goals) c (place depth count (inside ms) (noted_at depth count plain ∷ noted))) (sym (count-inside count ms))
+    ∙ f bare (deeper depth) count (finish m depth (length noted) goals) (note_by m depth count plain ∷ noted) us e tt
+    ∙ ap (λ x. run us (finish m depth (length noted) goals) (count_after count ms) x) (sym (place_by-first m depth count plain (inside ms) noted ∙ place-inside depth count ms (note_by m depth count plain ∷ noted)))
+    ∙ ap (λ c. run us (finish m depth (length noted) goals) c (place_by m depth count (plain ∷ inside ms) noted)) (sym (count-inside count ms))

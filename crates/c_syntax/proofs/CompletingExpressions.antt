@@ -24,9 +24,9 @@ use Rattle.c_syntax.specs.Sorts.{sort_of, sort_of_sign, begins_operand, begins_k
 use Rattle.c_syntax.specs.Steps.{Step, deeper, more, fresh, step_of, taken_or, next, behind, assign, expression, kind}
 use Rattle.c_syntax.proofs.Seen.{name_sort}
 use Rattle.c_syntax.proofs.Attach.{lowest, highest}
-use Rattle.c_syntax.specs.Notes.{Noted, hold_behind}
-use Rattle.c_syntax.proofs.Marking.{run, going, place, count_after, noted_at, place-append, count-append, place-inside, count-inside, place-whole, count-whole, place-pair, count-pair, count-flat, held_behind, held_from, count-held}
-use Rattle.c_syntax.proofs.Completing.{operator_sort, prefix_sort, bump_sort, assignment_sort, at_first, ends_operand, no_bracket, goes, goes_on, spot_at, run_as, skip, choice_goal, bumped, bumping, Mode, bare, assigning, acting, start, finish, begin, first_of, Proper, ReadsOperand, ReadsBinary, ReadsChoice, ReadsAssign, ReadsComma, Claims, Whole, whole_expression, ReadsSubscripts, no_subscripts, more_subscripts, subscript_count, target_count, named_goals, name_start, name_subscripts, name_bumped, name_reads, ReadsArguments, call_reads, number_reads, group_start, prefix_reads, by_comma, by_assign, by_choice, by_binary, by_operand, tighter, operand_bracket, weaker}
+use Rattle.c_syntax.proofs.Noting.{Noted, hold_behind}
+use Rattle.c_syntax.proofs.Marking.{run, going, place, count_after, noted_at, place-append, count-append, place-inside, count-inside, place-whole, count-whole, count-pair, count-flat, held_behind, count-held, opened_at, SomeMarks, marks_more, from_plain, held_some}
+use Rattle.c_syntax.proofs.Completing.{operator_sort, prefix_sort, bump_sort, assignment_sort, at_first, ends_operand, no_bracket, goes, goes_on, spot_at, run_as, skip, choice_goal, bumped, bumping, Mode, bare, assigning, acting, start, finish, begin, first_of, Proper, ReadsOperand, ReadsBinary, ReadsChoice, ReadsAssign, ReadsComma, Claims, Whole, whole_expression, ReadsSubscripts, no_subscripts, more_subscripts, subscript_count, target_count, named_goals, name_start, name_subscripts, name_bumped, name_reads, ReadsArguments, call_reads, number_reads, group_start, prefix_reads, by_comma, by_assign, by_choice, by_binary, by_operand, tighter, operand_bracket, weaker, run_opened, run_opened_as, run_by, note_by, place_by, place_by-first, place_by-append, place_by-pair, held_by}
 use Rattle.c_syntax.proofs.CompletingTypes.{kind_run, kind_starts, anywhere}
 
 -- ---- what an expression begins with
@@ -124,37 +124,40 @@ arguments_goal us s depth goals count noted =
 
 abbrev pub ReadsTarget : List Terminal → List Mark → Type 0
 ReadsTarget ts ms = (m : Mode) (depth count : ℕ) (goals : List Goal) (noted : List Noted) (us : List Terminal) → at_first no_bracket us ≡ true
-    → run (ts ++ us) (start m depth goals) count noted ≡ run us (named_goals m false depth (length noted) goals) count (place depth count ms noted)
+    → run_by m (ts ++ us) (start m depth goals) count noted ≡ run us (named_goals m false depth (length noted) goals) count (place_by m depth count ms noted)
 
 target_reads : (text : List ℕ) (at : Place) (ts : List Terminal) (ms : List Mark) → is_keyword text ≡ false → ReadsSubscripts ts ms → ReadsTarget (word text at ∷ ts) (plain ∷ ms)
 target_reads text at ts ms free f m depth count goals noted us e =
     name_start m text at free depth count goals noted (ts ++ us)
-    ∙ name_subscripts m ts ms f true depth count (length noted) goals (noted_at depth count plain ∷ noted) us e
+    ∙ name_subscripts m ts ms f true depth count (length noted) goals (note_by m depth count plain ∷ noted) us e
+    ∙ ap (λ x. run us (named_goals m false depth (length noted) goals) count x) (sym (place_by-first m depth count plain ms noted))
 
 pub bump_no_bracket : (punct : Punct) (up : Bool) → bump_of punct ≡ Some up → no_bracket (sort_of_sign punct) ≡ true
 bump_no_bracket punct up e = ap no_bracket (bump_sort punct up e)
 
-bump_behind_reads : (punct : Punct) (up : Bool) (at : Place) (ts : List Terminal) (ms : List Mark) → bump_of punct ≡ Some up → ReadsTarget ts ms → ((count : ℕ) → count_after count ms ≡ count)
+bump_behind_reads : (punct : Punct) (up : Bool) (at : Place) (ts : List Terminal) (ms : List Mark) → bump_of punct ≡ Some up → SomeMarks ms → ReadsTarget ts ms → ((count : ℕ) → count_after count ms ≡ count)
     → ReadsOperand (ts ++ sign punct at ∷ []) (ms ++ plain ∷ [])
-bump_behind_reads punct up at ts ms b f same m depth count goals noted us e pr =
-    ap (λ x. run x (start m depth goals) count noted) (append_assoc ts (sign punct at ∷ []) us)
+bump_behind_reads punct up at ts ms b s f same m depth count goals noted us e pr =
+    ap (λ x. run_by m x (start m depth goals) count noted) (append_assoc ts (sign punct at ∷ []) us)
     ∙ f m depth count goals noted (sign punct at ∷ us) (bump_no_bracket punct up b)
-    ∙ name_bumped m punct up at b false depth count (length noted) goals (place depth count ms noted) us
-    ∙ ap (λ c. run us (finish m depth (length noted) goals) count (noted_at depth c plain ∷ place depth count ms noted)) (sym (same count))
-    ∙ ap (λ x. run us (finish m depth (length noted) goals) count x) (sym (place-append depth count ms (plain ∷ []) noted))
-    ∙ ap (λ c. run us (finish m depth (length noted) goals) c (place depth count (ms ++ plain ∷ []) noted)) (sym (count-append count ms (plain ∷ []) ∙ same count))
+    ∙ name_bumped m punct up at b false depth count (length noted) goals (place_by m depth count ms noted) us
+    ∙ ap (λ c. run us (finish m depth (length noted) goals) count (noted_at depth c plain ∷ place_by m depth count ms noted)) (sym (same count))
+    ∙ ap (λ x. run us (finish m depth (length noted) goals) count x) (sym (place_by-append m depth count ms (plain ∷ []) noted s))
+    ∙ ap (λ c. run us (finish m depth (length noted) goals) c (place_by m depth count (ms ++ plain ∷ []) noted)) (sym (count-append count ms (plain ∷ []) ∙ same count))
 
 -- ---- `++` and `--` before a target
 
 pub bump_start : (punct : Punct) (up : Bool) (at : Place) → bump_of punct ≡ Some up → (depth count : ℕ) (goals : List Goal) (noted : List Noted) (us : List Terminal)
     → (run (sign punct at ∷ us) (G.Operand depth ∷ goals) count noted ≡ run us (G.Target (deeper depth) ∷ goals) count (noted_at depth count plain ∷ noted))
     × (run (sign punct at ∷ us) (G.Assign depth ∷ goals) count noted ≡ run us (G.Target (deeper depth) ∷ G.Operators depth (length noted) ∷ goals) count (noted_at depth count plain ∷ noted))
-    × (run (sign punct at ∷ us) (G.Action depth ∷ goals) count noted ≡ run us (G.ActionTarget depth (length noted) ∷ goals) count (noted_at depth count plain ∷ noted))
 bump_start punct up at b depth count goals noted us = (
   run_as (sign punct at) o.Bump us (G.Operand depth ∷ goals) count noted (bump_sort punct up b),
   run_as (sign punct at) o.Bump us (G.Assign depth ∷ goals) count noted (bump_sort punct up b),
-  run_as (sign punct at) o.Bump us (G.Action depth ∷ goals) count noted (bump_sort punct up b),
 )
+
+pub bump_action : (punct : Punct) (up : Bool) (at : Place) → bump_of punct ≡ Some up → (before depth count : ℕ) (goals : List Goal) (noted : List Noted) (us : List Terminal)
+    → run_opened before (sign punct at ∷ us) (G.Action depth ∷ goals) count noted ≡ run us (G.ActionTarget depth (length noted) ∷ goals) count (opened_at before depth count plain ∷ noted)
+bump_action punct up at b before depth count goals noted us = run_opened_as before (sign punct at) o.Bump us (G.Action depth ∷ goals) count noted (bump_sort punct up b)
 
 subscripts_end : (depth : ℕ) (spot : Spot) (sort : Sort) → ends_operand sort ≡ true → step_of (G.Subscripts depth) spot sort ≡ None
 subscripts_end depth spot o.LeftBracket e = absurd cc
@@ -191,33 +194,33 @@ bump_before_reads punct up at text to ts es b free d f assigning depth count goa
     ∙ skip ends_operand (G.Subscripts (deeper depth)) refl (subscripts_end (deeper depth)) us e left count (place (deeper depth) count ms (noted_at (deeper depth) count plain ∷ front))
     ∙ ap (λ x. run us left count x) (sym (place-inside depth count (plain ∷ ms) front))
     ∙ ap (λ c. run us left c (place depth count (inside (plain ∷ ms)) front)) (sym (count-inside count (plain ∷ ms) ∙ subscript_count d count))
-bump_before_reads punct up at text to ts es b free d f acting depth count goals noted us e pr =
-    let ms = subscript_marks d in let front = noted_at depth count plain ∷ noted in let left = G.Operators depth (length noted) ∷ goals in
-    (bump_start punct up at b depth count goals noted (word text to ∷ (ts ++ us))).2
+bump_before_reads punct up at text to ts es b free d f (acting before) depth count goals noted us e pr =
+    let ms = subscript_marks d in let front = opened_at before depth count plain ∷ noted in let left = G.Operators depth (length noted) ∷ goals in
+    bump_action punct up at b before depth count goals noted (word text to ∷ (ts ++ us))
     ∙ run_as (word text to) o.Name (ts ++ us) (G.ActionTarget depth (length noted) ∷ goals) count front (name_sort text free)
     ∙ f (bumping (length noted)) true depth count goals (noted_at depth count plain ∷ front) us (weaker ends_operand no_bracket operand_bracket us e)
     ∙ goes_run us (elim pr [ inl h ↦ h | inr none ↦ absurd (none (tree.bumping (tree.target text es to) up at) (g.bumped_before punct up at (word text to ∷ ts) (tree.target text es to) b (g.a_target text to ts es free d))) ])
     depth (length noted) count goals (place depth count (plain ∷ ms) front)
-    ∙ ap (λ x. run us left count x) (held_behind depth count (plain ∷ ms) (noted_at depth count plain) noted)
+    ∙ ap (λ x. run us left count x) (held_behind depth count (plain ∷ ms) (opened_at before depth count plain) noted)
     ∙ ap (λ c. run us left c (place depth count (inside (plain ∷ ms)) front)) (sym (count-inside count (plain ∷ ms) ∙ subscript_count d count))
 
 -- ---- parentheses and casts
 
 group_reads : (opens closes : Place) (ts : List Terminal) (ms : List Mark) → Starts ts → Whole ts ms → ReadsOperand (sign p.LeftParen opens ∷ (ts ++ sign p.RightParen closes ∷ [])) (pair (whole ms) [])
 group_reads opens closes ts ms s f m depth count goals noted us e pr =
-    let front = noted_at depth count plain ∷ noted in let left = finish m depth (length noted) goals in
+    let front = note_by m depth count plain ∷ noted in let left = finish m depth (length noted) goals in
     group_start m opens depth count goals noted ((ts ++ sign p.RightParen closes ∷ []) ++ us)
     ∙ ap (λ x. run x (G.Group depth ∷ left) count front) (append_assoc ts (sign p.RightParen closes ∷ []) us)
     ∙ group_expression (ts ++ sign p.RightParen closes ∷ us) (starts_more ts (sign p.RightParen closes ∷ us) s) depth left count front
     ∙ f (deeper depth) 0 (G.CloseParen depth count ∷ left) front (sign p.RightParen closes ∷ us) refl
     ∙ ap (λ x. run us left count (noted_at depth count closing ∷ x)) (sym (place-whole (deeper depth) count ms front))
-    ∙ ap (λ x. run us left count x) (sym (place-pair depth count (whole ms) [] noted (count-whole count ms)))
-    ∙ ap (λ c. run us left c (place depth count (pair (whole ms) []) noted)) (sym (count-pair count (whole ms) [] (count-whole count ms)))
+    ∙ ap (λ x. run us left count x) (sym (place_by-pair m depth count (whole ms) [] noted (count-whole count ms)))
+    ∙ ap (λ c. run us left c (place_by m depth count (pair (whole ms) []) noted)) (sym (count-pair count (whole ms) [] (count-whole count ms)))
 
 cast_reads : (at closes : Place) (ks ts : List Terminal) (type : CType) (constant : Bool) (ms : List Mark) → DerivesKind ks (Some type) constant → ReadsOperand ts ms
     → ReadsOperand (sign p.LeftParen at ∷ (ks ++ sign p.RightParen closes ∷ ts)) (pair (flat ks) (inside ms))
 cast_reads at closes ks ts type constant ms d f m depth count goals noted us e pr =
-    let front = noted_at depth count plain ∷ noted in let left = finish m depth (length noted) goals in let first = kind_starts d in
+    let front = note_by m depth count plain ∷ noted in let left = finish m depth (length noted) goals in let first = kind_starts d in
     let placed = noted_at depth count closing ∷ place (deeper depth) count (flat ks) front in
     group_start m at depth count goals noted ((ks ++ sign p.RightParen closes ∷ ts) ++ us)
     ∙ ap (λ x. run x (G.Group depth ∷ left) count front) (append_assoc ks (sign p.RightParen closes ∷ ts) us)
@@ -227,15 +230,15 @@ cast_reads at closes ks ts type constant ms d f m depth count goals noted us e p
     ∙ kind_run d (anywhere (deeper depth)) tt (G.CloseParen depth count ∷ G.Operand (deeper depth) ∷ left) count front (sign p.RightParen closes ∷ (ts ++ us)) refl
     ∙ f bare (deeper depth) count left placed us e tt
     ∙ ap (λ x. run us left (count_after count ms) x) (sym (place-inside depth count ms placed))
-    ∙ ap (λ x. run us left (count_after count ms) x) (sym (place-pair depth count (flat ks) (inside ms) noted (count-flat count ks)))
-    ∙ ap (λ c. run us left c (place depth count (pair (flat ks) (inside ms)) noted)) (sym (count-pair count (flat ks) (inside ms) (count-flat count ks) ∙ count-inside count ms))
+    ∙ ap (λ x. run us left (count_after count ms) x) (sym (place_by-pair m depth count (flat ks) (inside ms) noted (count-flat count ks)))
+    ∙ ap (λ c. run us left c (place_by m depth count (pair (flat ks) (inside ms)) noted)) (sym (count-pair count (flat ks) (inside ms) (count-flat count ks) ∙ count-inside count ms))
 
 -- ---- operators
 
 proper_on : (m : Mode) (ts us : List Terminal) → goes_on us ≡ true → Proper m ts us
 proper_on bare ts us e = tt
 proper_on assigning ts us e = tt
-proper_on acting ts us e = inl e
+proper_on (acting before) ts us e = inl e
 
 operator_goes : (punct : Punct) (op : Binary) → operator_of punct ≡ Some op → (goes (sort_of_sign punct) ≡ true) × (ends_operand (sort_of_sign punct) ≡ true)
 operator_goes punct op e = elim (operator_sort punct op e) [ inl f ↦ (ap goes f, ap ends_operand f) | inr f ↦ (ap goes f, ap ends_operand f) ]
@@ -247,31 +250,31 @@ operator_step punct op at e us depth first count goals noted = elim (operator_so
   | inr f ↦ run_as (sign punct at) o.Operator us (G.Operators depth first ∷ goals) count noted f
 ]
 
-operator_reads : (punct : Punct) (op : Binary) (at : Place) (ls rs : List Terminal) (ml mr : List Mark) → operator_of punct ≡ Some op → ReadsBinary ls ml → ReadsBinary rs mr
+operator_reads : (punct : Punct) (op : Binary) (at : Place) (ls rs : List Terminal) (ml mr : List Mark) → operator_of punct ≡ Some op → SomeMarks ml → ReadsBinary ls ml → ReadsBinary rs mr
     → ReadsBinary (ls ++ sign punct at ∷ rs) (ml ++ operator ∷ mr)
-operator_reads punct op at ls rs ml mr o f h m first depth count goals noted us e pr =
-    let c = count_after count ml in let front = noted_at depth c operator ∷ place depth count ml noted in let at_end = first_of m first (length noted) in
-    ap (λ x. run x (begin m first depth goals) count noted) (append_assoc ls (sign punct at ∷ rs) us)
+operator_reads punct op at ls rs ml mr o s f h m first depth count goals noted us e pr =
+    let c = count_after count ml in let front = noted_at depth c operator ∷ place_by m depth count ml noted in let at_end = first_of m first (length noted) in
+    ap (λ x. run_by m x (begin m first depth goals) count noted) (append_assoc ls (sign punct at ∷ rs) us)
     ∙ f m first depth count goals noted (sign punct at ∷ (rs ++ us)) (operator_goes punct op o).1 (proper_on m ls (sign punct at ∷ (rs ++ us)) (operator_goes punct op o).0)
-    ∙ operator_step punct op at o (rs ++ us) depth at_end c goals (place depth count ml noted)
+    ∙ operator_step punct op at o (rs ++ us) depth at_end c goals (place_by m depth count ml noted)
     ∙ h bare at_end depth (more c) goals front us e tt
-    ∙ ap (λ x. run us (G.Operators depth at_end ∷ goals) (count_after (more c) mr) x) (sym (place-append depth count ml (operator ∷ mr) noted))
-    ∙ ap (λ x. run us (G.Operators depth at_end ∷ goals) x (place depth count (ml ++ operator ∷ mr) noted)) (sym (count-append count ml (operator ∷ mr)))
+    ∙ ap (λ x. run us (G.Operators depth at_end ∷ goals) (count_after (more c) mr) x) (sym (place_by-append m depth count ml (operator ∷ mr) noted s))
+    ∙ ap (λ x. run us (G.Operators depth at_end ∷ goals) x (place_by m depth count (ml ++ operator ∷ mr) noted)) (sym (count-append count ml (operator ∷ mr)))
 
 -- ---- `?:`
 
 first_same : (m : Mode) (n : ℕ) → first_of m n n ≡ n
 first_same bare n = refl
 first_same assigning n = refl
-first_same acting n = refl
+first_same (acting before) n = refl
 
-choice_place : (depth count : ℕ) (m : Mark) (ms me mf : List Mark) (noted : List Noted)
-    → place depth count (held (m ∷ ms) ++ plain ∷ (inside me ++ plain ∷ inside mf)) noted
+choice_place : (mode : Mode) (depth count : ℕ) (m : Mark) (ms me mf : List Mark) (noted : List Noted) → SomeMarks (held (m ∷ ms))
+    → place_by mode depth count (held (m ∷ ms) ++ plain ∷ (inside me ++ plain ∷ inside mf)) noted
     ≡ place (deeper depth) (count_after (count_after count (m ∷ ms)) me) mf (noted_at depth (count_after (count_after count (m ∷ ms)) me) plain
-    ∷ place (deeper depth) (count_after count (m ∷ ms)) me (noted_at depth (count_after count (m ∷ ms)) plain ∷ place depth count (held (m ∷ ms)) noted))
-choice_place depth count m ms me mf noted =
-    let c = count_after count (m ∷ ms) in let d = count_after c me in let front = place depth count (held (m ∷ ms)) noted in
-    place-append depth count (held (m ∷ ms)) (plain ∷ (inside me ++ plain ∷ inside mf)) noted
+    ∷ place (deeper depth) (count_after count (m ∷ ms)) me (noted_at depth (count_after count (m ∷ ms)) plain ∷ place_by mode depth count (held (m ∷ ms)) noted))
+choice_place mode depth count m ms me mf noted s =
+    let c = count_after count (m ∷ ms) in let d = count_after c me in let front = place_by mode depth count (held (m ∷ ms)) noted in
+    place_by-append mode depth count (held (m ∷ ms)) (plain ∷ (inside me ++ plain ∷ inside mf)) noted s
     ∙ ap (λ x. place depth x (plain ∷ (inside me ++ plain ∷ inside mf)) front) (count-held count m ms)
     ∙ place-append depth c (inside me) (plain ∷ inside mf) (noted_at depth c plain ∷ front)
     ∙ ap (λ x. place depth x (plain ∷ inside mf) (place depth c (inside me) (noted_at depth c plain ∷ front))) (count-inside c me)
@@ -288,48 +291,41 @@ choice_count count m ms me mf =
     ∙ ap (λ x. count_after x (inside mf)) (count-inside c me)
     ∙ count-inside (count_after c me) mf
 
-choice_reads : (at colon : Place) (ts ys ns : List Terminal) (m : Mark) (ms me mf : List Mark) → ReadsBinary ts (m ∷ ms) → Whole ys me → ReadsChoice ns mf
+choice_reads : (at colon : Place) (ts ys ns : List Terminal) (m : Mark) (ms me mf : List Mark) → SomeMarks (held (m ∷ ms)) → ReadsBinary ts (m ∷ ms) → Whole ys me → ReadsChoice ns mf
     → ReadsChoice (ts ++ sign p.Question at ∷ (ys ++ sign p.Colon colon ∷ ns)) (held (m ∷ ms) ++ plain ∷ (inside me ++ plain ∷ inside mf))
-choice_reads at colon ts ys ns m ms me mf f h q mode depth count goals noted us e pr =
+choice_reads at colon ts ys ns m ms me mf s f h q mode depth count goals noted us e pr =
     let c = count_after count (m ∷ ms) in let d = count_after c me in
     let tail = ys ++ sign p.Colon colon ∷ ns in
-    let front = noted_at depth c plain ∷ place depth count (held (m ∷ ms)) noted in
+    let front = noted_at depth c plain ∷ place_by mode depth count (held (m ∷ ms)) noted in
     let middle = noted_at depth d plain ∷ place (deeper depth) c me front in
-    ap (λ x. run x (begin mode (length noted) depth goals) count noted) (append_assoc ts (sign p.Question at ∷ tail) us)
+    ap (λ x. run_by mode x (begin mode (length noted) depth goals) count noted) (append_assoc ts (sign p.Question at ∷ tail) us)
     ∙ f mode (length noted) depth count goals noted (sign p.Question at ∷ (tail ++ us)) refl (proper_on mode ts (sign p.Question at ∷ (tail ++ us)) refl)
-    ∙ ap (λ x. run (sign p.Question at ∷ (tail ++ us)) (G.Operators depth x ∷ goals) c (place depth count (m ∷ ms) noted)) (first_same mode (length noted))
-    ∙ ap (λ x. run (tail ++ us) (G.Expression (deeper depth) ∷ G.ChoiceColon depth ∷ goals) c (noted_at depth c plain ∷ x)) (held_from depth count m ms noted)
+    ∙ ap (λ x. run (sign p.Question at ∷ (tail ++ us)) (G.Operators depth x ∷ goals) c (place_by mode depth count (m ∷ ms) noted)) (first_same mode (length noted))
+    ∙ ap (λ x. run (tail ++ us) (G.Expression (deeper depth) ∷ G.ChoiceColon depth ∷ goals) c (noted_at depth c plain ∷ x)) (held_by mode depth count m ms noted)
     ∙ ap (λ x. run x (G.Expression (deeper depth) ∷ G.ChoiceColon depth ∷ goals) c front) (append_assoc ys (sign p.Colon colon ∷ ns) us)
     ∙ h (deeper depth) c (G.ChoiceColon depth ∷ goals) front (sign p.Colon colon ∷ (ns ++ us)) refl
     ∙ choice_goal (ns ++ us) (deeper depth) goals d middle
     ∙ q bare (deeper depth) d goals middle us e tt
-    ∙ ap (λ x. run us goals (count_after d mf) x) (sym (choice_place depth count m ms me mf noted))
-    ∙ ap (λ x. run us goals x (place depth count (held (m ∷ ms) ++ plain ∷ (inside me ++ plain ∷ inside mf)) noted)) (sym (choice_count count m ms me mf))
+    ∙ ap (λ x. run us goals (count_after d mf) x) (sym (choice_place mode depth count m ms me mf noted s))
+    ∙ ap (λ x. run us goals x (place_by mode depth count (held (m ∷ ms) ++ plain ∷ (inside me ++ plain ∷ inside mf)) noted)) (sym (choice_count count m ms me mf))
 
 -- an expression has tokens and marks
-record SomeMarks (ms : List Mark) : Type 0 where
-  first : Mark
-  rest : List Mark
-  shape : ms ≡ first ∷ rest
+pub target_some : {ts : List Terminal} {t : TargetTree} (d : DerivesTarget ts t) → SomeMarks (target_marks d)
+target_some (g.a_target _ _ _ _ _ d) = from_plain (subscript_marks d)
 
-marks_more : (ms ns : List Mark) → SomeMarks ms → SomeMarks (ms ++ ns)
-marks_more ms ns s = record { first = s.first; rest = s.rest ++ ns; shape = ap (λ x. x ++ ns) s.shape }
-
-some_marks : {n : ℕ} {ts : List Terminal} {e : Tree} (d : Derives n ts e) → SomeMarks (marks d)
-some_marks (g.a_number _ _ _) = record { first = plain; rest = []; shape = refl }
-some_marks (g.a_name _ _ _) = record { first = plain; rest = []; shape = refl }
-some_marks (g.an_element _ _ _ _ _ _ d) = record { first = plain; rest = subscript_marks d; shape = refl }
-some_marks (g.a_call _ _ _ _ _ _ _ d) = record { first = plain; rest = pair (argument_marks d) []; shape = refl }
-some_marks (g.a_group _ _ _ _ d) = record { first = plain; rest = inside (whole (marks d)) ++ closing ∷ []; shape = refl }
-some_marks (g.a_bump_behind _ _ _ _ _ _ (g.a_target _ _ _ _ _ d)) = record { first = plain; rest = subscript_marks d ++ plain ∷ []; shape = refl }
-some_marks (g.a_prefix _ _ _ _ _ _ d) = record { first = plain; rest = inside (marks d); shape = refl }
-some_marks (g.a_bump_before _ _ _ _ _ _ d) = record { first = plain; rest = inside (target_marks d); shape = refl }
-some_marks (g.a_cast _ _ ks _ _ _ _ _ d) = record { first = plain; rest = inside (flat ks) ++ closing ∷ inside (marks d); shape = refl }
+pub some_marks : {n : ℕ} {ts : List Terminal} {e : Tree} (d : Derives n ts e) → SomeMarks (marks d)
+some_marks (g.a_number _ _ _) = from_plain []
+some_marks (g.a_name _ _ _) = from_plain []
+some_marks (g.an_element _ _ _ _ _ _ d) = from_plain (subscript_marks d)
+some_marks (g.a_call _ _ _ _ _ _ _ d) = from_plain (pair (argument_marks d) [])
+some_marks (g.a_group _ _ _ _ d) = from_plain (inside (whole (marks d)) ++ closing ∷ [])
+some_marks (g.a_bump_behind _ _ _ _ _ _ d) = marks_more (target_marks d) (plain ∷ []) (target_some d)
+some_marks (g.a_prefix _ _ _ _ _ _ d) = from_plain (inside (marks d))
+some_marks (g.a_bump_before _ _ _ _ _ _ d) = from_plain (inside (target_marks d))
+some_marks (g.a_cast _ _ ks _ _ _ _ _ d) = from_plain (inside (flat ks) ++ closing ∷ inside (marks d))
 some_marks (g.an_operator _ _ _ _ _ _ _ _ _ _ d e) = marks_more (marks d) (operator ∷ marks e) (some_marks d)
-some_marks (g.a_choice _ _ _ _ _ _ _ _ d e f) =
-    let s = some_marks d in let tail = plain ∷ (inside (marks e) ++ plain ∷ inside (marks f)) in
-    record { first = record s.first { nesting = suc s.first.nesting }; rest = inside s.rest ++ tail; shape = ap (λ x. held x ++ tail) s.shape }
-some_marks (g.an_assignment _ _ _ _ _ _ _ _ (g.a_target _ _ _ _ _ d) e) = record { first = plain; rest = subscript_marks d ++ operator ∷ marks e; shape = refl }
+some_marks (g.a_choice _ _ _ _ _ _ _ _ d e f) = marks_more (held (marks d)) (plain ∷ (inside (marks e) ++ plain ∷ inside (marks f))) (held_some (marks d) (some_marks d))
+some_marks (g.an_assignment _ _ _ _ _ _ _ _ d e) = marks_more (target_marks d) (operator ∷ marks e) (target_some d)
 some_marks (g.a_comma _ _ _ _ _ d e) = marks_more (marks d) (operator ∷ marks e) (some_marks d)
 some_marks (g.a_tighter _ _ _ d) = some_marks d
 
@@ -337,7 +333,7 @@ any_choice : (at colon : Place) (ts ys ns : List Terminal) (md me mf : List Mark
     → ReadsChoice (ts ++ sign p.Question at ∷ (ys ++ sign p.Colon colon ∷ ns)) (held md ++ plain ∷ (inside me ++ plain ∷ inside mf))
 any_choice at colon ts ys ns md me mf s f h q =
     subst (λ x. ReadsChoice (ts ++ sign p.Question at ∷ (ys ++ sign p.Colon colon ∷ ns)) (held x ++ plain ∷ (inside me ++ plain ∷ inside mf))) (sym s.shape)
-    (choice_reads at colon ts ys ns s.first s.rest me mf (subst (ReadsBinary ts) s.shape f) h q)
+    (choice_reads at colon ts ys ns s.first s.rest me mf (subst (λ x. SomeMarks (held x)) s.shape (held_some md s)) (subst (ReadsBinary ts) s.shape f) h q)
 
 -- ---- assignment and comma
 
@@ -431,7 +427,7 @@ mutual
   claims (g.a_group opens closes ts inner d) =
       by_operand 0 (sign p.LeftParen opens ∷ (ts ++ sign p.RightParen closes ∷ [])) (pair (whole (marks d)) []) (group_reads opens closes ts (marks d) (starts d) (whole_expression ts (marks d) (claims d).as_comma))
   claims (g.a_bump_behind punct up at ts what e d) =
-      by_operand 1 (ts ++ sign punct at ∷ []) (target_marks d ++ plain ∷ []) (bump_behind_reads punct up at ts (target_marks d) e (target_read d) (target_count d))
+      by_operand 1 (ts ++ sign punct at ∷ []) (target_marks d ++ plain ∷ []) (bump_behind_reads punct up at ts (target_marks d) e (target_some d) (target_read d) (target_count d))
   claims (g.a_prefix punct op at ts arg e d) = by_operand 2 (sign punct at ∷ ts) (plain ∷ inside (marks d)) (prefix_reads punct op at ts (marks d) e ((claims d).as_operand (omega arith)))
   claims (g.a_bump_before punct up at _ _ e (g.a_target text to ts es free d)) =
       by_operand 2 (sign punct at ∷ word text to ∷ ts) (plain ∷ inside (plain ∷ subscript_marks d)) (bump_before_reads punct up at text to ts es e free d (subscripts_read d))
@@ -441,7 +437,7 @@ mutual
   claims (g.an_operator punct op at n ls rs left right o l d e) =
       let low = low_operator op n l in
       by_binary (suc n) (ls ++ sign punct at ∷ rs) (marks d ++ operator ∷ marks e) (high_operator op n l)
-      (operator_reads punct op at ls rs (marks d) (marks e) o ((claims d).as_binary low) ((claims e).as_binary (omega (arith, low))))
+      (operator_reads punct op at ls rs (marks d) (marks e) o (some_marks d) ((claims d).as_binary low) ((claims e).as_binary (omega (arith, low))))
   claims (g.a_choice at colon ts ys ns test left right d e f) =
       by_choice 13 (ts ++ sign p.Question at ∷ (ys ++ sign p.Colon colon ∷ ns)) (held (marks d) ++ plain ∷ (inside (marks e) ++ plain ∷ inside (marks f))) (λ h. omega (arith, h))
       (any_choice at colon ts ys ns (marks d) (marks e) (marks f) (some_marks d) ((claims d).as_binary (omega arith)) (whole_expression ys (marks e) (claims e).as_comma) ((claims f).as_choice (omega arith)))

@@ -22,7 +22,7 @@ use Rattle.c_syntax.specs.declared.sort.Sort.TheVariants as o
 use Rattle.c_syntax.specs.Sorts.{sort_of, begins_kind}
 use Rattle.c_syntax.specs.Steps.{deeper, step_of, taken_or, next, behind, kind, params, param_goals, item}
 use Rattle.c_syntax.proofs.Seen.{name_sort, specifier_sort}
-use Rattle.c_syntax.specs.Notes.{Noted}
+use Rattle.c_syntax.proofs.Noting.{Noted}
 use Rattle.c_syntax.proofs.Marking.{run, going, put, put_at, put-append, put-pair, put-flat}
 use Rattle.c_syntax.proofs.Completing.{at_first, spot_at, run_as, skip, weaker}
 use Rattle.c_syntax.proofs.CompletingTypes.{StartsKind, kind_starts, kind_run, anywhere, in_item, no_kind}

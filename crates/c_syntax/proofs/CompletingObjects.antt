@@ -17,13 +17,13 @@ use Rattle.c_syntax.specs.declared.goal.Spot.{Spot}
 use Rattle.c_syntax.specs.declared.sort.Sort.{Sort}
 use Rattle.c_syntax.specs.declared.sort.Sort.TheVariants as o
 use Rattle.c_syntax.specs.Sorts.{sort_of, begins_operand}
-use Rattle.c_syntax.specs.Steps.{Step, deeper, step_of, taken_or, next, behind, choice, assign, action, init}
+use Rattle.c_syntax.specs.Steps.{Step, deeper, opened, step_of, taken_or, next, behind, choice, assign, action, init}
 use Rattle.c_syntax.proofs.Seen.{name_sort}
-use Rattle.c_syntax.specs.Notes.{Noted}
-use Rattle.c_syntax.proofs.Marking.{run, going, place, count_after, noted_at, put, put_at, put-append, put-pair, put-whole, put-flat, place-pair, place-whole, count-whole}
-use Rattle.c_syntax.proofs.Completing.{assignment_sort, bump_sort, at_first, ends_operand, ends_choice, ends_all, no_bracket, for_operand, for_choice, spot_at, run_as, skip, choice_goal, expression_goal, skip_operators, bumping, acting, bare, whole_expression, name_bumped, operand_bracket, weaker}
+use Rattle.c_syntax.proofs.Noting.{Noted}
+use Rattle.c_syntax.proofs.Marking.{run, going, place, count_after, noted_at, put, put_at, put-append, put-pair, put-whole, put-flat, place-pair, place-whole, count-whole, SomeMarks, marks_more, from_plain, whole_some, opened_at, place_opened, put_opened, put_opened-append, put_opened-same, put_opened-whole}
+use Rattle.c_syntax.proofs.Completing.{assignment_sort, bump_sort, at_first, ends_operand, ends_choice, ends_all, no_bracket, for_operand, for_choice, spot_at, run_as, skip, choice_goal, expression_goal, skip_operators, bumping, acting, bare, whole_expression, name_bumped, operand_bracket, weaker, run_opened}
 use Rattle.c_syntax.proofs.CompletingTypes.{kind_run, anywhere, no_kind}
-use Rattle.c_syntax.proofs.CompletingExpressions.{Starts, starts, starts_more, taken_optional, assign_some, claims, target_read, subscripts_read, assignment_no_bracket, bump_no_bracket, bump_start}
+use Rattle.c_syntax.proofs.CompletingExpressions.{Starts, starts, starts_more, taken_optional, assign_some, claims, target_read, subscripts_read, assignment_no_bracket, bump_no_bracket, bump_action, target_some, some_marks}
 
 -- ---- from goals to goals, with whatever count of operators
 
@@ -156,9 +156,6 @@ subscripts_put (g.a_subscript _ _ _ _ _ _ d ds) depth count noted =
     ∙ ap (λ x. put depth (subscript_marks ds) (put_at depth closing ∷ x)) (place-whole (deeper depth) count (marks d) (put_at depth plain ∷ noted) ∙ sym (put-whole (deeper depth) (marks d) (put_at depth plain ∷ noted)))
     ∙ sym (put-pair depth (whole (marks d)) (subscript_marks ds) noted)
 
-target_put : {ts : List Terminal} {t : TargetTree} (d : g.DerivesTarget ts t) (depth count : ℕ) (noted : List Noted) → place depth count (target_marks d) noted ≡ put depth (target_marks d) noted
-target_put (g.a_target _ _ _ _ _ d) depth count noted = subscripts_put d depth count (noted_at depth count plain ∷ noted)
-
 action_assignment : (punct : Punct) (op : Option Binary) (at : Place) → assignment_of punct ≡ Some op → (us : List Terminal) (depth first count : ℕ) (goals : List Goal) (noted : List Noted)
     → run (sign punct at ∷ us) (G.AfterTarget false true depth first ∷ goals) count noted ≡ run us (G.Assign depth ∷ goals) 0 (put_at depth plain ∷ noted)
 action_assignment punct op at e us depth first count goals noted = elim (assignment_sort punct op e) [
@@ -173,55 +170,122 @@ bumping_end depth first spot o.Operator e = absurd cc
 bumping_end depth first spot o.Question e = absurd cc
 bumping_end depth first spot _ e = refl
 
-change_pass : {ts : List Terminal} {a : ActionTree} (d : DerivesChange ts a) (depth : ℕ) (goals : List Goal) (noted : List Noted) (us : List Terminal) → at_first ends_choice us ≡ true
-    → Passes (ts ++ us) (G.Action depth ∷ goals) 0 noted us goals (put depth (change_marks d) noted)
-change_pass (g.assigned punct op at ts vs what value e d f) depth goals noted us end =
-    let front = put depth (target_marks d) noted in
-    same_tokens (append_assoc ts (sign punct at ∷ vs) us) (same_notes (after_run
-    (target_read d acting depth 0 goals noted (sign punct at ∷ (vs ++ us)) (assignment_no_bracket punct op e)
-    ∙ ap (λ x. run (sign punct at ∷ (vs ++ us)) (G.AfterTarget false true depth (length noted) ∷ goals) 0 x) (target_put d depth 0 noted)
+-- the same where the first token is noted with so many constructs open before it
+pub record Acts (before : ℕ) (w : List Terminal) (goals : List Goal) (count : ℕ) (noted : List Noted) (us : List Terminal) (left : List Goal) (new : List Noted) : Type 0 where
+  pub final : ℕ
+  pub same : run_opened before w goals count noted ≡ run us left final new
+
+acts_via : {before : ℕ} {w us vs : List Terminal} {goals left last : List Goal} {count : ℕ} {noted new end : List Noted} → Acts before w goals count noted us left new → ((c : ℕ) → Passes us left c new vs last end)
+    → Acts before w goals count noted vs last end
+acts_via a f = let b = f a.final in record { final = b.final; same = a.same ∙ b.same }
+
+acts_tokens : {before : ℕ} {w v us : List Terminal} {goals left : List Goal} {count : ℕ} {noted new : List Noted} → w ≡ v → Acts before v goals count noted us left new → Acts before w goals count noted us left new
+acts_tokens {before = before} {goals = goals} {count = count} {noted = noted} e a = record { final = a.final; same = ap (λ x. run_opened before x goals count noted) e ∙ a.same }
+
+acts_notes : {before : ℕ} {w us : List Terminal} {goals left : List Goal} {count : ℕ} {noted new end : List Noted} → Acts before w goals count noted us left new → new ≡ end → Acts before w goals count noted us left end
+acts_notes {us = us} {left = left} a e = record { final = a.final; same = a.same ∙ ap (λ x. run us left a.final x) e }
+
+acts_once : {before : ℕ} {w us : List Terminal} {goals left : List Goal} {count : ℕ} {noted new : List Noted} (c : ℕ) → run_opened before w goals count noted ≡ run us left c new → Acts before w goals count noted us left new
+acts_once c e = record { final = c; same = e }
+
+acts_after : {before : ℕ} {w us vs : List Terminal} {goals left last : List Goal} {count c : ℕ} {noted new end : List Noted} → run_opened before w goals count noted ≡ run us left c new → Passes us left c new vs last end
+    → Acts before w goals count noted vs last end
+acts_after e a = record { final = a.final; same = e ∙ a.same }
+
+pub then_acts : {before : ℕ} {w v us : List Terminal} {goals others left : List Goal} {count c : ℕ} {noted new end : List Noted} → run w goals count noted ≡ run_opened before v others c new → Acts before v others c new us left end
+    → Passes w goals count noted us left end
+then_acts e a = record { final = a.final; same = e ∙ a.same }
+
+target_put_opened : {ts : List Terminal} {t : TargetTree} (d : g.DerivesTarget ts t) (before depth count : ℕ) (noted : List Noted)
+    → place_opened before depth count (target_marks d) noted ≡ put_opened before depth (target_marks d) noted
+target_put_opened (g.a_target _ _ _ _ _ d) before depth count noted = subscripts_put d depth count (opened_at before depth count plain ∷ noted)
+
+change_pass : {ts : List Terminal} {a : ActionTree} (d : DerivesChange ts a) (before depth : ℕ) (goals : List Goal) (noted : List Noted) (us : List Terminal) → at_first ends_choice us ≡ true
+    → Acts before (ts ++ us) (G.Action depth ∷ goals) 0 noted us goals (put_opened before depth (change_marks d) noted)
+change_pass (g.assigned punct op at ts vs what value e d f) before depth goals noted us end =
+    let front = put_opened before depth (target_marks d) noted in
+    acts_tokens (append_assoc ts (sign punct at ∷ vs) us) (acts_notes (acts_after
+    (target_read d (acting before) depth 0 goals noted (sign punct at ∷ (vs ++ us)) (assignment_no_bracket punct op e)
+    ∙ ap (λ x. run (sign punct at ∷ (vs ++ us)) (G.AfterTarget false true depth (length noted) ∷ goals) 0 x) (target_put_opened d before depth 0 noted)
     ∙ action_assignment punct op at e (vs ++ us) depth (length noted) 0 goals front)
     (assign_pass f depth goals (put_at depth plain ∷ front) us end))
-    (sym (put-append depth (target_marks d) (plain ∷ whole (marks f)) noted)))
-change_pass (g.bumped_behind punct up at ts what e d) depth goals noted us end =
-    same_tokens (append_assoc ts (sign punct at ∷ []) us) (same_notes (at_once 0
-    (target_read d acting depth 0 goals noted (sign punct at ∷ us) (bump_no_bracket punct up e)
-    ∙ ap (λ x. run (sign punct at ∷ us) (G.AfterTarget false true depth (length noted) ∷ goals) 0 x) (target_put d depth 0 noted)
-    ∙ name_bumped acting punct up at e false depth 0 (length noted) goals (put depth (target_marks d) noted) us
-    ∙ skip_operators us end depth (length noted) goals 0 (put_at depth plain ∷ put depth (target_marks d) noted)))
-    (sym (put-append depth (target_marks d) (plain ∷ []) noted)))
-change_pass (g.bumped_before punct up at _ _ e (g.a_target text to ts es free d)) depth goals noted us end =
-    let front = noted_at depth 0 plain ∷ noted in
-    at_once 0 ((bump_start punct up at e depth 0 goals noted (word text to ∷ (ts ++ us))).2
+    (sym (put_opened-append before depth (target_marks d) (plain ∷ whole (marks f)) noted (target_some d))))
+change_pass (g.bumped_behind punct up at ts what e d) before depth goals noted us end =
+    let front = put_opened before depth (target_marks d) noted in
+    acts_tokens (append_assoc ts (sign punct at ∷ []) us) (acts_notes (acts_once 0
+    (target_read d (acting before) depth 0 goals noted (sign punct at ∷ us) (bump_no_bracket punct up e)
+    ∙ ap (λ x. run (sign punct at ∷ us) (G.AfterTarget false true depth (length noted) ∷ goals) 0 x) (target_put_opened d before depth 0 noted)
+    ∙ name_bumped (acting before) punct up at e false depth 0 (length noted) goals front us
+    ∙ skip_operators us end depth (length noted) goals 0 (put_at depth plain ∷ front)))
+    (sym (put_opened-append before depth (target_marks d) (plain ∷ []) noted (target_some d))))
+change_pass (g.bumped_before punct up at _ _ e (g.a_target text to ts es free d)) before depth goals noted us end =
+    let front = opened_at before depth 0 plain ∷ noted in
+    acts_once 0 (bump_action punct up at e before depth 0 goals noted (word text to ∷ (ts ++ us))
     ∙ run_as (word text to) o.Name (ts ++ us) (G.ActionTarget depth (length noted) ∷ goals) 0 front (name_sort text free)
     ∙ subscripts_read d (bumping (length noted)) true depth 0 goals (noted_at depth 0 plain ∷ front) us (weaker ends_operand no_bracket operand_bracket us (for_operand us end))
     ∙ ap (λ x. run us (G.ActionSubscripts depth (length noted) ∷ goals) 0 x) (subscripts_put d depth 0 (noted_at depth 0 plain ∷ front))
     ∙ skip ends_choice (G.ActionSubscripts depth (length noted)) refl (bumping_end depth (length noted)) us end goals 0 (put depth (subscript_marks d) (noted_at depth 0 plain ∷ front)))
 
-action_pass : {ts : List Terminal} {a : ActionTree} (d : DerivesAction ts a) (depth : ℕ) (goals : List Goal) (noted : List Noted) (us : List Terminal) → at_first ends_choice us ≡ true
-    → Passes (ts ++ us) (G.Action depth ∷ goals) 0 noted us goals (put depth (action_marks d) noted)
-action_pass (g.a_change ts a d) depth goals noted us end = change_pass d depth goals noted us end
-action_pass (g.a_value ts value none d) depth goals noted us end =
-    at_once (count_after 0 (marks d)) ((claims d).as_choice (omega arith) acting depth 0 goals noted us end (inr none) ∙ ap (λ x. run us goals (count_after 0 (marks d)) x) (sym (put-whole depth (marks d) noted)))
+action_pass : {ts : List Terminal} {a : ActionTree} (d : DerivesAction ts a) (before depth : ℕ) (goals : List Goal) (noted : List Noted) (us : List Terminal) → at_first ends_choice us ≡ true
+    → Acts before (ts ++ us) (G.Action depth ∷ goals) 0 noted us goals (put_opened before depth (action_marks d) noted)
+action_pass (g.a_change ts a d) before depth goals noted us end = change_pass d before depth goals noted us end
+action_pass (g.a_value ts value none d) before depth goals noted us end =
+    acts_once (count_after 0 (marks d)) ((claims d).as_choice (omega arith) (acting before) depth 0 goals noted us end (inr none)
+    ∙ ap (λ x. run us goals (count_after 0 (marks d)) x) (sym (put_opened-whole before depth (marks d) noted)))
 
-pub action_list_pass : {ts : List Terminal} {all : List ActionTree} (d : DerivesActionList ts all) (depth : ℕ) (goals : List Goal) (noted : List Noted) (us : List Terminal) → at_first ends_choice us ≡ true
-    → Passes (ts ++ us) (G.Action depth ∷ G.MoreActions depth ∷ goals) 0 noted us (G.MoreActions depth ∷ goals) (put depth (action_list_marks d) noted)
-action_list_pass (g.last_action ts a d) depth goals noted us end = action_pass d depth (G.MoreActions depth ∷ goals) noted us end
-action_list_pass (g.more_actions at ts vs a rest d ds) depth goals noted us end =
-    let front = put depth (action_marks d) noted in
-    same_tokens (append_assoc ts (sign p.Comma at ∷ vs) us) (same_notes (via (action_pass d depth (G.MoreActions depth ∷ goals) noted (sign p.Comma at ∷ (vs ++ us)) refl)
-    (λ c. after_run refl (action_list_pass ds depth goals (put_at depth plain ∷ front) us end)))
-    (sym (put-append depth (action_marks d) (plain ∷ action_list_marks ds) noted)))
+change_some : {ts : List Terminal} {a : ActionTree} (d : DerivesChange ts a) → SomeMarks (change_marks d)
+change_some (g.assigned _ _ _ _ _ _ _ _ d e) = marks_more (target_marks d) (plain ∷ whole (marks e)) (target_some d)
+change_some (g.bumped_behind _ _ _ _ _ _ d) = marks_more (target_marks d) (plain ∷ []) (target_some d)
+change_some (g.bumped_before _ _ _ _ _ _ d) = from_plain (target_marks d)
+
+action_some_marks : {ts : List Terminal} {a : ActionTree} (d : DerivesAction ts a) → SomeMarks (action_marks d)
+action_some_marks (g.a_change _ _ d) = change_some d
+action_some_marks (g.a_value _ _ _ d) = whole_some (marks d) (some_marks d)
+
+pub action_list_some : {ts : List Terminal} {all : List ActionTree} (d : DerivesActionList ts all) → SomeMarks (action_list_marks d)
+action_list_some (g.last_action _ _ d) = action_some_marks d
+action_list_some (g.more_actions _ _ _ _ _ d ds) = marks_more (action_marks d) (plain ∷ action_list_marks ds) (action_some_marks d)
+
+-- the constructs that are open before an action are those that hold it
+action_opened : (depth : ℕ) (goals : List Goal) (spot : Spot) (sort : Sort) → opened depth (next (G.Action depth ∷ goals) spot sort) ≡ next (G.Action depth ∷ goals) spot sort
+action_opened depth goals spot o.Name = refl
+action_opened depth goals spot o.Number = refl
+action_opened depth goals spot o.LeftParen = refl
+action_opened depth goals spot o.Prefix = refl
+action_opened depth goals spot o.Sign = refl
+action_opened depth goals spot o.Bump = refl
+action_opened depth goals spot _ = refl
+
+action_run : (us : List Terminal) (depth : ℕ) (goals : List Goal) (count : ℕ) (noted : List Noted) → run us (G.Action depth ∷ goals) count noted ≡ run_opened depth us (G.Action depth ∷ goals) count noted
+action_run [] depth goals count noted = refl
+action_run (t ∷ us) depth goals count noted = ap (λ x. going x noted (run us)) (sym (action_opened depth goals (spot_at noted count) (sort_of t.kind)))
+
+action_list_pass : {ts : List Terminal} {all : List ActionTree} (d : DerivesActionList ts all) (before depth : ℕ) (goals : List Goal) (noted : List Noted) (us : List Terminal) → at_first ends_choice us ≡ true
+    → Acts before (ts ++ us) (G.Action depth ∷ G.MoreActions depth ∷ goals) 0 noted us (G.MoreActions depth ∷ goals) (put_opened before depth (action_list_marks d) noted)
+action_list_pass (g.last_action ts a d) before depth goals noted us end = action_pass d before depth (G.MoreActions depth ∷ goals) noted us end
+action_list_pass (g.more_actions at ts vs a rest d ds) before depth goals noted us end =
+    let front = put_opened before depth (action_marks d) noted in
+    acts_tokens (append_assoc ts (sign p.Comma at ∷ vs) us) (acts_notes (acts_via (action_pass d before depth (G.MoreActions depth ∷ goals) noted (sign p.Comma at ∷ (vs ++ us)) refl)
+    (λ c. then_acts (action_run (vs ++ us) depth (G.MoreActions depth ∷ goals) 0 (put_at depth plain ∷ front)) (action_list_pass ds depth depth goals (put_at depth plain ∷ front) us end)))
+    (put_opened-same depth (action_list_marks ds) (put_at depth plain ∷ front) (action_list_some ds)
+    ∙ sym (put_opened-append before depth (action_marks d) (plain ∷ action_list_marks ds) noted (action_some_marks d))))
 
 more_actions_end : (depth : ℕ) (spot : Spot) (sort : Sort) → ends_all sort ≡ true → step_of (G.MoreActions depth) spot sort ≡ None
 more_actions_end depth spot o.Comma e = absurd cc
 more_actions_end depth spot _ e = refl
 
 -- all actions
+pub opened_actions_pass : {ts : List Terminal} {all : List ActionTree} (d : DerivesActionList ts all) (before depth : ℕ) (goals : List Goal) (noted : List Noted) (us : List Terminal) → at_first ends_all us ≡ true
+    → Acts before (ts ++ us) (G.Action depth ∷ G.MoreActions depth ∷ goals) 0 noted us goals (put_opened before depth (action_list_marks d) noted)
+opened_actions_pass d before depth goals noted us end =
+    acts_via (action_list_pass d before depth goals noted us (for_choice us end))
+    (λ c. at_once c (skip ends_all (G.MoreActions depth) refl (more_actions_end depth) us end goals c (put_opened before depth (action_list_marks d) noted)))
+
 pub all_actions_pass : {ts : List Terminal} {all : List ActionTree} (d : DerivesActionList ts all) (depth : ℕ) (goals : List Goal) (noted : List Noted) (us : List Terminal) → at_first ends_all us ≡ true
     → Passes (ts ++ us) (G.Action depth ∷ G.MoreActions depth ∷ goals) 0 noted us goals (put depth (action_list_marks d) noted)
-all_actions_pass d depth goals noted us end =
-    via (action_list_pass d depth goals noted us (for_choice us end)) (λ c. at_once c (skip ends_all (G.MoreActions depth) refl (more_actions_end depth) us end goals c (put depth (action_list_marks d) noted)))
+all_actions_pass {ts} d depth goals noted us end =
+    same_notes (then_acts (action_run (ts ++ us) depth (G.MoreActions depth ∷ goals) 0 noted) (opened_actions_pass d depth depth goals noted us end))
+    (put_opened-same depth (action_list_marks d) noted (action_list_some d))
 
 -- what an action begins with
 change_starts : {ts : List Terminal} {a : ActionTree} → DerivesChange ts a → Starts ts

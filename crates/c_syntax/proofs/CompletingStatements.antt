@@ -14,13 +14,13 @@ use Rattle.c_syntax.specs.declared.goal.Spot.{Spot}
 use Rattle.c_syntax.specs.declared.sort.Sort.{Sort}
 use Rattle.c_syntax.specs.declared.sort.Sort.TheVariants as o
 use Rattle.c_syntax.specs.Sorts.{sort_of, begins_operand, begins_kind}
-use Rattle.c_syntax.specs.Steps.{deeper, fresh, step_of, taken_or, next, behind, kind, object_goals, declaration, statement, body, first, first_action}
-use Rattle.c_syntax.specs.Notes.{Noted}
-use Rattle.c_syntax.proofs.Marking.{run, going, put, put_at, put-append, put-pair, put-held}
-use Rattle.c_syntax.proofs.Completing.{at_first, spot_at, skip}
+use Rattle.c_syntax.specs.Steps.{deeper, fresh, opened, step_of, taken_or, next, behind, kind, object_goals, declaration, statement, body, first, first_action}
+use Rattle.c_syntax.proofs.Noting.{Noted}
+use Rattle.c_syntax.proofs.Marking.{run, going, put, put_at, put-append, put-pair, SomeMarks, marks_more, from_plain, opening, put_opened, put_opened-append, put-held, put-held-plain}
+use Rattle.c_syntax.proofs.Completing.{at_first, spot_at, skip, run_opened}
 use Rattle.c_syntax.proofs.CompletingTypes.{StartsKind, kind_starts}
 use Rattle.c_syntax.proofs.CompletingExpressions.{taken_behind}
-use Rattle.c_syntax.proofs.CompletingObjects.{Passes, via, same_tokens, same_notes, at_once, after_run, expression_pass, choice_pass, optional_expression_pass, all_actions_pass, action_list_starts, actions_pass, declaration_run}
+use Rattle.c_syntax.proofs.CompletingObjects.{Passes, via, same_tokens, same_notes, at_once, after_run, expression_pass, choice_pass, optional_expression_pass, then_acts, opened_actions_pass, all_actions_pass, action_list_some, action_list_starts, actions_pass, declaration_run}
 
 -- ---- an expression in parentheses
 
@@ -152,7 +152,7 @@ first_declaration us s depth goals count noted =
 -- ---- actions that are a statement, or the first part of a `for`
 
 statement_action : (depth : ℕ) (goals : List Goal) (spot : Spot) (sort : Sort) (noted : List Noted) (F : List Goal → ℕ → List Noted → Option (List Noted)) → begins_operand sort ≡ true
-    → going (next (G.Statement depth ∷ goals) spot sort) noted F ≡ going (next (G.Action (deeper depth) ∷ G.MoreActions (deeper depth) ∷ G.Semicolon (deeper depth) ∷ goals) (fresh spot) sort) noted F
+    → going (next (G.Statement depth ∷ goals) spot sort) noted F ≡ going (opened depth (next (G.Action (deeper depth) ∷ G.MoreActions (deeper depth) ∷ G.Semicolon (deeper depth) ∷ goals) (fresh spot) sort)) noted F
 statement_action depth goals spot o.Name noted F e = refl
 statement_action depth goals spot o.Number noted F e = refl
 statement_action depth goals spot o.LeftParen noted F e = refl
@@ -171,17 +171,21 @@ first_actions depth goals spot o.Sign noted F e = refl
 first_actions depth goals spot o.Bump noted F e = refl
 first_actions depth goals spot _ noted F e = absurd cc
 
+act_marks : {ts : List Terminal} {all : List ActionTree} (d : DerivesActions ts all) → SomeMarks (actions_marks d ++ plain ∷ [])
+act_marks g.no_action = from_plain []
+act_marks (g.actions ts all d) = marks_more (action_list_marks d) (plain ∷ []) (action_list_some d)
+
 act_pass : {ts : List Terminal} {all : List ActionTree} (d : DerivesActions ts all) (ends : Place) (depth count : ℕ) (goals : List Goal) (noted : List Noted) (us : List Terminal)
-    → Passes ((ts ++ sign p.Semicolon ends ∷ []) ++ us) (G.Statement depth ∷ goals) count noted us goals (put (deeper depth) (actions_marks d ++ plain ∷ []) noted)
+    → Passes ((ts ++ sign p.Semicolon ends ∷ []) ++ us) (G.Statement depth ∷ goals) count noted us goals (put_opened depth (deeper depth) (actions_marks d ++ plain ∷ []) noted)
 act_pass g.no_action ends depth count goals noted us = at_once 0 refl
 act_pass (g.actions ts all d) ends depth count goals noted us =
     let inner = deeper depth in let left = G.Semicolon inner ∷ goals in let s = action_list_starts d in let w = s.rest ++ sign p.Semicolon ends ∷ us in
     same_tokens (append_assoc ts (sign p.Semicolon ends ∷ []) us)
-    (same_notes (after_run (ap (λ x. run (x ++ sign p.Semicolon ends ∷ us) (G.Statement depth ∷ goals) count noted) s.shape
+    (same_notes (via (then_acts (ap (λ x. run (x ++ sign p.Semicolon ends ∷ us) (G.Statement depth ∷ goals) count noted) s.shape
     ∙ statement_action depth goals (spot_at noted count) (sort_of s.first.kind) noted (run w) s.begins
-    ∙ ap (λ x. run (x ++ sign p.Semicolon ends ∷ us) (G.Action inner ∷ G.MoreActions inner ∷ left) 0 noted) (sym s.shape))
-    (via (all_actions_pass d inner left noted (sign p.Semicolon ends ∷ us) refl) (λ c. at_once 0 refl)))
-    (sym (put-append inner (action_list_marks d) (plain ∷ []) noted)))
+    ∙ ap (λ x. run_opened depth (x ++ sign p.Semicolon ends ∷ us) (G.Action inner ∷ G.MoreActions inner ∷ left) 0 noted) (sym s.shape))
+    (opened_actions_pass d depth inner left noted (sign p.Semicolon ends ∷ us) refl)) (λ c. at_once 0 refl))
+    (sym (put_opened-append depth inner (action_list_marks d) (plain ∷ []) noted (action_list_some d))))
 
 -- the first part of a `for`
 first_run : {ts : List Terminal} {f : FirstTree} (d : DerivesFirst ts f) (depth : ℕ) (goals : List Goal) (noted : List Noted) (us : List Terminal)
@@ -237,56 +241,56 @@ mutual
       → Passes (ts ++ us) (G.Statement depth ∷ goals) count noted us goals (put depth (statement_marks d) noted)
   statement_pass (g.a_block _ _ (g.braces opens closes ts b d)) depth count goals noted us end =
       let inner = deeper depth in
-      same_notes (after_run (ap (λ x. run x (G.Body inner ∷ goals) 0 (put_at inner plain ∷ noted)) (append_assoc ts (sign p.RightBrace closes ∷ []) us))
-      (body_pass d inner 0 goals (put_at inner plain ∷ noted) closes us))
-      (sym (put-held depth (plain ∷ (body_marks d ++ plain ∷ [])) noted))
+      same_notes (after_run (ap (λ x. run x (G.Body inner ∷ goals) 0 (opening depth ∷ noted)) (append_assoc ts (sign p.RightBrace closes ∷ []) us))
+      (body_pass d inner 0 goals (opening depth ∷ noted) closes us))
+      (sym (put-held-plain depth (body_marks d ++ plain ∷ []) noted))
   statement_pass (g.an_act ends ts all d) depth count goals noted us end =
-      same_notes (act_pass d ends depth count goals noted us) (sym (put-held depth (actions_marks d ++ plain ∷ []) noted))
+      same_notes (act_pass d ends depth count goals noted us) (sym (put-held depth (actions_marks d ++ plain ∷ []) noted (act_marks d)))
   statement_pass (g.an_if at opens closes ts ys test b d e) depth count goals noted us end =
-      let inner = deeper depth in let left = G.Statement inner ∷ G.Else inner ∷ goals in let front = put_at inner plain ∷ noted in
+      let inner = deeper depth in let left = G.Statement inner ∷ G.Else inner ∷ goals in let front = opening depth ∷ noted in
       same_notes (after_run (ap (λ x. run (sign p.LeftParen opens ∷ x) (G.OpenParen inner ∷ G.Expression (deeper inner) ∷ G.CloseParen inner 0 ∷ left) 0 front) (append_assoc ts (sign p.RightParen closes ∷ ys) us))
       (via (test_pass d opens closes inner 0 left front (ys ++ us)) (λ c.
       via (statement_pass e inner c (G.Else inner ∷ goals) (put_at inner closing ∷ put (deeper inner) (whole (marks d)) (put_at inner plain ∷ front)) us (λ h. end refl)) (λ k.
       at_once k (skip no_else (G.Else inner) refl (else_end inner) us (end refl) goals k
       (put inner (statement_marks e) (put_at inner closing ∷ put (deeper inner) (whole (marks d)) (put_at inner plain ∷ front))))))))
-      (sym (put-held depth (plain ∷ pair (whole (marks d)) (statement_marks e)) noted ∙ put-pair inner (whole (marks d)) (statement_marks e) front))
+      (sym (put-held-plain depth (pair (whole (marks d)) (statement_marks e)) noted ∙ put-pair inner (whole (marks d)) (statement_marks e) front))
   statement_pass (g.an_if_else at opens closes other ts ys ns test b second d e h f) depth count goals noted us end =
-      let inner = deeper depth in let left = G.Statement inner ∷ G.Else inner ∷ goals in let front = put_at inner plain ∷ noted in
+      let inner = deeper depth in let left = G.Statement inner ∷ G.Else inner ∷ goals in let front = opening depth ∷ noted in
       let tested = put_at inner closing ∷ put (deeper inner) (whole (marks d)) (put_at inner plain ∷ front) in
       same_notes (after_run (ap (λ x. run (sign p.LeftParen opens ∷ x) (G.OpenParen inner ∷ G.Expression (deeper inner) ∷ G.CloseParen inner 0 ∷ left) 0 front)
       (append_assoc ts (sign p.RightParen closes ∷ (ys ++ word (codes "else") other ∷ ns)) us ∙ ap (λ x. ts ++ sign p.RightParen closes ∷ x) (append_assoc ys (word (codes "else") other ∷ ns) us)))
       (via (test_pass d opens closes inner 0 left front (ys ++ word (codes "else") other ∷ (ns ++ us))) (λ c.
       via (statement_pass e inner c (G.Else inner ∷ goals) tested (word (codes "else") other ∷ (ns ++ us)) (λ k. absurd (let x : true ≡ false = sym k ∙ h in cc))) (λ k.
       after_run refl (statement_pass f inner k goals (put_at inner plain ∷ put inner (statement_marks e) tested) us end)))))
-      (sym (put-held depth (plain ∷ pair (whole (marks d)) (statement_marks e ++ plain ∷ statement_marks f)) noted ∙ put-pair inner (whole (marks d)) (statement_marks e ++ plain ∷ statement_marks f) front
+      (sym (put-held-plain depth (pair (whole (marks d)) (statement_marks e ++ plain ∷ statement_marks f)) noted ∙ put-pair inner (whole (marks d)) (statement_marks e ++ plain ∷ statement_marks f) front
       ∙ put-append inner (statement_marks e) (plain ∷ statement_marks f) tested))
   statement_pass (g.a_switch at opens closes ts _ test _ d (g.braces lb rb us' b e)) depth count goals noted us end =
-      let inner = deeper depth in let left = G.Block inner ∷ goals in let front = put_at inner plain ∷ noted in
+      let inner = deeper depth in let left = G.Block inner ∷ goals in let front = opening depth ∷ noted in
       let tested = put_at inner closing ∷ put (deeper inner) (whole (marks d)) (put_at inner plain ∷ front) in
       same_notes (after_run (ap (λ x. run (sign p.LeftParen opens ∷ x) (G.OpenParen inner ∷ G.Expression (deeper inner) ∷ G.CloseParen inner 0 ∷ left) 0 front)
       (append_assoc ts (sign p.RightParen closes ∷ sign p.LeftBrace lb ∷ (us' ++ sign p.RightBrace rb ∷ [])) us))
       (via (test_pass d opens closes inner 0 left front (sign p.LeftBrace lb ∷ ((us' ++ sign p.RightBrace rb ∷ []) ++ us))) (λ c.
-      after_run (ap (λ x. run x (G.Body (deeper inner) ∷ goals) c (put_at (deeper inner) plain ∷ tested)) (append_assoc us' (sign p.RightBrace rb ∷ []) us))
-      (body_pass e (deeper inner) c goals (put_at (deeper inner) plain ∷ tested) rb us))))
-      (sym (put-held depth (plain ∷ pair (whole (marks d)) (held (plain ∷ (body_marks e ++ plain ∷ [])))) noted
-      ∙ put-pair inner (whole (marks d)) (held (plain ∷ (body_marks e ++ plain ∷ []))) front ∙ put-held inner (plain ∷ (body_marks e ++ plain ∷ [])) tested))
+      after_run (ap (λ x. run x (G.Body (deeper inner) ∷ goals) c (opening inner ∷ tested)) (append_assoc us' (sign p.RightBrace rb ∷ []) us))
+      (body_pass e (deeper inner) c goals (opening inner ∷ tested) rb us))))
+      (sym (put-held-plain depth (pair (whole (marks d)) (held (plain ∷ (body_marks e ++ plain ∷ [])))) noted
+      ∙ put-pair inner (whole (marks d)) (held (plain ∷ (body_marks e ++ plain ∷ []))) front ∙ put-held-plain inner (body_marks e ++ plain ∷ []) tested))
   statement_pass (g.a_case at colon ts us' value b d e) depth count goals noted us end =
-      let inner = deeper depth in let left = G.LabelColon inner ∷ G.Statement inner ∷ goals in let front = put_at inner plain ∷ noted in
+      let inner = deeper depth in let left = G.LabelColon inner ∷ G.Statement inner ∷ goals in let front = opening depth ∷ noted in
       same_notes (after_run (ap (λ x. run x (G.Choice inner ∷ left) 0 front) (append_assoc ts (sign p.Colon colon ∷ us') us))
       (via (choice_pass d inner left front (sign p.Colon colon ∷ (us' ++ us)) refl) (λ c.
       after_run refl (statement_pass e inner 0 goals (put_at inner plain ∷ put inner (whole (marks d)) front) us end))))
-      (sym (put-held depth (plain ∷ (whole (marks d) ++ plain ∷ statement_marks e)) noted ∙ put-append inner (whole (marks d)) (plain ∷ statement_marks e) front))
+      (sym (put-held-plain depth (whole (marks d) ++ plain ∷ statement_marks e) noted ∙ put-append inner (whole (marks d)) (plain ∷ statement_marks e) front))
   statement_pass (g.a_default at colon us' b e) depth count goals noted us end =
       let inner = deeper depth in
-      same_notes (after_run refl (statement_pass e inner 0 goals (put_at inner plain ∷ put_at inner plain ∷ noted) us end)) (sym (put-held depth (plain ∷ plain ∷ statement_marks e) noted))
+      same_notes (after_run refl (statement_pass e inner 0 goals (put_at inner plain ∷ opening depth ∷ noted) us end)) (sym (put-held-plain depth (plain ∷ statement_marks e) noted))
   statement_pass (g.a_while at opens closes ts us' test b d e) depth count goals noted us end =
-      let inner = deeper depth in let left = G.Statement inner ∷ goals in let front = put_at inner plain ∷ noted in
+      let inner = deeper depth in let left = G.Statement inner ∷ goals in let front = opening depth ∷ noted in
       same_notes (after_run (ap (λ x. run (sign p.LeftParen opens ∷ x) (G.OpenParen inner ∷ G.Expression (deeper inner) ∷ G.CloseParen inner 0 ∷ left) 0 front) (append_assoc ts (sign p.RightParen closes ∷ us') us))
       (via (test_pass d opens closes inner 0 left front (us' ++ us)) (λ c.
       statement_pass e inner c goals (put_at inner closing ∷ put (deeper inner) (whole (marks d)) (put_at inner plain ∷ front)) us end)))
-      (sym (put-held depth (plain ∷ pair (whole (marks d)) (statement_marks e)) noted ∙ put-pair inner (whole (marks d)) (statement_marks e) front))
+      (sym (put-held-plain depth (pair (whole (marks d)) (statement_marks e)) noted ∙ put-pair inner (whole (marks d)) (statement_marks e) front))
   statement_pass (g.a_do at again opens closes ends us' ts b test d e) depth count goals noted us end =
-      let inner = deeper depth in let front = put_at inner plain ∷ noted in
+      let inner = deeper depth in let front = opening depth ∷ noted in
       let rest = G.Again inner ∷ G.OpenParen inner ∷ G.Expression (deeper inner) ∷ G.CloseParen inner 0 ∷ G.Semicolon inner ∷ goals in
       let middle = put_at inner plain ∷ put inner (statement_marks d) front in
       let tail = word (codes "while") again ∷ sign p.LeftParen opens ∷ (ts ++ sign p.RightParen closes ∷ sign p.Semicolon ends ∷ us) in
@@ -295,10 +299,10 @@ mutual
       ∙ ap (λ x. us' ++ word (codes "while") again ∷ sign p.LeftParen opens ∷ x) (append_assoc ts (sign p.RightParen closes ∷ sign p.Semicolon ends ∷ []) us)))
       (via (statement_pass d inner 0 rest front tail (λ k. refl)) (λ c.
       after_run refl (via (test_pass e opens closes inner 0 (G.Semicolon inner ∷ goals) middle (sign p.Semicolon ends ∷ us)) (λ k. at_once 0 refl)))))
-      (sym (put-held depth (plain ∷ (statement_marks d ++ plain ∷ pair (whole (marks e)) (plain ∷ []))) noted
+      (sym (put-held-plain depth (statement_marks d ++ plain ∷ pair (whole (marks e)) (plain ∷ [])) noted
       ∙ put-append inner (statement_marks d) (plain ∷ pair (whole (marks e)) (plain ∷ [])) front ∙ put-pair inner (whole (marks e)) (plain ∷ []) middle))
   statement_pass (g.a_for at opens ends closes is ts ss us' init test step b di dt ds e) depth count goals noted us end =
-      let inner = deeper depth in let deep = deeper inner in let front = put_at inner plain ∷ noted in let opened = put_at inner plain ∷ front in
+      let inner = deeper depth in let deep = deeper inner in let front = opening depth ∷ noted in let opened = put_at inner plain ∷ front in
       let after_first = G.OptionalExpression deep ∷ G.Semicolon deep ∷ G.Actions deep ∷ G.CloseParen inner 0 ∷ G.Statement inner ∷ goals in
       let after_test = G.Semicolon deep ∷ G.Actions deep ∷ G.CloseParen inner 0 ∷ G.Statement inner ∷ goals in
       let behind_test = ss ++ sign p.RightParen closes ∷ (us' ++ us) in
@@ -309,15 +313,15 @@ mutual
       (via (optional_expression_pass dt deep after_test one (sign p.Semicolon ends ∷ behind_test) refl refl) (λ c.
       after_run refl (via (actions_pass ds deep (G.CloseParen inner 0 ∷ G.Statement inner ∷ goals) two (sign p.RightParen closes ∷ (us' ++ us)) refl refl) (λ k.
       after_run refl (statement_pass e inner 0 goals (put_at inner closing ∷ three) us end))))))
-      (sym (put-held depth (plain ∷ pair ms (statement_marks e)) noted ∙ put-pair inner ms (statement_marks e) front
+      (sym (put-held-plain depth (pair ms (statement_marks e)) noted ∙ put-pair inner ms (statement_marks e) front
       ∙ ap (λ x. put inner (statement_marks e) (put_at inner closing ∷ x)) (put-append deep (first_marks di) (optional_marks dt ++ plain ∷ actions_marks ds) opened ∙ put-append deep (optional_marks dt) (plain ∷ actions_marks ds) one)))
   statement_pass (g.a_break at ends) depth count goals noted us end = at_once 0 refl
   statement_pass (g.a_continue at ends) depth count goals noted us end = at_once 0 refl
   statement_pass (g.a_return at ends ts value d) depth count goals noted us end =
-      let inner = deeper depth in let front = put_at inner plain ∷ noted in
+      let inner = deeper depth in let front = opening depth ∷ noted in
       same_notes (after_run (ap (λ x. run x (G.OptionalExpression inner ∷ G.Semicolon inner ∷ goals) 0 front) (append_assoc ts (sign p.Semicolon ends ∷ []) us))
       (via (optional_expression_pass d inner (G.Semicolon inner ∷ goals) front (sign p.Semicolon ends ∷ us) refl refl) (λ c. at_once 0 refl)))
-      (sym (put-held depth (plain ∷ (optional_marks d ++ plain ∷ [])) noted ∙ put-append inner (optional_marks d) (plain ∷ []) front))
+      (sym (put-held-plain depth (optional_marks d ++ plain ∷ []) noted ∙ put-append inner (optional_marks d) (plain ∷ []) front))
 
   pub body_pass : {ts : List Terminal} {b : StmtTrees} (d : DerivesBody ts b) (depth count : ℕ) (goals : List Goal) (noted : List Noted) (closes : Place) (us : List Terminal)
       → Passes (ts ++ sign p.RightBrace closes ∷ us) (G.Body depth ∷ goals) count noted us goals (put depth (body_marks d ++ plain ∷ []) noted)

@@ -20,7 +20,7 @@ use Rattle.c_syntax.specs.Sorts.{sort_of, begins_kind}
 use Rattle.c_syntax.specs.Steps.{step_of, taken_or, next, with_word, starting, typed_if}
 use Rattle.c_syntax.proofs.Seen.{specifier_sort}
 use Rattle.c_syntax.proofs.TypeWords.{Same, words_of, is_state, grows, starts, blocked, type_of-Same, same_more, same_trans, same_middle, void_first, void_alone}
-use Rattle.c_syntax.specs.Notes.{Noted}
+use Rattle.c_syntax.proofs.Noting.{Noted}
 use Rattle.c_syntax.proofs.Marking.{run, going, place, noted_at}
 use Rattle.c_syntax.proofs.Completing.{at_first, run_as, skip, spot_at}
 

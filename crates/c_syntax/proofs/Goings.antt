@@ -7,12 +7,6 @@ use Rattle.c_syntax.specs.declared.goal.Take.{Take}
 use Rattle.c_syntax.specs.declared.sort.Sort.{Sort}
 use Rattle.c_syntax.specs.Steps.{Step, Steps, StepsOrStays, step_of, is_optional, taken_or, next, first_open, open_before}
 
-pub record Taken (goals new : List Goal) (spot : Spot) (sort : Sort) (how : Take) : Type 0 where
-  pub step : Step
-  pub next_is : next goals spot sort ≡ Some step
-  pub how_is : how ≡ step.how
-  pub new_is : new ≡ step.goals
-
 taken_by : (found : Option Step) (how : Take) (popped new : List Goal) → Steps (Some how) popped new found → (optional : Bool) (other : Option Step)
     → (step : Step) × (taken_or found optional popped other ≡ Some step) × (how ≡ step.how) × (new ≡ step.goals)
 taken_by None how popped new s optional other = absurd s

@@ -9,7 +9,7 @@ use Rattle.c_syntax.specs.declared.goal.Raise.{Raise}
 use Rattle.c_syntax.specs.declared.goal.Raise.TheVariants as r
 use Rattle.c_syntax.specs.Sorts.{sort_of}
 use Rattle.c_syntax.specs.Steps.{Step, deeper, next, all_optional}
-use Rattle.c_syntax.specs.Notes.{Noted, within, hold_behind, hold_from, raised, is_beyond, entry}
+use Rattle.c_syntax.proofs.Noting.{Noted, within, heading, hold_behind, hold_from, raised, is_beyond, entry}
 use Rattle.c_syntax.proofs.Marking.{note, going, run, sink, sink-deeper, put, put_at, StandsFor, stands_zero, stands_deeper, same_test}
 use Rattle.c_syntax.proofs.Completing.{spot_at}
 
@@ -21,38 +21,38 @@ deeper_more n = step (nat_lt n 255)
     step true = omega arith
     step false = omega arith
 
--- as many tokens, each held by as many constructs or more
+-- as many tokens, each held by as many constructs or more, and with as many open before it or more
 pub data Grown : List Noted → List Noted → Type 0 where
   none : Grown [] []
-  one : (m n : Noted) (ms ns : List Noted) → m.nesting ≤ n.nesting → m.surplus ≡ n.surplus → Grown ms ns → Grown (m ∷ ms) (n ∷ ns)
+  one : (m n : Noted) (ms ns : List Noted) → m.nesting ≤ n.nesting → m.surplus ≡ n.surplus → m.open_before ≤ n.open_before → Grown ms ns → Grown (m ∷ ms) (n ∷ ns)
 
 grown_same : (ms : List Noted) → Grown ms ms
 grown_same [] = none
-grown_same (m ∷ ms) = one m m ms ms (omega arith) refl (grown_same ms)
+grown_same (m ∷ ms) = one m m ms ms (omega arith) refl (omega arith) (grown_same ms)
 
 pub grown_length : {ms ns : List Noted} → Grown ms ns → length ms ≡ length ns
 grown_length none = refl
-grown_length (one m n ms ns le e g) = ap suc (grown_length g)
+grown_length (one m n ms ns le e lo g) = ap suc (grown_length g)
 
 pub grown_then : {ms ns : List Noted} → Grown ms ns → {us : List Noted} → Grown ns us → Grown ms us
 grown_then none none = none
-grown_then (one m n ms ns le e g) (one _ u _ us le' e' h) = one m u ms us (omega (arith, le, le')) (e ∙ e') (grown_then g h)
+grown_then (one m n ms ns le e lo g) (one _ u _ us le' e' lo' h) = one m u ms us (omega (arith, le, le')) (e ∙ e') (omega (arith, lo, lo')) (grown_then g h)
 
 behind_grown : (n : ℕ) (ms : List Noted) → Grown ms (hold_behind n ms)
 behind_grown n [] = none
 behind_grown n (m ∷ ms) = step (nat_lt n (length ms)) (behind_grown n ms)
   where
     step : (b : Bool) → Grown ms (hold_behind n ms) → Grown (m ∷ ms) (if b then within m ∷ hold_behind n ms else (m ∷ ms))
-    step true rest = one m (within m) ms (hold_behind n ms) (deeper_more m.nesting) refl rest
+    step true rest = one m (within m) ms (hold_behind n ms) (deeper_more m.nesting) refl (deeper_more m.open_before) rest
     step false rest = grown_same (m ∷ ms)
 
 from_grown : (n : ℕ) (ms : List Noted) → Grown ms (hold_from n ms)
 from_grown n [] = none
 from_grown n (m ∷ ms) = step (nat_lt n (length ms)) (nat_eq n (length ms)) (from_grown n ms)
   where
-    step : (b c : Bool) → Grown ms (hold_from n ms) → Grown (m ∷ ms) (if b then within m ∷ hold_from n ms else (if c then within m ∷ ms else (m ∷ ms)))
-    step true c rest = one m (within m) ms (hold_from n ms) (deeper_more m.nesting) refl rest
-    step false true rest = one m (within m) ms ms (deeper_more m.nesting) refl (grown_same ms)
+    step : (b c : Bool) → Grown ms (hold_from n ms) → Grown (m ∷ ms) (if b then within m ∷ hold_from n ms else (if c then heading m ∷ ms else (m ∷ ms)))
+    step true c rest = one m (within m) ms (hold_from n ms) (deeper_more m.nesting) refl (deeper_more m.open_before) rest
+    step false true rest = one m (heading m) ms ms (deeper_more m.nesting) refl (omega arith) (grown_same ms)
     step false false rest = grown_same (m ∷ ms)
 
 pub raised_grown : (raise : Raise) (ms : List Noted) → Grown ms (raised raise ms)
@@ -70,7 +70,7 @@ pub record Extends (ms end : List Noted) : Type 0 where
   pub grown : Grown ms old
 
 grown_tail : (m : Noted) (ms old : List Noted) → Grown (m ∷ ms) old → (n : Noted) × (ns : List Noted) × (old ≡ n ∷ ns) × Grown ms ns
-grown_tail m ms _ (one _ n _ ns le e g) = (n, ns, refl, g)
+grown_tail m ms _ (one _ n _ ns le e lo g) = (n, ns, refl, g)
 
 extends_less : (m : Noted) (ms end : List Noted) → Extends (m ∷ ms) end → Extends ms end
 extends_less m ms end x =
@@ -111,7 +111,7 @@ entry-append (m ∷ front) ms i below =
 
 pub grown_entry : {ms ns : List Noted} → Grown ms ns → (i : ℕ) → ((entry ms i).nesting ≤ (entry ns i).nesting) × ((entry ms i).surplus ≡ (entry ns i).surplus)
 grown_entry none i = (omega arith, refl)
-grown_entry (one m n ms ns le e g) i =
+grown_entry (one m n ms ns le e lo g) i =
     subst (λ k. ((if nat_eq i (length ms) then m else entry ms i).nesting ≤ (if nat_eq i k then n else entry ns i).nesting) × ((if nat_eq i (length ms) then m else entry ms i).surplus ≡ (if nat_eq i k then n else entry ns i).surplus))
     (grown_length g) (step (nat_eq i (length ms)) (grown_entry g i))
   where
@@ -130,6 +130,20 @@ grown_beyond {ms} {ns} g i e =
     let h = grown_entry g i in
     subst (λ b. (nat_lt 64 (entry ns i).nesting || b) ≡ true) h.1
     (or_cases (nat_lt 64 (entry ms i).nesting) (entry ms i).surplus (nat_lt 64 (entry ns i).nesting) (λ x. lt-ltb 64 (entry ns i).nesting (let y = ltb-true 64 (entry ms i).nesting x in let le = h.0 in omega (arith, y, le))) e)
+
+-- ---- the constructs that are open before a token
+
+pub grown_open : {ms ns : List Noted} → Grown ms ns → (i : ℕ) → (entry ms i).open_before ≤ (entry ns i).open_before
+grown_open none i = omega arith
+grown_open (one m n ms ns le e lo g) i =
+    subst (λ k. (if nat_eq i (length ms) then m else entry ms i).open_before ≤ (if nat_eq i k then n else entry ns i).open_before) (grown_length g) (step (nat_eq i (length ms)) (grown_open g i))
+  where
+    step : (b : Bool) → (entry ms i).open_before ≤ (entry ns i).open_before → (if b then m else entry ms i).open_before ≤ (if b then n else entry ns i).open_before
+    step true rest = lo
+    step false rest = rest
+
+pub last_entry : (m : Noted) (ms : List Noted) (i : ℕ) → i ≡ length ms → entry (m ∷ ms) i ≡ m
+last_entry m ms i e = ap (λ b. if b then m else entry ms i) (eq-eqb i (length ms) e)
 
 -- ---- the marks of a derivation
 
@@ -159,3 +173,10 @@ sink_stands (suc n) = subst (StandsFor 255 (suc n)) (sym (sink-deeper n 0)) (sta
 
 pub beyond_exceeds : (m : Mark) → is_beyond (put_at 0 m) ≡ exceeds m
 beyond_exceeds m = ap (λ b. b || m.surplus) (same_test 255 m.nesting (sink m.nesting 0) 65 (sink_stands m.nesting) (omega arith))
+
+-- as far as the numbers go, those of the mark
+pub open_below : (m : Mark) → (put_at 0 m).open_before ≤ m.open_before
+open_below m = (sink_stands m.open_before).below
+
+pub open_exact : (m : Mark) → (put_at 0 m).open_before ≤ 64 → m.open_before ≤ 64
+open_exact m le = let s = sink_stands m.open_before in let e = s.exact (omega (arith, le)) in omega (arith, e, le)

@@ -10,6 +10,7 @@ pub mod SoundStatements
 pub mod SoundItems
 pub mod Stacks
 pub mod Ends
+pub mod Noting
 pub mod Marking
 pub mod Goings
 pub mod Completing
@@ -20,6 +21,9 @@ pub mod CompletingStatements
 pub mod CompletingItems
 pub mod Growing
 pub mod Shortest
+pub mod Layers
+pub mod LayeredSteps
+pub mod LayeredStacks
 pub mod Holding
 pub mod Faults
 pub mod Rules

@@ -1,5 +1,5 @@
 -- What is noted of each token while a token list is read, and the marks of a derivation so placed.
-use Rattle.std.proofs.Common.{◌≡◌, ℕ, zero, suc, ◌+◌, ◌<◌, ◌≤◌, Bool, true, false, List, [], ◌∷◌, ◌++◌, length, Option, Some, None, inl, inr, refl, ap, sym, ◌∙◌, arith, eq-eqb}
+use Rattle.std.proofs.Common.{◌≡◌, ℕ, zero, suc, ◌+◌, ◌<◌, ◌≤◌, Bool, true, false, List, [], ◌∷◌, ◌++◌, length, Option, Some, None, inl, inr, refl, ap, sym, ◌∙◌, subst, arith, eq-eqb}
 use Rattle.std.specs.Prelude.{nat_le, nat_lt, nat_eq, if◌then◌else◌}
 use Rattle.std.proofs.lemmas.Bool.{le-leb, leb-true, lt-ltb, le-ltb, ltb-true, ltb-false, cases_order}
 use Rattle.c_tree.specs.Terminals.{Terminal}
@@ -8,10 +8,10 @@ use Rattle.c_syntax.specs.declared.goal.Goal.{Goal}
 use Rattle.c_syntax.specs.Sorts.{sort_of}
 use Rattle.c_syntax.specs.Steps.{Step, more, is_surplus, next, all_optional}
 use Rattle.c_syntax.specs.Steps as spec
-use Rattle.c_syntax.specs.Notes.{Noted, within, hold_behind, hold_from, raised}
+use Rattle.c_syntax.proofs.Noting.{Noted, within, heading, hold_behind, hold_from, raised}
 
 abbrev pub note : Step → Noted
-note step = record { nesting = step.how.nesting; surplus = step.how.surplus }
+note step = record { nesting = step.how.nesting; surplus = step.how.surplus; open_before = step.open_before }
 
 -- ---- reading
 
@@ -39,7 +39,7 @@ surplus_at count true surplus = is_surplus count
 surplus_at count false surplus = surplus
 
 abbrev pub noted_at : ℕ → ℕ → Mark → Noted
-noted_at depth count m = record { nesting = sink m.nesting depth; surplus = surplus_at count m.counts m.surplus }
+noted_at depth count m = record { nesting = sink m.nesting depth; surplus = surplus_at count m.counts m.surplus; open_before = sink m.open_before depth }
 
 abbrev pub place : ℕ → ℕ → List Mark → List Noted → List Noted
 place depth count [] noted = noted
@@ -113,13 +113,13 @@ same_test cap n c k s le = bool_eq (nat_le k c) (nat_le k n)
 counted_part : (depth n count other : ℕ) (b : Bool) (m : Mark) (ms : List Mark) (noted : List Noted) → StandsFor 65535 n count → m.counts ≡ b
     → ((n count : ℕ) (noted : List Noted) → StandsFor 65535 n count → place depth other (counted n ms) noted ≡ place depth count ms noted)
     → place depth other (if b then record m { counts = false; surplus = nat_le operator_limit n } ∷ counted (suc n) ms else (m ∷ counted n ms)) noted
-    ≡ place depth (count_at count b) ms (record { nesting = sink m.nesting depth; surplus = surplus_at count b m.surplus } ∷ noted)
+    ≡ place depth (count_at count b) ms (record { nesting = sink m.nesting depth; surplus = surplus_at count b m.surplus; open_before = sink m.open_before depth } ∷ noted)
 counted_part depth n count other true m ms noted s e rest =
     rest (suc n) (more count) _ (stands_more n count s)
-    ∙ ap (λ x. place depth (more count) ms (record { nesting = sink m.nesting depth; surplus = x } ∷ noted)) (sym (same_test 65535 n count 256 s (omega arith)))
+    ∙ ap (λ x. place depth (more count) ms (record { nesting = sink m.nesting depth; surplus = x; open_before = sink m.open_before depth } ∷ noted)) (sym (same_test 65535 n count 256 s (omega arith)))
 counted_part depth n count other false m ms noted s e rest =
-    ap (λ b. place depth (count_at other b) (counted n ms) (record { nesting = sink m.nesting depth; surplus = surplus_at other b m.surplus } ∷ noted)) e
-    ∙ rest n count (record { nesting = sink m.nesting depth; surplus = m.surplus } ∷ noted) s
+    ap (λ b. place depth (count_at other b) (counted n ms) (record { nesting = sink m.nesting depth; surplus = surplus_at other b m.surplus; open_before = sink m.open_before depth } ∷ noted)) e
+    ∙ rest n count (record { nesting = sink m.nesting depth; surplus = m.surplus; open_before = sink m.open_before depth } ∷ noted) s
 
 place-counted : (depth other : ℕ) (ms : List Mark) (n count : ℕ) (noted : List Noted) → StandsFor 65535 n count → place depth other (counted n ms) noted ≡ place depth count ms noted
 place-counted depth other [] n count noted s = refl
@@ -142,13 +142,17 @@ count-whole other ms = count-counted other ms 0
 
 -- ---- the marks of a pair
 
+pub place-closing : (depth count : ℕ) (ms rest : List Mark) (front : List Noted) → count_after count ms ≡ count
+    → place depth count (inside ms ++ closing ∷ rest) front ≡ place depth count rest (noted_at depth count closing ∷ place (spec.deeper depth) count ms front)
+place-closing depth count ms rest front e =
+    place-append depth count (inside ms) (closing ∷ rest) front
+    ∙ ap (λ c. place depth c (closing ∷ rest) (place depth count (inside ms) front)) (count-inside count ms ∙ e)
+    ∙ ap (λ x. place depth count (closing ∷ rest) x) (place-inside depth count ms front)
+
 pub place-pair : (depth count : ℕ) (ms rest : List Mark) (noted : List Noted) → count_after count ms ≡ count
     → place depth count (pair ms rest) noted
     ≡ place depth count rest (noted_at depth count closing ∷ place (spec.deeper depth) count ms (noted_at depth count plain ∷ noted))
-place-pair depth count ms rest noted e =
-    place-append depth count (inside ms) (closing ∷ rest) (noted_at depth count plain ∷ noted)
-    ∙ ap (λ c. place depth c (closing ∷ rest) (place depth count (inside ms) (noted_at depth count plain ∷ noted))) (count-inside count ms ∙ e)
-    ∙ ap (λ x. place depth count (closing ∷ rest) x) (place-inside depth count ms (noted_at depth count plain ∷ noted))
+place-pair depth count ms rest noted e = place-closing depth count ms rest (noted_at depth count plain ∷ noted) e
 
 pub count-pair : (count : ℕ) (ms rest : List Mark) → count_after count ms ≡ count → count_after count (pair ms rest) ≡ count_after count rest
 count-pair count ms rest e = count-append count (inside ms) (closing ∷ rest) ∙ ap (λ c. count_after c rest) (count-inside count ms ∙ e)
@@ -166,7 +170,16 @@ sink-deeper zero depth = refl
 sink-deeper (suc n) depth = sink-deeper n (spec.deeper depth)
 
 within_is : (depth count : ℕ) (m : Mark) → within (noted_at depth count m) ≡ noted_at depth count (deeper m)
-within_is depth count m = ap (λ x. record { nesting = x; surplus = surplus_at count m.counts m.surplus }) (sym (sink-deeper m.nesting depth))
+within_is depth count m =
+    ap (λ x. record { nesting = x; surplus = surplus_at count m.counts m.surplus; open_before = spec.deeper (sink m.open_before depth) }) (sym (sink-deeper m.nesting depth))
+    ∙ ap (λ x. record { nesting = sink m.nesting (spec.deeper depth); surplus = surplus_at count m.counts m.surplus; open_before = x }) (sym (sink-deeper m.open_before depth))
+
+-- a construct that begins with the token
+abbrev headed : Mark → Mark
+headed m = record m { nesting = suc m.nesting }
+
+heading_is : (depth count : ℕ) (m : Mark) → heading (noted_at depth count m) ≡ noted_at depth count (headed m)
+heading_is depth count m = ap (λ x. record { nesting = x; surplus = surplus_at count m.counts m.surplus; open_before = sink m.open_before depth }) (sym (sink-deeper m.nesting depth))
 
 below_self : (n : ℕ) → nat_lt n n ≡ false
 below_self n = le-ltb n n (omega arith)
@@ -183,7 +196,7 @@ hold_from-place n depth count [] noted below = refl
 hold_from-place n depth count (m ∷ ms) noted below =
     hold_from-place n depth (count_at count m.counts) ms (noted_at depth count m ∷ noted) (omega (arith, below))
     ∙ ap (λ b. place depth (count_at count m.counts) (inside ms)
-    (if b then within (noted_at depth count m) ∷ hold_from n noted else (if nat_eq n (length noted) then within (noted_at depth count m) ∷ noted else (noted_at depth count m ∷ noted)))) (lt-ltb n (length noted) below)
+    (if b then within (noted_at depth count m) ∷ hold_from n noted else (if nat_eq n (length noted) then heading (noted_at depth count m) ∷ noted else (noted_at depth count m ∷ noted)))) (lt-ltb n (length noted) below)
     ∙ ap (λ x. place depth (count_at count m.counts) (inside ms) (x ∷ hold_from n noted)) (within_is depth count m)
 
 -- the tokens behind the first one
@@ -192,16 +205,21 @@ held_behind depth count ms x noted =
     hold_behind-place (length noted) depth count ms (x ∷ noted) (omega arith)
     ∙ ap (λ b. place depth count (inside ms) (if b then within x ∷ hold_behind (length noted) noted else (x ∷ noted))) (below_self (length noted))
 
-pub held_from : (depth count : ℕ) (m : Mark) (ms : List Mark) (noted : List Noted) → hold_from (length noted) (place depth count (m ∷ ms) noted) ≡ place depth count (held (m ∷ ms)) noted
-held_from depth count m ms noted =
-    hold_from-place (length noted) depth (count_at count m.counts) ms (noted_at depth count m ∷ noted) (omega arith)
-    ∙ ap (λ b. place depth (count_at count m.counts) (inside ms)
-    (if b then within (noted_at depth count m) ∷ hold_from (length noted) noted else (if nat_eq (length noted) (length noted) then within (noted_at depth count m) ∷ noted else (noted_at depth count m ∷ noted)))) (below_self (length noted))
-    ∙ ap (λ b. place depth (count_at count m.counts) (inside ms) (if b then within (noted_at depth count m) ∷ noted else (noted_at depth count m ∷ noted))) (same_self (length noted))
-    ∙ ap (λ x. place depth (count_at count m.counts) (inside ms) (x ∷ noted)) (within_is depth count m)
+-- and the first one, which begins the construct
+pub held_first : (depth count : ℕ) (ms : List Mark) (x : Noted) (noted : List Noted) → hold_from (length noted) (place depth count ms (x ∷ noted)) ≡ place depth count (inside ms) (heading x ∷ noted)
+held_first depth count ms x noted =
+    hold_from-place (length noted) depth count ms (x ∷ noted) (omega arith)
+    ∙ ap (λ b. place depth count (inside ms)
+    (if b then within x ∷ hold_from (length noted) noted else (if nat_eq (length noted) (length noted) then heading x ∷ noted else (x ∷ noted)))) (below_self (length noted))
+    ∙ ap (λ b. place depth count (inside ms) (if b then heading x ∷ noted else (x ∷ noted))) (same_self (length noted))
   where
     same_self : (n : ℕ) → nat_eq n n ≡ true
     same_self n = eq-eqb n n refl
+
+pub held_from : (depth count : ℕ) (m : Mark) (ms : List Mark) (noted : List Noted) → hold_from (length noted) (place depth count (m ∷ ms) noted) ≡ place depth count (held (m ∷ ms)) noted
+held_from depth count m ms noted =
+    held_first depth (count_at count m.counts) ms (noted_at depth count m) noted
+    ∙ ap (λ x. place depth (count_at count m.counts) (inside ms) (x ∷ noted)) (heading_is depth count m)
 
 pub count-held : (count : ℕ) (m : Mark) (ms : List Mark) → count_after count (held (m ∷ ms)) ≡ count_after count (m ∷ ms)
 count-held count m ms = count-inside (count_at count m.counts) ms
@@ -209,7 +227,7 @@ count-held count m ms = count-inside (count_at count m.counts) ms
 -- ---- marks of which none counts
 
 abbrev pub put_at : ℕ → Mark → Noted
-put_at depth m = record { nesting = sink m.nesting depth; surplus = m.surplus }
+put_at depth m = record { nesting = sink m.nesting depth; surplus = m.surplus; open_before = sink m.open_before depth }
 
 abbrev pub put : ℕ → List Mark → List Noted → List Noted
 put depth [] noted = noted
@@ -228,19 +246,93 @@ pub put-pair : (depth : ℕ) (ms rest : List Mark) (noted : List Noted)
 put-pair depth ms rest noted =
     put-append depth (inside ms) (closing ∷ rest) (put_at depth plain ∷ noted) ∙ ap (λ x. put depth rest (put_at depth closing ∷ x)) (put-inside depth ms (put_at depth plain ∷ noted))
 
+-- ---- marks of which there are some, with nothing of their own open before the first
+
+pub record SomeMarks (ms : List Mark) : Type 0 where
+  pub first : Mark
+  pub rest : List Mark
+  pub shape : ms ≡ first ∷ rest
+  pub open_before : first.open_before ≡ 0
+
+pub marks_more : (ms ns : List Mark) → SomeMarks ms → SomeMarks (ms ++ ns)
+marks_more ms ns s = record { first = s.first; rest = s.rest ++ ns; shape = ap (λ x. x ++ ns) s.shape; open_before = s.open_before }
+
+pub from_plain : (ms : List Mark) → SomeMarks (plain ∷ ms)
+from_plain ms = record { first = plain; rest = ms; shape = refl; open_before = refl }
+
+pub held_some : (ms : List Mark) → SomeMarks ms → SomeMarks (held ms)
+held_some ms s = record { first = headed s.first; rest = inside s.rest; shape = ap held s.shape; open_before = s.open_before }
+
+pub whole_some : (ms : List Mark) → SomeMarks ms → SomeMarks (whole ms)
+whole_some ms s = subst (λ x. SomeMarks (whole x)) (sym s.shape) (first s.first.counts)
+  where
+    first : (b : Bool) → SomeMarks (if b then record s.first { counts = false; surplus = nat_le operator_limit 0 } ∷ counted 1 s.rest else (s.first ∷ counted 0 s.rest))
+    first true = record { first = record s.first { counts = false; surplus = nat_le operator_limit 0 }; rest = counted 1 s.rest; shape = refl; open_before = s.open_before }
+    first false = record { first = s.first; rest = counted 0 s.rest; shape = refl; open_before = s.open_before }
+
+-- ---- marks of which the first has so many constructs open before it
+
+abbrev pub opened_at : ℕ → ℕ → ℕ → Mark → Noted
+opened_at before depth count m = record (noted_at depth count m) { open_before = before }
+
+abbrev pub place_opened : ℕ → ℕ → ℕ → List Mark → List Noted → List Noted
+place_opened before depth count [] noted = noted
+place_opened before depth count (m ∷ ms) noted = place depth (count_at count m.counts) ms (opened_at before depth count m ∷ noted)
+
+abbrev pub put_opened : ℕ → ℕ → List Mark → List Noted → List Noted
+put_opened before depth [] noted = noted
+put_opened before depth (m ∷ ms) noted = put depth ms (record (put_at depth m) { open_before = before } ∷ noted)
+
+pub opened_held : (before depth count : ℕ) (m : Mark) (ms : List Mark) (noted : List Noted)
+    → hold_from (length noted) (place_opened before depth count (m ∷ ms) noted) ≡ place_opened before depth count (held (m ∷ ms)) noted
+opened_held before depth count m ms noted =
+    held_first depth (count_at count m.counts) ms (opened_at before depth count m) noted
+    ∙ ap (λ x. place depth (count_at count m.counts) (inside ms) (record { nesting = x; surplus = surplus_at count m.counts m.surplus; open_before = before } ∷ noted)) (sym (sink-deeper m.nesting depth))
+
 -- a construct that holds all its tokens
-pub put-held : (depth : ℕ) (ms : List Mark) (noted : List Noted) → put depth (held ms) noted ≡ put (spec.deeper depth) ms noted
-put-held depth [] noted = refl
-put-held depth (m ∷ ms) noted = put-inside depth ms (put_at (spec.deeper depth) m ∷ noted)
+pub place_opened-append : (before depth count : ℕ) (ms ns : List Mark) (noted : List Noted) → SomeMarks ms
+    → place_opened before depth count (ms ++ ns) noted ≡ place depth (count_after count ms) ns (place_opened before depth count ms noted)
+place_opened-append before depth count ms ns noted s =
+    ap (λ x. place_opened before depth count (x ++ ns) noted) s.shape
+    ∙ place-append depth (count_at count s.first.counts) s.rest ns (opened_at before depth count s.first ∷ noted)
+    ∙ ap (λ x. place depth (count_after count x) ns (place_opened before depth count x noted)) (sym s.shape)
+
+pub put_opened-append : (before depth : ℕ) (ms ns : List Mark) (noted : List Noted) → SomeMarks ms
+    → put_opened before depth (ms ++ ns) noted ≡ put depth ns (put_opened before depth ms noted)
+put_opened-append before depth ms ns noted s =
+    ap (λ x. put_opened before depth (x ++ ns) noted) s.shape
+    ∙ put-append depth s.rest ns (record (put_at depth s.first) { open_before = before } ∷ noted)
+    ∙ ap (λ x. put depth ns (put_opened before depth x noted)) (sym s.shape)
+
+-- as many as there are
+pub put_opened-same : (depth : ℕ) (ms : List Mark) (noted : List Noted) → SomeMarks ms → put_opened depth depth ms noted ≡ put depth ms noted
+put_opened-same depth ms noted s =
+    ap (λ x. put_opened depth depth x noted) s.shape
+    ∙ ap (λ k. put depth s.rest (record { nesting = sink s.first.nesting depth; surplus = s.first.surplus; open_before = sink k depth } ∷ noted)) (sym s.open_before)
+    ∙ ap (λ x. put depth x noted) (sym s.shape)
+
+-- the first token of a construct that holds it
+abbrev pub opening : ℕ → Noted
+opening depth = record { nesting = spec.deeper depth; surplus = false; open_before = depth }
+
+pub put-held : (depth : ℕ) (ms : List Mark) (noted : List Noted) → SomeMarks ms → put depth (held ms) noted ≡ put_opened depth (spec.deeper depth) ms noted
+put-held depth ms noted s =
+    ap (λ x. put depth (held x) noted) s.shape
+    ∙ put-inside depth s.rest (put_at depth (headed s.first) ∷ noted)
+    ∙ ap (λ k. put (spec.deeper depth) s.rest (record { nesting = sink s.first.nesting (spec.deeper depth); surplus = s.first.surplus; open_before = sink k depth } ∷ noted)) s.open_before
+    ∙ ap (λ x. put_opened depth (spec.deeper depth) x noted) (sym s.shape)
+
+pub put-held-plain : (depth : ℕ) (ms : List Mark) (noted : List Noted) → put depth (held (plain ∷ ms)) noted ≡ put (spec.deeper depth) ms (opening depth ∷ noted)
+put-held-plain depth ms noted = put-inside depth ms (opening depth ∷ noted)
 
 put_part : (depth n count : ℕ) (b : Bool) (m : Mark) (ms : List Mark) (noted : List Noted) → StandsFor 65535 n count
     → ((n count : ℕ) (noted : List Noted) → StandsFor 65535 n count → put depth (counted n ms) noted ≡ place depth count ms noted)
     → put depth (if b then record m { counts = false; surplus = nat_le operator_limit n } ∷ counted (suc n) ms else (m ∷ counted n ms)) noted
-    ≡ place depth (count_at count b) ms (record { nesting = sink m.nesting depth; surplus = surplus_at count b m.surplus } ∷ noted)
+    ≡ place depth (count_at count b) ms (record { nesting = sink m.nesting depth; surplus = surplus_at count b m.surplus; open_before = sink m.open_before depth } ∷ noted)
 put_part depth n count true m ms noted s rest =
-    rest (suc n) (more count) (record { nesting = sink m.nesting depth; surplus = nat_le operator_limit n } ∷ noted) (stands_more n count s)
-    ∙ ap (λ x. place depth (more count) ms (record { nesting = sink m.nesting depth; surplus = x } ∷ noted)) (sym (same_test 65535 n count 256 s (omega arith)))
-put_part depth n count false m ms noted s rest = rest n count (record { nesting = sink m.nesting depth; surplus = m.surplus } ∷ noted) s
+    rest (suc n) (more count) (record { nesting = sink m.nesting depth; surplus = nat_le operator_limit n; open_before = sink m.open_before depth } ∷ noted) (stands_more n count s)
+    ∙ ap (λ x. place depth (more count) ms (record { nesting = sink m.nesting depth; surplus = x; open_before = sink m.open_before depth } ∷ noted)) (sym (same_test 65535 n count 256 s (omega arith)))
+put_part depth n count false m ms noted s rest = rest n count (record { nesting = sink m.nesting depth; surplus = m.surplus; open_before = sink m.open_before depth } ∷ noted) s
 
 put-counted : (depth : ℕ) (ms : List Mark) (n count : ℕ) (noted : List Noted) → StandsFor 65535 n count → put depth (counted n ms) noted ≡ place depth count ms noted
 put-counted depth [] n count noted s = refl
@@ -248,6 +340,15 @@ put-counted depth (m ∷ ms) n count noted s = put_part depth n count m.counts m
 
 pub put-whole : (depth : ℕ) (ms : List Mark) (noted : List Noted) → put depth (whole ms) noted ≡ place depth 0 ms noted
 put-whole depth ms noted = put-counted depth ms 0 0 noted (stands_zero 65535)
+
+pub put_opened-whole : (before depth : ℕ) (ms : List Mark) (noted : List Noted) → put_opened before depth (whole ms) noted ≡ place_opened before depth 0 ms noted
+put_opened-whole before depth [] noted = refl
+put_opened-whole before depth (m ∷ ms) noted = first m.counts
+  where
+    first : (b : Bool) → put_opened before depth (if b then record m { counts = false; surplus = nat_le operator_limit 0 } ∷ counted 1 ms else (m ∷ counted 0 ms)) noted
+        ≡ place depth (count_at 0 b) ms (record { nesting = sink m.nesting depth; surplus = surplus_at 0 b m.surplus; open_before = before } ∷ noted)
+    first true = put-counted depth ms 1 (more 0) (record { nesting = sink m.nesting depth; surplus = nat_le operator_limit 0; open_before = before } ∷ noted) (stands_more 0 0 (stands_zero 65535))
+    first false = put-counted depth ms 0 0 (record { nesting = sink m.nesting depth; surplus = m.surplus; open_before = before } ∷ noted) (stands_zero 65535)
 
 -- ---- tokens of a type
 

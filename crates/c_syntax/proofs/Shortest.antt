@@ -1,5 +1,5 @@
 -- Each goal reads something that raises no token before it.
-use Rattle.std.proofs.Common.{◌≡◌, ℕ, Bool, true, false, List, [], ◌∷◌, ◌++◌, codes, Option, Some, None, refl, sym, ◌∙◌, subst, arith, append_assoc}
+use Rattle.std.proofs.Common.{◌≡◌, ℕ, Bool, true, false, List, [], ◌∷◌, ◌++◌, codes, Option, Some, None, refl, ap, sym, ◌∙◌, subst, arith, append_assoc}
 use Rattle.std.specs.Prelude.{if◌then◌else◌, ◌&&◌}
 use Rattle.hls_base.specs.declared.place.Place.{Place}
 use Rattle.c_token.specs.declared.ctype.CType.TheVariants as t
@@ -19,7 +19,7 @@ use Rattle.c_syntax.specs.declared.sort.Sort.{Sort}
 use Rattle.c_syntax.specs.declared.sort.Sort.TheVariants as o
 use Rattle.c_syntax.specs.Sorts.{sort_of}
 use Rattle.c_syntax.specs.Steps.{Step, step_of, is_optional, taken_or, next, all_optional}
-use Rattle.c_syntax.specs.Notes.{Noted, raised}
+use Rattle.c_syntax.proofs.Noting.{Noted, raised}
 use Rattle.c_syntax.proofs.Attach.{Is, is_looser, name_target}
 use Rattle.c_syntax.proofs.Outlines.{value_is}
 use Rattle.c_syntax.proofs.Reading.{the_sign, the_keyword, a_colon, body_end, IsKind, IsItem, Reads, ReadsAll, done}
@@ -42,7 +42,7 @@ a_number = terminal (k.Number 0 t.Bool) somewhere
 abbrev a_type : Terminal
 a_type = terminal (k.TypeWord t.Bool) somewhere
 
-abbrev example : Goal → List Terminal
+abbrev pub example : Goal → List Terminal
 example (G.Operand depth) = a_number ∷ []
 example (G.Target depth) = a_word ∷ []
 example (G.Group depth) = a_number ∷ sign p.RightParen somewhere ∷ []
@@ -155,6 +155,37 @@ reads_example G.MoreParams = reads_nothing G.MoreParams refl
 reads_example (G.OptionalName depth) = reads_nothing (G.OptionalName depth) refl
 reads_example G.Items = reads_nothing G.Items refl
 
+pub optional_example : (goal : Goal) → is_optional goal ≡ true → example goal ≡ []
+optional_example (G.Operand depth) e = absurd cc
+optional_example (G.Target depth) e = absurd cc
+optional_example (G.Group depth) e = absurd cc
+optional_example (G.Expression depth) e = absurd cc
+optional_example (G.Assign depth) e = absurd cc
+optional_example (G.Choice depth) e = absurd cc
+optional_example (G.ChoiceColon depth) e = absurd cc
+optional_example (G.Action depth) e = absurd cc
+optional_example (G.ActionTarget depth first) e = absurd cc
+optional_example (G.CloseParen depth count) e = absurd cc
+optional_example (G.CloseBracket depth count) e = absurd cc
+optional_example (G.CloseBrace depth) e = absurd cc
+optional_example (G.OpenParen depth) e = absurd cc
+optional_example (G.Semicolon depth) e = absurd cc
+optional_example (G.LabelColon depth) e = absurd cc
+optional_example (G.Kind depth) e = absurd cc
+optional_example (G.Object depth) e = absurd cc
+optional_example (G.Init depth) e = absurd cc
+optional_example (G.Statement depth) e = absurd cc
+optional_example (G.Again depth) e = absurd cc
+optional_example (G.Block depth) e = absurd cc
+optional_example (G.Body depth) e = absurd cc
+optional_example (G.First depth) e = absurd cc
+optional_example (G.Item constant) e = absurd cc
+optional_example G.FunctionName e = absurd cc
+optional_example G.Declarator e = absurd cc
+optional_example G.AfterDeclarator e = absurd cc
+optional_example G.Definition e = absurd cc
+optional_example _ e = refl
+
 abbrev pub completion : List Goal → List Terminal
 completion [] = []
 completion (goal ∷ goals) = example goal ++ completion goals
@@ -215,7 +246,7 @@ quiet_next : (goals : List Goal) (spot : Spot) (sort : Sort) → tame sort ≡ t
 quiet_next [] spot sort e = refl
 quiet_next (goal ∷ goals) spot sort e = quiet_taken (step_of goal spot sort) (is_optional goal) goals (next goals spot sort) (quiet_step goal spot sort e) (quiet_next goals spot sort e)
 
-abbrev AllTame : List Terminal → Type 0
+abbrev pub AllTame : List Terminal → Type 0
 AllTame [] = Unit {0}
 AllTame (t ∷ ts) = (tame (sort_of t.kind) ≡ true) × AllTame ts
 
@@ -264,3 +295,26 @@ tame_run (t ∷ ts) a goals count noted end e = step (next goals (spot_at noted 
     step (Some s) q rest e =
         let x = rest s.goals s.how.count (note s ∷ noted) end (plain_raise s.how.raise (note s) q s.goals s.how.count e) in
         (x.0 ++ note s ∷ [], x.1 ∙ sym (append_assoc x.0 (note s ∷ []) noted))
+
+quiet_raise : (raise : Raise) (m : Noted) (noted end : List Noted) (ts : List Terminal) → raises_none raise ≡ true → (gs : List Goal) (c : ℕ) → run ts gs c (m ∷ raised raise noted) ≡ Some end → run ts gs c (m ∷ noted) ≡ Some end
+quiet_raise r.Nothing m noted end ts q gs c e = e
+quiet_raise (r.From n) m noted end ts q gs c e = absurd cc
+quiet_raise (r.Behind n) m noted end ts q gs c e = absurd cc
+quiet_raise (r.Both n) m noted end ts q gs c e = absurd cc
+
+-- what is noted of the first token stays
+pub tame_first : (t : Terminal) (ts : List Terminal) → AllTame (t ∷ ts) → (goals : List Goal) (count : ℕ) (noted end : List Noted) (step : Step) → next goals (spot_at noted count) (sort_of t.kind) ≡ Some step
+    → run (t ∷ ts) goals count noted ≡ Some end → (front : List Noted) × (end ≡ front ++ note step ∷ noted)
+tame_first t ts a goals count noted end step e f =
+    let q : raises_none step.how.raise ≡ true = sym (ap quiet e) ∙ quiet_next goals (spot_at noted count) (sort_of t.kind) a.0 in
+    let h : run ts step.goals step.how.count (note step ∷ raised step.how.raise noted) ≡ Some end = sym (ap (λ x. going x noted (run ts)) e) ∙ f in
+    tame_run ts a.1 step.goals step.how.count (note step ∷ noted) end (quiet_raise step.how.raise (note step) noted end ts q step.goals step.how.count h)
+
+-- nothing is wanted where all goals need nothing
+pub nothing_left : (goals : List Goal) → all_optional goals ≡ true → completion goals ≡ []
+nothing_left [] e = refl
+nothing_left (goal ∷ goals) e = branch (is_optional goal) refl e (nothing_left goals)
+  where
+    branch : (c : Bool) → is_optional goal ≡ c → (if c then all_optional goals else false) ≡ true → (all_optional goals ≡ true → completion goals ≡ []) → example goal ++ completion goals ≡ []
+    branch true same e rest = ap (λ x. x ++ completion goals) (optional_example goal same) ∙ rest e
+    branch false same e rest = absurd cc

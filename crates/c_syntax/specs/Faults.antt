@@ -1,25 +1,9 @@
--- The fault that the recogniser answers.
-use Rattle.std.specs.Prelude.{◌≡◌, List, [], ◌∷◌, ◌++◌, length, ◌⊎◌, ℕ, nat_lt, if◌then◌else◌}
-use Rattle.hls_base.specs.declared.place.Place.{Place}
-use Rattle.hls_base.specs.declared.refusal.Refusal.{Refusal}
-use Rattle.c_tree.specs.Tree.{ItemTree}
+-- The rule of the token with which no program goes on.
+use Rattle.std.specs.Prelude.{ℕ, nat_lt, if◌then◌else◌}
 use Rattle.c_token.specs.declared.token.TokenKind.{TokenKind}
-use Rattle.c_tree.specs.Terminals.{Terminal}
 use Rattle.c_tree.specs.Limits.{nesting_limit}
-use Rattle.c_tree.specs.Grammar.{DerivesItems}
-use Rattle.c_tree.specs.Refusal.{Reaches, IsBeyond, NoneBeyond, refusal, rule_of}
+use Rattle.c_tree.specs.Refusal.{rule_of}
 
--- the rule where no program goes on, and so many constructs are open
+-- where so many constructs are open
 abbrev pub rule_at_stop : ℕ → TokenKind → ℕ
 rule_at_stop open_before kind = if nat_lt nesting_limit open_before then 32 else rule_of kind
-
--- where no program goes on: rule 32 or the rule of the token, and rule 6 at the end
-abbrev pub StopsWith : List Terminal → List Terminal → Place → Refusal → Type 0
-StopsWith seen [] end r = ((items : List ItemTree) → ¬ DerivesItems seen items) × (r ≡ refusal 6 end)
-StopsWith seen (t ∷ rest) end r = (r ≡ refusal 32 t.at) ⊎ (r ≡ refusal (rule_of t.kind) t.at)
-
--- The first token as far as some program goes that is beyond a limit, or where none goes on.
-pub data IsFoundFault (tokens : List Terminal) (end : Place) (r : Refusal) : Type 0 where
-  found_beyond : (seen left before behind : List Terminal) (t : Terminal) → Reaches tokens seen left → seen ≡ before ++ t ∷ behind → IsBeyond seen (length before)
-      → NoneBeyond seen (length before) → r ≡ refusal 32 t.at → IsFoundFault tokens end r
-  found_stop : (seen left : List Terminal) → Reaches tokens seen left → NoneBeyond seen (length seen) → StopsWith seen left end r → IsFoundFault tokens end r

@@ -5,9 +5,9 @@ ghost use Rattle.std.specs.Prelude.{◌≡◌, IfOk};
 ghost use Rattle.hls_base.specs.Refusals.{IfRefused};
 ghost use Rattle.c_tree.specs.Tree.{ProgramTree};
 ghost use Rattle.c_tree.specs.Terminals.{terminals};
-ghost use Rattle.c_tree.specs.Refusal.{IsProgram, refusal};
+ghost use Rattle.c_tree.specs.Refusal.{IsFaultOf, IsProgram, refusal};
 ghost use Rattle.c_syntax.specs.Sorts.{sort_of, rule_of_sort};
-ghost use Rattle.c_syntax.specs.Faults.{IsFoundFault, rule_at_stop};
+ghost use Rattle.c_syntax.specs.Faults.{rule_at_stop};
 
 mod action;
 mod advance;
@@ -63,7 +63,7 @@ fn stop_at(token: &Token, sort: Sort, open_before: u8) -> Refusal
 /// Whether the tokens are a program within the limits. If not, its fault: the first token that no program has there (rule 20, 23 or 6), or that is too deep or an operator too many (rule 32).
 pub fn find_fault(alloc: Global, tokens: &[Token], end: Place) -> Result<(), Fail>
     ensures accepted { IfOk result (λ _. (program : ProgramTree) × IsProgram (terminals tokens.now) end program) }
-    ensures refused { IfRefused result (IsFoundFault (terminals tokens.now) end) }
+    ensures refused { IfRefused result (IsFaultOf (terminals tokens.now) end) }
 {
     let mut stack = Stack::new(alloc)?;
     let mut depths = Depths::new(alloc);
