@@ -3,6 +3,7 @@ use Rattle.std.proofs.Common.{◌≡◌, ◌⊎◌, ℕ, List, Option, Some, Non
 use Rattle.hls_base.specs.declared.refusal.Refusal.{Refusal}
 use Rattle.hls_base.specs.Outside.{Files, HasRisen, WhereTold}
 use Rattle.hls_flow.specs.FirstFault.{IsAccepted, IsFirstFault}
+use Rattle.hls_flow.proofs.Faults.{accepted_has_no_fault}
 use Rattle.hls_cli.specs.Command.{Command, IsSynth}
 use Rattle.hls_cli.specs.Lines.{made_line, refusal_line}
 use Rattle.hls_cli.specs.SynthRun.{IsSourceOf, SameFiles, IsMade, IsRefused, IsStopped, PutsCutLine, Outside, RanToModule, RanToRefusal, RanToUsage, IsCutOff, HasFault, IsComplete}
@@ -23,7 +24,7 @@ not_both : (c : Command) (files : Files) (s t : List ℕ) (fault : Refusal) → 
 not_both c files s t fault first second refused accepted =
     let same : s ≡ t = one_source c files s t first second in
     let here : IsFirstFault t c.top fault = subst (λ u. IsFirstFault u c.top fault) same refused in
-    here.other accepted.program accepted.is accepted.named
+    accepted_has_no_fault t c.top fault accepted here
 
 refused_told : (c : Command) (files : Files) (s : List ℕ) (fault : Refusal) (new : Option Files) → IsSourceOf c files s → IsAccepted s c.top → WhereTold (IsRefused c fault) (Some files) new → ⊥
 refused_told c files s fault None is accepted told = told

@@ -96,7 +96,7 @@ fn other_source_is_refused(rt: HostRuntime) {
     let ran = run_over(rt.alloc(), SYNTH, ("s.c", source), &[], &[]).expect(&rt, "memory");
     let ended = ran.expect(&rt, "names differ");
     assert_eq!(rt; ended.status, 1);
-    assert!(rt; is(ended.out.written(), "rule 37 at 1:1\n"));
+    assert!(rt; is(ended.out.written(), "rule 37 at 1:10\n"));
     assert!(rt; wrote_nothing(&ended));
 }
 

@@ -1,1 +1,6 @@
-pub mod SumMade
+mod Words
+mod Outcomes
+mod SumMade
+mod Grammar
+pub mod Faults
+mod Lengths

@@ -19,20 +19,16 @@ use Rattle.cycle_report.specs.PlainReport.{PlainReport}
 use Rattle.cycle_report.specs.ReportForm as form
 use Rattle.cycle_report.specs.FormulaValue.{cycles, same_place}
 use Rattle.sum_program.specs.declared.program.Sum.{Sum}
-use Rattle.sum_program.specs.SourceRow.{IsWord, IsWordByte, IsLetter}
+use Rattle.sum_program.specs.SumForm.{IsWord}
 use Rattle.sum_program.specs.SumMeaning.{sum_result, sum_tally}
 use Rattle.sum_circuit.specs.SumCircuit.{sum_interface, sum_answers, sum_netlist}
 use Rattle.sum_circuit.proofs.Names.{all_by}
 use Rattle.hls_flow.specs.FirstFault.{IsFound}
 use Rattle.hls_flow.specs.Synthesis.{AreInRange, interface_of, first_contents, c_answers, ReportsCircuit, SynthesisIsCorrect}
 use Rattle.hls_flow.specs.SumReport.{sum_report}
+use Rattle.hls_flow.proofs.Words.{name_test}
 
 -- ---- names
-
--- a word is an identifier of a module
-pub identifier_of : (text : List ℕ) → IsWord text → IsIdentifier text
-identifier_of [] h = h
-identifier_of (c ∷ cs) h = h
 
 -- the second byte is no digit
 abbrev is_free : List ℕ → Bool
@@ -48,22 +44,11 @@ free (c ∷ d ∷ ds) e = λ h. let digit : (48 ≤ d) × (d ≤ 57) = h.1.1 0 0
 pub names_printable : (s : Sum) → HasPrintableNames (sum_netlist s)
 names_printable s = all_by is_free (λ name. ¬ IsNumbered name) free (pin_names (sum_netlist s)) refl
 
-letter_test : (c : ℕ) → IsLetter c → form.is_letter c ≡ true
-letter_test c h = grind (arith, nat_tests)
-
-byte_test : (c : ℕ) → IsWordByte c → form.is_word_byte c ≡ true
-byte_test c h = grind (arith, nat_tests)
+-- ---- the report
 
 both : (a b : Bool) → a ≡ true → b ≡ true → (a && b) ≡ true
 both true b e f = f
 both false b e f = e
-
-name_test : (text : List ℕ) → IsWord text → length text ≤ 64 → form.is_name text ≡ true
-name_test [] h short = absurd h
-name_test (c ∷ cs) h short =
-    both _ _ (letter_test c h.0) (both _ _ (list_all-from_AllPass form.is_word_byte cs (λ k d lt. byte_test _ (h.1 k d lt))) (le-leb _ _ (omega arith)))
-
--- ---- the report
 
 same_place-refl : (p : Place) → same_place p p ≡ true
 same_place-refl p = both _ _ (eq-eqb p.line p.line refl) (both _ _ (eq-eqb p.column p.column refl) (eq-eqb p.part p.part refl))
@@ -96,7 +81,6 @@ correct source settings s m r found text report agrees =
     record {
       program = s;
       is = found.is;
-      named = found.named;
       report = sum_report s settings;
       report_is = report;
       design = sum_netlist s;

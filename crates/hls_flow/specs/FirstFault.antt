@@ -1,32 +1,76 @@
--- Which sources are compiled, and why another one is refused.
-use Rattle.std.specs.Prelude.{◌≡◌, ◌≢◌, ℕ, ◌≤◌, List, length}
+-- Which program a source is, which sources are compiled, and why another one is refused.
+use Rattle.std.specs.Prelude.{◌≡◌, ◌≤◌, ℕ, true, List, [], length, Some, is_some, slice_get}
 use Rattle.hls_base.specs.declared.place.Place.{Place}
 use Rattle.hls_base.specs.declared.refusal.Refusal.{Refusal}
+use Rattle.c_token.specs.declared.token.Token.{Token}
+use Rattle.c_token.specs.SourceText.{Spells, FirstFault, source_start, place_after}
+use Rattle.c_token.specs.Replacement.{Becomes, FirstReplacementFault}
+use Rattle.c_tree.specs.Terminals.{terminals}
+use Rattle.c_tree.specs.Tree as tree
+use Rattle.c_tree.specs.Tree.{FunctionTree, ProgramTree}
+use Rattle.c_tree.specs.Refusal.{IsFaultOf, IsProgram}
+use Rattle.c_checked.specs.Faults.{IsLeast}
+use Rattle.c_checked.specs.Programs.{program_faults}
 use Rattle.sum_program.specs.declared.program.Sum.{Sum}
-use Rattle.sum_program.specs.SourceRow.{IsWord}
-use Rattle.sum_program.specs.SumSource.{IsSumSource}
+use Rattle.sum_program.specs.SumForm.{IsWord, IsSum}
 
--- the source is a program whose top function has this name
+-- the place just after the last byte
+abbrev pub end_of : List ℕ → Place
+end_of source = place_after source_start source
+
+-- what the tokens of the source become, by directives and the replacement of words
+pub record IsReplaced (source : List ℕ) (replaced : List Token) : Type 0 where
+  pub tokens : List Token
+  pub spelled : Spells source tokens
+  pub becomes : Becomes tokens replaced
+
+-- the source is this program, within the limits
+pub record IsProgramOf (source : List ℕ) (program : ProgramTree) : Type 0 where
+  pub tokens : List Token
+  pub replaced : IsReplaced source tokens
+  pub is : IsProgram (terminals tokens) (end_of source) program
+
+-- the source is this program, and no other
+pub record IsTheProgramOf (source : List ℕ) (program : ProgramTree) : Type 0 where
+  pub is : IsProgramOf source program
+  pub only : (other : ProgramTree) → IsProgramOf source other → other ≡ program
+
+-- the source is this sum, whose function has the name, and breaks no rule of C
+pub record IsSumSource (source top : List ℕ) (sum : Sum) : Type 0 where
+  pub program : ProgramTree
+  pub is : IsProgramOf source program
+  pub faultless : program_faults program top ≡ []
+  pub sum_is : IsSum program sum
+  pub named : sum.name ≡ top
+
+-- the source is compiled
 pub record IsAccepted (source top : List ℕ) : Type 0 where
-  pub program : Sum
-  pub is : IsSumSource source program
-  pub named : program.name ≡ top
+  pub sum : Sum
+  pub is : IsSumSource source top sum
 
-abbrev pub beginning : Place
-beginning = record { line = 1; column = 1; part = 0 }
+-- the fault of a source that is no program within the limits: of its tokens, of their replacement, or of the grammar and its limits
+pub data IsFaultBefore (source : List ℕ) (fault : Refusal) : Type 0 where
+  of_tokens : FirstFault source fault → IsFaultBefore source fault
+  of_replacement : (tokens : List Token) → Spells source tokens → FirstReplacementFault tokens fault → IsFaultBefore source fault
+  of_grammar : (tokens : List Token) → IsReplaced source tokens → IsFaultOf (terminals tokens) (end_of source) fault → IsFaultBefore source fault
 
--- A source that is no such program has this fault. Forms of C that are not compiled yet are refused by rule 37, where the source begins.
-pub record IsFirstFault (source top : List ℕ) (fault : Refusal) : Type 0 where
-  pub rule : fault.rule ≡ 37
-  pub place : fault.place ≡ beginning
-  pub other : (program : Sum) → IsSumSource source program → program.name ≢ top
+-- Rule 37 stands where the body of the top function does, at the function's name.
+pub record IsNotCompiled (program : ProgramTree) (fault : Refusal) : Type 0 where
+  pub index : ℕ
+  pub function : FunctionTree
+  pub item : slice_get program.items index ≡ Some (tree.function function)
+  pub has_body : is_some function.body ≡ true
+  pub fault_is : fault ≡ record { rule = 37; place = function.at }
 
--- what holds of the program that was found: it is the source's, its function has the name, and it is written within some lines and columns
-pub record IsFound (source top : List ℕ) (program : Sum) : Type 0 where
-  pub is : IsSumSource source program
-  pub named : program.name ≡ top
-  pub word : IsWord program.name
-  pub short : length program.name ≤ 64
-  pub line : program.at.line ≤ 4097
-  pub column : program.at.column ≤ 4097
-  pub part : program.at.part ≡ 0
+-- The first fault of a source: it is no program within the limits; or a program that breaks a rule of C, of which the earliest place counts, and at one place the smallest rule; or a program of a form that is not compiled yet, under rule 37.
+pub data IsFirstFault (source top : List ℕ) (fault : Refusal) : Type 0 where
+  no_program : IsFaultBefore source fault → IsFirstFault source top fault
+  breaks_a_rule : (program : ProgramTree) → IsTheProgramOf source program → IsLeast (program_faults program top) fault → IsFirstFault source top fault
+  other_form : (program : ProgramTree) → IsTheProgramOf source program → program_faults program top ≡ [] → ((sum : Sum) → ¬ IsSumSource source top sum)
+      → IsNotCompiled program fault → IsFirstFault source top fault
+
+-- what holds of the sum that was found: it is the source's, and its function's name is that of a module
+pub record IsFound (source top : List ℕ) (sum : Sum) : Type 0 where
+  pub is : IsSumSource source top sum
+  pub word : IsWord sum.name
+  pub short : length sum.name ≤ 64

@@ -12,8 +12,8 @@ use Rattle.cycle_report.specs.PlainReport.{PlainReport, PlainUnits}
 use Rattle.cycle_report.specs.ReportForm.{IsReport}
 use Rattle.cycle_report.specs.FormulaValue.{cycles}
 use Rattle.sum_program.specs.declared.program.Sum.{Sum}
-use Rattle.sum_program.specs.SumSource.{IsSumSource}
 use Rattle.sum_program.specs.SumMeaning.{sum_result, sum_tally}
+use Rattle.hls_flow.specs.FirstFault.{IsSumSource}
 
 -- the ranges of the numbers that a user can ask for
 pub record AreInRange (s : Settings) : Type 0 where
@@ -48,8 +48,7 @@ pub record ReportsCircuit (report : PlainReport) (settings : Settings) (design :
 -- The module's bytes are a circuit whose pins agree with the C program that the source is, for every power-up and every list of pin values after reset: a run raises `done` in exactly the cycle that the report's formula gives for it, with its result and final arrays.
 pub record SynthesisIsCorrect (source : List ℕ) (settings : Settings) (module_bytes report_bytes : List ℕ) : Type 0 where
   pub program : Sum
-  pub is : IsSumSource source program
-  pub named : program.name ≡ settings.top
+  pub is : IsSumSource source settings.top program
   pub report : PlainReport
   pub report_is : IsReport report_bytes report
   pub design : Netlist

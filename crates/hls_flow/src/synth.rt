@@ -1,12 +1,22 @@
-ghost use Rattle.std.specs.Prelude.{◌≡◌, ◌≤◌, IfOk, [], length};
+ghost use Rattle.std.specs.Prelude.{◌≡◌, ◌≢◌, [], true, map, length, ◌≤◌, slice_get, is_some, Some, IsSome, IfOk};
 ghost use Rattle.hls_base.specs.Refusals.{IfRefused};
 ghost use Rattle.hls_base.specs.declared.settings.Settings.{Settings};
 ghost use Rattle.cycle_report.specs.PlainReport.{plain_of};
-ghost use Rattle.sum_program.specs.SourceRow.{IsWord};
-ghost use Rattle.hls_flow.specs.FirstFault.{IsFirstFault, IsFound};
+ghost use Rattle.c_tree.specs.Tree as tree;
+ghost use Rattle.c_tree.specs.Tree.{ProgramTree};
+ghost use Rattle.c_tree.specs.View.{program_of, item_of, function_of};
+ghost use Rattle.c_checked.specs.Programs.{program_faults, body_name_of, top_name};
+ghost use Rattle.hls_flow.specs.FirstFault.{IsProgramOf, IsTheProgramOf, IsFaultBefore, IsFirstFault, IsFound};
 ghost use Rattle.hls_flow.specs.Synthesis.{AreInRange, SynthesisIsCorrect};
 ghost use Rattle.hls_flow.specs.SumReport.{sum_report};
 
+use c_checked::checked::Checked;
+use c_lexer::{end_of, lex};
+use c_macro::replace;
+use c_parser::parse;
+use c_tree::function::Function;
+use c_tree::program::{Item, Program};
+use c_types::program::check;
 use cycle_report::report::{Cost, Formula, Report};
 use hls_base::place::{Path, Place};
 use hls_base::point::{Point, PointKind};
@@ -16,7 +26,7 @@ use hls_base::text::Text;
 use std::alloc::{AllocError, Global};
 use sum_circuit::circuit::sum_design;
 use sum_program::program::Sum;
-use sum_program::read::read_sum;
+use sum_program::read::sum_of;
 
 /// The texts of a module and of its report.
 #[derive(Debug, Drop)]
@@ -31,7 +41,7 @@ pub fn synth(alloc: Global, source: &[u8], settings: &Settings) -> Result<Made, 
     ensures made { IfOk result (λ m. SynthesisIsCorrect source.now settings.now m.module m.report) }
     ensures refused { IfRefused result (IsFirstFault source.now settings.now.top) }
 {
-    let program = read_program(alloc, source, settings.top.items())?;
+    let program = read_sum(alloc, source, &settings.top)?;
     let design = sum_design(alloc, &program)?;
     let module = verilog_print::printer::print(alloc, &design)?;
     let report = report_of(alloc, &program, settings)?;
@@ -39,29 +49,71 @@ pub fn synth(alloc: Global, source: &[u8], settings: &Settings) -> Result<Made, 
     Ok(Made { module, report })
 }
 
-/// The program that the source is, if its function has this name.
-fn read_program(alloc: Global, source: &[u8], top: &[u8]) -> Result<Sum, Fail>
+/// The sum that the source is, if its function has this name.
+fn read_sum(alloc: Global, source: &[u8], top: &Text) -> Result<Sum, Fail>
     ensures found { IfOk result (IsFound source.now top.now) }
     ensures refused { IfRefused result (IsFirstFault source.now top.now) }
 {
-    let refused = Fail::Refused(Refusal {
-        rule: 37,
-        place: Place {
-            line: 1,
-            column: 1,
-            part: 0,
-        },
-    });
-    match read_sum(alloc, source)? {
-        Some(program) => {
-            if program.name.is_same(top) {
-                Ok(program)
-            } else {
-                Err(refused)
-            }
-        }
-        None => Err(refused),
+    let checked = read_checked(alloc, source, top)?;
+    let at = top_function(&checked.program.items, checked.top as usize).at;
+    match sum_of(alloc, &checked.program)? {
+        Some(sum) => named(sum, top.items(), at),
+        None => Err(not_compiled(at)),
     }
+}
+
+/// The sum, if its function has this name.
+fn named(sum: Sum, top: &[u8], at: Place) -> Result<Sum, Fail>
+    ensures found { IfOk result (λ s. (s ≡ sum) × (sum.name ≡ top.now)) }
+    ensures refused { IfRefused result (λ r. (r ≡ record { rule = 37; place = at }) × (sum.name ≢ top.now)) }
+{
+    if sum.name.is_same(top) {
+        Ok(sum)
+    } else {
+        Err(not_compiled(at))
+    }
+}
+
+/// The answer to a form of C that is not compiled yet.
+fn not_compiled(place: Place) -> Fail
+    ensures { result ≡ Fail.Refused (record { rule = 37; place = place }) }
+{
+    Fail::Refused(Refusal { rule: 37, place })
+}
+
+/// The function with a body that is the item with this index.
+fn top_function(items: &[Item], index: usize) -> &Function
+    requires { IsSome (body_name_of (slice_get (map item_of items.now) index)) }
+    ensures item { slice_get (map item_of items.now) index ≡ Some (tree.function (function_of result.now)) }
+    ensures body { is_some (function_of result.now).body ≡ true }
+{
+    match &items[index] {
+        Item::Function(function) => function,
+        Item::Objects(_) => unreachable!(),
+    }
+}
+
+/// The program that the source is, without faults.
+fn read_checked(alloc: Global, source: &[u8], top: &Text) -> Result<Checked, Fail>
+    ensures found { IfOk result (λ c. IsTheProgramOf source.now (program_of c.program)) }
+    ensures top { IfOk result (λ c. top_name (program_of c.program) c.top ≡ Some top.now) }
+    ensures faultless { IfOk result (λ c. program_faults (program_of c.program) top.now ≡ []) }
+    ensures refused { IfRefused result (IsFirstFault source.now top.now) }
+{
+    let program = read_program(alloc, source)?;
+    check(alloc, program, top)
+}
+
+/// The program that the source is.
+fn read_program(alloc: Global, source: &[u8]) -> Result<Program, Fail>
+    ensures found { IfOk result (λ p. IsProgramOf source.now (program_of p)) }
+    ensures only { IfOk result (λ p. (other : ProgramTree) → IsProgramOf source.now other → other ≡ program_of p) }
+    ensures items { IfOk result (λ p. length p.items.items ≤ 16384) }
+    ensures refused { IfRefused result (IsFaultBefore source.now) }
+{
+    let tokens = lex(alloc, source)?;
+    let replaced = replace(alloc, tokens.as_slice())?;
+    parse(alloc, replaced.as_slice(), end_of(source))
 }
 
 /// What the circuit of a sum takes: one cycle, and two for its block.

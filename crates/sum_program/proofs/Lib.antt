@@ -1,6 +1,2 @@
-pub mod Spans
-pub mod Rows
-pub mod Words
-pub mod Sums
-pub mod Sources
-pub mod Examples
+mod Lists
+mod Parts

@@ -1,4 +1,2 @@
-pub mod SourceRow
-pub mod SumSource
+pub mod SumForm
 pub mod SumMeaning
-pub mod Reading

@@ -1,9 +1,7 @@
-//! The sources that are taken so far: one function that returns the sum of two of its parameters.
+//! The programs that are compiled so far: one function that returns the sum of two of its parameters.
 #![tactic(auto)]
 
-mod characters;
-mod cursor;
-mod identifier;
+mod form;
 pub mod program;
 pub mod read;
 #[cfg(test)]

@@ -1,133 +1,82 @@
-ghost use Rattle.std.specs.Prelude.{◌≡◌, ◌↔◌, ◌≢◌, ◌≤◌, List, ℕ, map, length, IsTrue, IfOk, IfSome, IfNone, MatchOption};
-ghost use Rattle.sum_program.specs.SourceRow.{Row, Spelled, IsWord, beginning};
-ghost use Rattle.sum_program.specs.SumSource.{IsSumSource, IsSumRow, IsIdentifier, chosen};
-ghost use Rattle.sum_program.specs.SumSource as spec;
-ghost use Rattle.std.specs.Borrow.{Bor};
-ghost use Rattle.sum_program.specs.Reading.{spelled};
-ghost use Rattle.sum_program.specs.declared.program.Sum.{Sum};
+ghost use Rattle.std.specs.Prelude.{◌≡◌, ◌≢◌, List, [], ◌∷◌, map, ℕ, IfOk, IfSome, IfNone, MatchOption};
+ghost use Rattle.c_tree.specs.Tree as tree;
+ghost use Rattle.c_tree.specs.Tree.{FunctionTree};
+ghost use Rattle.c_tree.specs.View.{program_of, function_of, item_of};
+ghost use Rattle.sum_program.specs.SumForm.{IsSum, IsSumFunction, chosen};
 ghost use Rattle.sum_program.specs.declared.program.Operand.{Operand};
-ghost use Rattle.sum_program.specs.declared.cursor.Token.{Token};
+ghost use Rattle.sum_program.specs.declared.program.Sum.{Sum};
 
-use crate::cursor::{Cursor, Token};
-use crate::identifier::is_identifier;
+use crate::form::{body_of, head_of};
 use crate::program::{Operand, Sum};
-use hls_base::text::Text;
+use c_tree::function::Function;
+use c_tree::program::{Item, Program};
 use std::alloc::{AllocError, Global};
 
-const LONGEST_SOURCE: usize = 4096;
-
-const SUM_TOKENS: usize = 16;
-
-/// The sum that the source is, or nothing where it is none.
-pub fn read_sum(alloc: Global, source: &[u8]) -> Result<Option<Sum>, AllocError>
-    ensures found { IfOk result (λ r. IfSome r (IsSumSource source.now)) }
-    ensures only { IfOk result (λ r. IfSome r (λ s. (other : Sum) → IsSumSource source.now other → other ≡ s)) }
-    ensures refused { IfOk result (λ r. IfNone r ((s : Sum) → ¬ IsSumSource source.now s)) }
-    ensures identifier { IfOk result (λ r. IfSome r (λ s. IsWord s.name × (length s.name ≤ 64))) }
-    ensures place { IfOk result (λ r. IfSome r (λ s. (s.at.line ≤ 4097) × (s.at.column ≤ 4097) × (s.at.part ≡ 0))) }
+/// The sum that the program is, or nothing where it is none.
+pub fn sum_of(alloc: Global, program: &Program) -> Result<Option<Sum>, AllocError>
+    ensures found { IfOk result (λ r. IfSome r (IsSum (program_of program.now))) }
+    ensures only { IfOk result (λ r. IfSome r (λ s. (other : Sum) → IsSum (program_of program.now) other → other ≡ s)) }
+    ensures refused { IfOk result (λ r. IfNone r ((s : Sum) → ¬ IsSum (program_of program.now) s)) }
 {
-    if source.len() > LONGEST_SOURCE {
-        return Ok(None);
-    }
-    match tokens_of(alloc, source)? {
-        Some(tokens) => sum_of(alloc, tokens.as_slice()),
+    match only_function(program.items.as_slice()) {
+        Some(function) => sum_in(alloc, function),
         None => Ok(None),
     }
 }
 
-/// The words and signs of the source, or nothing where it has another byte.
-fn tokens_of<'a>(alloc: Global, source: &'a [u8]) -> Result<Option<Vec<Token<'a>>>, AllocError>
-    requires { length source.now ≤ 4096 }
-    ensures found { IfOk result (λ r. IfSome r (λ tokens. Row beginning source.now (map spelled tokens.items))) }
-    ensures only { IfOk result (λ r. IfSome r (λ tokens. (row : List Spelled) → Row beginning source.now row → row ≡ map spelled tokens.items)) }
-    ensures refused { IfOk result (λ r. IfNone r ((row : List Spelled) → ¬ Row beginning source.now row)) }
+/// The function that is the only item.
+fn only_function(items: &[Item]) -> Option<&Function>
+    ensures { MatchOption result ((f : FunctionTree) → map item_of items.now ≢ tree.function f ∷ []) (λ f. map item_of items.now ≡ tree.function (function_of f.now) ∷ []) }
 {
-    let mut cursor = Cursor::new(source);
-    let mut tokens = Vec::new(alloc);
-    while let Some(token) = cursor.next() {
-        tokens.push(token)?;
-    }
-    if cursor.rest.is_empty() {
-        Ok(Some(tokens))
-    } else {
-        Ok(None)
+    match items {
+        [item] => as_function(item),
+        _ => None,
     }
 }
 
-/// The sum that the tokens are, or nothing where they are none.
-fn sum_of(alloc: Global, tokens: &[Token<'_>]) -> Result<Option<Sum>, AllocError>
-    ensures found { IfOk result (λ r. IfSome r (IsSumRow (map spelled tokens.now))) }
-    ensures only { IfOk result (λ r. IfSome r (λ s. (other : Sum) → IsSumRow (map spelled tokens.now) other → other ≡ s)) }
-    ensures refused { IfOk result (λ r. IfNone r ((s : Sum) → ¬ IsSumRow (map spelled tokens.now) s)) }
+fn as_function(item: &Item) -> Option<&Function>
+    ensures { MatchOption result ((f : FunctionTree) → item_of item.now ≢ tree.function f) (λ f. item_of item.now ≡ tree.function (function_of f.now)) }
 {
-    if tokens.len() != SUM_TOKENS {
-        return Ok(None);
+    match item {
+        Item::Function(function) => Some(function),
+        Item::Objects(_) => None,
     }
-    let name = tokens[1];
-    let (first, second) = (tokens[4].text, tokens[7].text);
-    let (left_text, right_text) = (tokens[11].text, tokens[13].text);
-    let texts = form(name.text, first, second, left_text, right_text);
-    if !are_names(name.text, first, second) || !are_texts(tokens, &texts) {
-        return Ok(None);
-    }
-    let Some(left) = operand(first, second, left_text) else {
+}
+
+fn sum_in(alloc: Global, function: &Function) -> Result<Option<Sum>, AllocError>
+    ensures found { IfOk result (λ r. IfSome r (IsSumFunction (function_of function.now))) }
+    ensures refused { IfOk result (λ r. IfNone r ((s : Sum) → ¬ IsSumFunction (function_of function.now) s)) }
+{
+    let Some((left, right)) = operands(function) else {
         return Ok(None);
     };
-    let Some(right) = operand(first, second, right_text) else {
-        return Ok(None);
-    };
-    let text = Text::from_slice(alloc, name.text)?;
+    let name = function.name.copy(alloc)?;
     Ok(Some(Sum {
-        name: text,
-        at: name.at,
+        name,
+        at: function.at,
         left,
         right,
     }))
 }
 
-/// The texts of a sum with these names.
-fn form<'a>(
-    name: &'a [u8],
-    first: &'a [u8],
-    second: &'a [u8],
-    left: &'a [u8],
-    right: &'a [u8],
-) -> [&'a [u8]; SUM_TOKENS]
-    ensures { map (λ (t : Bor (List ℕ)). t.now) result ≡ spec.form name.now first.now second.now left.now right.now }
+/// Which parameters the sum adds, if the function is one.
+fn operands(function: &Function) -> Option<(Operand, Operand)>
+    ensures { MatchOption result ((s : Sum) → ¬ IsSumFunction (function_of function.now) s)
+        (λ o. IsSumFunction (function_of function.now) (record { name = function.now.name; at = function.now.at; left = o.0; right = o.1 })) }
 {
-    [
-        b"unsigned",
-        name,
-        b"(",
-        b"unsigned",
-        first,
-        b",",
-        b"unsigned",
-        second,
-        b")",
-        b"{",
-        b"return",
-        left,
-        b"+",
-        right,
-        b";",
-        b"}",
-    ]
-}
-
-/// Whether the tokens have these texts.
-fn are_texts(tokens: &[Token<'_>], texts: &[&[u8]]) -> bool
-    ensures { IsTrue result ↔ (map (λ (t : Token). t.text.now) tokens.now ≡ map (λ (t : Bor (List ℕ)). t.now) texts.now) }
-{
-    if tokens.len() != texts.len() {
-        return false;
-    }
-    for (i, token) in tokens.iter().enumerate() {
-        if token.text != texts[i] {
-            return false;
-        }
-    }
-    true
+    let Some((first, second)) = head_of(function) else {
+        return None;
+    };
+    let Some((left, right)) = body_of(function) else {
+        return None;
+    };
+    let Some(left) = operand(first.items(), second.items(), left.items()) else {
+        return None;
+    };
+    let Some(right) = operand(first.items(), second.items(), right.items()) else {
+        return None;
+    };
+    Some((left, right))
 }
 
 /// The parameter of this name.
@@ -141,11 +90,4 @@ fn operand(first: &[u8], second: &[u8], text: &[u8]) -> Option<Operand>
     } else {
         None
     }
-}
-
-/// Whether the three can be the names of a function and of its parameters.
-fn are_names(name: &[u8], first: &[u8], second: &[u8]) -> bool
-    ensures { IsTrue result ↔ (IsIdentifier name.now × IsIdentifier first.now × IsIdentifier second.now × (first.now ≢ second.now)) }
-{
-    is_identifier(name) && is_identifier(first) && is_identifier(second) && first != second
 }

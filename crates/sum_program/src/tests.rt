@@ -1,107 +1,88 @@
+//! Sums that are built by hand, and a program that is none.
 use crate::program::Operand;
-use crate::read::read_sum;
+use crate::read::sum_of;
+use c_token::ctype::CType;
+use c_tree::expression::Expr;
+use c_tree::function::{Function, Param};
+use c_tree::object::Object;
+use c_tree::operator::Binary;
+use c_tree::program::{Item, Program};
+use c_tree::statement::Stmt;
 use hls_base::place::Place;
+use hls_base::text::Text;
 use std::alloc::{AllocError, Global};
 use std::test::Fail;
 
-fn is_sum(alloc: Global, source: &[u8]) -> Result<bool, AllocError> {
-    let sum = read_sum(alloc, source)?;
-    Ok(sum.is_some())
-}
+const UNSIGNED: CType = CType::Int {
+    signed: false,
+    bits: 32,
+};
 
-/// A sum with so many spaces behind it.
-fn padded(alloc: Global, spaces: u32) -> Result<Vec<u8>, AllocError> {
-    let mut source = Vec::from_slice(alloc, b"unsigned f(unsigned a,unsigned b){return a+b;}")?;
-    for _ in 0..spaces {
-        source.push(b' ')?;
+fn at(column: u32) -> Place {
+    Place {
+        line: 1,
+        column,
+        part: 0,
     }
-    Ok(source)
+}
+
+fn param(alloc: Global, name: &[u8]) -> Result<Param, AllocError> {
+    let object = Object {
+        name: Text::from_slice(alloc, name)?,
+        at: at(20),
+        kind: UNSIGNED,
+        constant: false,
+        lengths: Vec::new(alloc),
+        init: None,
+    };
+    Ok(Param {
+        object,
+        named: true,
+    })
+}
+
+/// `unsigned f(unsigned a, unsigned b) { return LEFT op RIGHT; }`
+fn program(alloc: Global, left: &[u8], op: Binary, right: &[u8]) -> Result<Program, AllocError> {
+    let left = Expr::name(Text::from_slice(alloc, left)?, at(40));
+    let right = Expr::name(Text::from_slice(alloc, right)?, at(44));
+    let value = Expr::binary(alloc, op, left, right, at(42))?;
+    let body = vec![in alloc; Stmt::return_(Some(value), at(33))]?;
+    let function = Function {
+        name: Text::from_slice(alloc, b"f")?,
+        at: at(10),
+        result: Some(UNSIGNED),
+        params: vec![in alloc; param(alloc, b"a")?, param(alloc, b"b")?]?,
+        body: Some(body),
+    };
+    Ok(Program {
+        items: vec![in alloc; Item::Function(function)]?,
+        end: at(50),
+    })
 }
 
 #[test]
-fn reads_one_line(rt: HostRuntime) -> Result<(), Fail> {
-    let source = b"unsigned f(unsigned a,unsigned b){return a+b;}";
-    let sum = read_sum(rt.alloc(), source)?.ok_or("a sum")?;
+fn sum_of_two_parameters(rt: HostRuntime) -> Result<(), Fail> {
+    let alloc = rt.alloc();
+    let program = program(alloc, b"b", Binary::Add, b"a")?;
+    let sum = sum_of(alloc, &program)?.ok_or("a sum")?;
     assert!(rt; sum.name.is_same(b"f"));
-    assert_eq!(rt;
-        sum.at,
-        Place {
-            line: 1,
-            column: 10,
-            part: 0
-        }
-    );
-    assert_eq!(rt; sum.left, Operand::First);
-    assert_eq!(rt; sum.right, Operand::Second);
-    Ok(())
-}
-
-#[test]
-fn reads_several_lines(rt: HostRuntime) -> Result<(), Fail> {
-    let source = b"\n unsigned\n  sum_2 ( unsigned\nx , unsigned _y)\n{\n  return _y\n+ _y ;\n}\n";
-    let sum = read_sum(rt.alloc(), source)?.ok_or("a sum")?;
-    assert!(rt; sum.name.is_same(b"sum_2"));
-    assert_eq!(rt;
-        sum.at,
-        Place {
-            line: 3,
-            column: 3,
-            part: 0
-        }
-    );
+    assert_eq!(rt; sum.at, at(10));
     assert_eq!(rt; sum.left, Operand::Second);
-    assert_eq!(rt; sum.right, Operand::Second);
+    assert_eq!(rt; sum.right, Operand::First);
     Ok(())
 }
 
 #[test]
-fn takes_nothing_else(rt: HostRuntime) -> Result<(), Fail> {
+fn other_programs_are_none(rt: HostRuntime) -> Result<(), Fail> {
     let alloc = rt.alloc();
-    assert!(rt; !is_sum(alloc, b"")?);
-    assert!(rt; !is_sum(alloc, b"unsigned f(unsigned a,unsigned b){return a-a;}")?);
-    assert!(rt; !is_sum(alloc, b"unsigned f(unsigned a,unsigned b){return a+c;}")?);
-    assert!(rt; !is_sum(alloc, b"unsigned f(unsigned a,unsigned a){return a+a;}")?);
-    assert!(rt; !is_sum(alloc, b"unsigned f(unsigned a,unsigned b){return a+b;};")?);
-    assert!(rt; !is_sum(alloc, b"unsigned\tf(unsigned a,unsigned b){return a+b;}")?);
-    assert!(rt; !is_sum(alloc, b"unsigned f(unsigned a,unsigned b){return a+b;")?);
-    assert!(rt; !is_sum(alloc, b"unsignedf(unsigned a,unsigned b){return a+b;}")?);
-    Ok(())
-}
-
-#[test]
-fn names_are_identifiers(rt: HostRuntime) -> Result<(), Fail> {
-    let alloc = rt.alloc();
-    assert!(rt; !is_sum(alloc, b"unsigned while(unsigned a,unsigned b){return a+b;}")?);
-    assert!(rt; !is_sum(alloc, b"unsigned f(unsigned _Bool,unsigned b){return b+b;}")?);
-    assert!(rt; !is_sum(alloc, b"unsigned +(unsigned a,unsigned b){return a+b;}")?);
-    assert!(rt; !is_sum(alloc, b"unsigned f(unsigned 1a,unsigned b){return b+b;}")?);
-    assert!(rt;
-        is_sum(
-            alloc,
-            b"unsigned whiles(unsigned a,unsigned b){return a+b;}"
-        )?
-    );
-    assert!(rt;
-        is_sum(
-            alloc,
-            b"unsigned xxxxxxxxxxxxxxxxxxxxxxxxxxxxxxxxxxxxxxxxxxxxxxxxxxxxxxxxxxxxxxxx(unsigned a,unsigned b){return a+b;}"
-        )?
-    );
-    assert!(rt;
-        !is_sum(
-            alloc,
-            b"unsigned xxxxxxxxxxxxxxxxxxxxxxxxxxxxxxxxxxxxxxxxxxxxxxxxxxxxxxxxxxxxxxxxx(unsigned a,unsigned b){return a+b;}"
-        )?
-    );
-    Ok(())
-}
-
-#[test]
-fn sources_have_4096_bytes(rt: HostRuntime) -> Result<(), Fail> {
-    let longest = padded(rt.alloc(), 4050)?;
-    assert_eq!(rt; longest.len(), 4096);
-    assert!(rt; is_sum(rt.alloc(), &longest)?);
-    let longer = padded(rt.alloc(), 4051)?;
-    assert!(rt; !is_sum(rt.alloc(), &longer)?);
+    let difference = program(alloc, b"a", Binary::Sub, b"b")?;
+    assert!(rt; sum_of(alloc, &difference)?.is_none());
+    let other_name = program(alloc, b"a", Binary::Add, b"c")?;
+    assert!(rt; sum_of(alloc, &other_name)?.is_none());
+    let empty = Program {
+        items: Vec::new(alloc),
+        end: at(1),
+    };
+    assert!(rt; sum_of(alloc, &empty)?.is_none());
     Ok(())
 }

@@ -7,11 +7,12 @@ use Rattle.rtl_core.specs.Agreement.{Agrees}
 use Rattle.verilog_print.specs.PrintableNames.{HasPrintableNames}
 use Rattle.cycle_report.specs.PlainReport.{PlainReport, plain_of}
 use Rattle.cycle_report.specs.ReportForm.{HasForm, IsReport}
-use Rattle.sum_program.specs.SourceRow.{IsWord}
+use Rattle.sum_program.specs.SumForm.{IsWord}
 use Rattle.hls_flow.specs.FirstFault.{IsFound}
 use Rattle.sum_circuit.specs.SumCircuit.{sum_interface, sum_answers, sum_netlist}
 use Rattle.hls_flow.specs.SumReport.{sum_report}
-use Rattle.hls_flow.proofs.SumMade.{identifier_of, names_printable, has_form, correct}
+use Rattle.hls_flow.proofs.Words.{identifier_of}
+use Rattle.hls_flow.proofs.SumMade.{names_printable, has_form, correct}
 use Rattle.hls_flow.proofs.synth.synth.Goals as goal
 
 pub sum_design-requires : goal.sum_design-requires
@@ -23,7 +24,7 @@ print-requires-clause-names c = subst HasPrintableNames (sym c.in_ok-design.ensu
 pub print-requires-2 : goal.print-requires-2
 print-requires-2 c =
     let found = c.in_ok-program.ensures.found in
-    let top : c.in_ok-program.program.name ≡ c.args.settings.now.top = found.named ∙ c.items.ensures in
+    let top : c.in_ok-program.program.name ≡ c.args.settings.now.top = found.is.named in
     let P : List ℕ → Type 0 = λ name. length name ≤ 64 in
     subst HasForm (sym c.in_ok-report.ensures) (has_form c.in_ok-program.program c.args.settings.now c.requires (subst IsWord top found.word) (subst P top found.short))
 
@@ -31,7 +32,7 @@ pub returns-clause-made : goal.returns-clause-made
 returns-clause-made c =
     let program = c.in_ok-program.program in
     let found = c.in_ok-program.ensures.found in
-    correct c.args.source.now c.args.settings.now program c.in_ok-module.module c.in_ok-report-2.report (subst (λ name. IsFound c.args.source.now name program) c.items.ensures found)
+    correct c.args.source.now c.args.settings.now program c.in_ok-module.module c.in_ok-report-2.report found
     (subst (IsModuleText c.in_ok-module.module) c.in_ok-design.ensures.exact c.in_ok-module.ensures.circuit)
     (subst (IsReport c.in_ok-report-2.report) c.in_ok-report.ensures c.in_ok-report-2.ensures.related)
     (λ file_scope. let P : Netlist → Type 0 = λ d. Agrees d sum_interface 0 file_scope (sum_answers program) in subst P c.in_ok-design.ensures.exact (c.in_ok-design.ensures.agrees file_scope))

@@ -1,0 +1,53 @@
+-- A source that is a program has no fault, and is one program.
+use Rattle.std.proofs.Common.{◌≡◌, ℕ, suc, ◌+◌, ◌<◌, List, [], ◌∷◌, ◌++◌, length, refl, sym, subst, ap, ◌∙◌, arith, inl, inr, append_assoc, append-nil, length-append}
+use Rattle.hls_base.specs.declared.place.Place.{Place}
+use Rattle.hls_base.specs.declared.refusal.Refusal.{Refusal}
+use Rattle.c_token.specs.declared.token.Token.{Token}
+use Rattle.c_token.specs.SourceText.{Spells, FirstFault}
+use Rattle.c_token.specs.Replacement.{Becomes, FirstReplacementFault}
+use Rattle.c_token.proofs.Unique.{spells_once, spelled_or_refused}
+use Rattle.c_token.proofs.Divided.{becomes_once, becomes_or_refused}
+use Rattle.c_tree.specs.Terminals.{terminals}
+use Rattle.c_tree.specs.Tree.{ProgramTree}
+use Rattle.c_tree.specs.Refusal.{IsProgram}
+use Rattle.c_checked.specs.Faults.{IsLeast}
+use Rattle.c_checked.specs.Programs.{program_faults}
+use Rattle.sum_program.specs.declared.program.Sum.{Sum}
+use Rattle.hls_flow.specs.FirstFault as f
+use Rattle.hls_flow.specs.FirstFault.{end_of, IsReplaced, IsProgramOf, IsSumSource, IsAccepted, IsFaultBefore, IsFirstFault}
+use Rattle.hls_flow.proofs.Grammar.{no_fault}
+
+-- ---- a source
+
+one_list : (source : List ℕ) (tokens others : List Token) → IsReplaced source tokens → IsReplaced source others → tokens ≡ others
+one_list source tokens others a b =
+    let spelled : a.tokens ≡ b.tokens = spells_once source a.tokens b.tokens a.spelled b.spelled in
+    becomes_once b.tokens tokens others (subst (λ x. Becomes x tokens) spelled a.becomes) b.becomes
+
+pub program_has_no_fault : (source : List ℕ) (program : ProgramTree) (fault : Refusal) → IsProgramOf source program → IsFaultBefore source fault → ⊥
+program_has_no_fault source program fault p (f.of_tokens refused) = spelled_or_refused source p.replaced.tokens fault p.replaced.spelled refused
+program_has_no_fault source program fault p (f.of_replacement tokens spelled refused) =
+    let same : p.replaced.tokens ≡ tokens = spells_once source _ _ p.replaced.spelled spelled in
+    becomes_or_refused tokens p.tokens fault (subst (λ x. Becomes x p.tokens) same p.replaced.becomes) refused
+program_has_no_fault source program fault p (f.of_grammar tokens replaced refused) =
+    let same : p.tokens ≡ tokens = one_list source _ _ p.replaced replaced in
+    no_fault (terminals tokens) (end_of source) program fault (subst (λ x. IsProgram (terminals x) (end_of source) program) same p.is) refused
+
+pub are_replaced : (source : List ℕ) (items tokens others replaced : List Token) → tokens ≡ items → replaced ≡ others → Spells source items → Becomes tokens others → IsReplaced source replaced
+are_replaced source items tokens others replaced e g spelled becomes =
+    record { tokens = tokens; spelled = subst (Spells source) (sym e) spelled; becomes = subst (Becomes tokens) (sym g) becomes }
+
+-- what the source's only list of tokens is
+pub program_of_list : (source : List ℕ) (program : ProgramTree) (tokens : List Token) → IsProgramOf source program → IsReplaced source tokens → IsProgram (terminals tokens) (end_of source) program
+program_of_list source program tokens p replaced = subst (λ x. IsProgram (terminals x) (end_of source) program) (one_list source _ _ p.replaced replaced) p.is
+
+no_least : (fs : List Refusal) (fault : Refusal) → fs ≡ [] → IsLeast fs fault → ⊥
+no_least [] fault e least = let none : least.0.0 < 0 = least.0.1 in absurd (omega arith)
+no_least (f ∷ fs) fault e least = absurd cc
+
+pub accepted_has_no_fault : (source top : List ℕ) (fault : Refusal) → IsAccepted source top → IsFirstFault source top fault → ⊥
+accepted_has_no_fault source top fault accepted (f.no_program before) = program_has_no_fault source accepted.is.program fault accepted.is.is before
+accepted_has_no_fault source top fault accepted (f.breaks_a_rule program the least) =
+    let same : accepted.is.program ≡ program = the.only accepted.is.program accepted.is.is in
+    no_least (program_faults program top) fault (subst (λ p. program_faults p top ≡ []) same accepted.is.faultless) least
+accepted_has_no_fault source top fault accepted (f.other_form program the faultless none not_compiled) = none accepted.sum accepted.is

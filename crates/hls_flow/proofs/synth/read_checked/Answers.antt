@@ -1,0 +1,31 @@
+use Rattle.std.proofs.Common.{◌≡◌, List, ℕ, [], refl, sym, subst, ap, ◌∙◌}
+use Rattle.hls_base.specs.declared.refusal.Refusal.{Refusal}
+use Rattle.c_tree.specs.Tree.{ProgramTree}
+use Rattle.c_tree.specs.declared.program.Program.{Program}
+use Rattle.c_tree.specs.View.{program_of}
+use Rattle.c_checked.specs.declared.checked.Checked.{Checked}
+use Rattle.c_checked.specs.Faults.{IsLeast}
+use Rattle.c_checked.specs.Programs.{program_faults}
+use Rattle.hls_flow.specs.FirstFault as f
+use Rattle.hls_flow.specs.FirstFault.{IsTheProgramOf, IsFaultBefore, IsFirstFault}
+use Rattle.hls_flow.proofs.Outcomes.{passed_on, refused_weaker, ok_weaker}
+use Rattle.hls_flow.proofs.synth.read_checked.Goals as goal
+
+pub returns-in_err-program-clause-refused : goal.returns-in_err-program-clause-refused
+returns-in_err-program-clause-refused c =
+    passed_on Program _ c.in_err-program.field-0.0 (IsFaultBefore c.args.source.now) (IsFirstFault c.args.source.now c.args.top.now) c.from_residual.ensures.1 (λ y e. e)
+    (λ r fault. f.no_program fault) c.in_err-program.ensures.refused
+
+pub returns-clause-found : goal.returns-clause-found
+returns-clause-found c =
+    let program = c.in_ok-program.program in
+    let the : IsTheProgramOf c.args.source.now (program_of program) = record { is = c.in_ok-program.ensures.found; only = c.in_ok-program.ensures.only } in
+    ok_weaker c.check.result (λ (k : Checked). k.program ≡ program) (λ (k : Checked). IsTheProgramOf c.args.source.now (program_of k.program))
+    (λ k e. subst (λ p. IsTheProgramOf c.args.source.now (program_of p)) (sym e) the) c.check.ensures.program
+
+pub returns-clause-refused : goal.returns-clause-refused
+returns-clause-refused c =
+    let program = c.in_ok-program.program in
+    let the : IsTheProgramOf c.args.source.now (program_of program) = record { is = c.in_ok-program.ensures.found; only = c.in_ok-program.ensures.only } in
+    refused_weaker c.check.result (λ r. IsLeast (program_faults (program_of program) c.args.top.now) r) (IsFirstFault c.args.source.now c.args.top.now)
+    (λ r least. f.breaks_a_rule (program_of program) the least) c.check.ensures.refused

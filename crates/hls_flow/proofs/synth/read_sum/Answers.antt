@@ -1,0 +1,51 @@
+use Rattle.std.proofs.Common.{◌≡◌, ◌≢◌, List, ℕ, [], refl, sym, subst, ap, ◌∙◌, map, true, Some, Result, Ok, Err}
+use Rattle.std.specs.Prelude.{slice_get, is_some}
+use Rattle.hls_base.specs.declared.refusal.Refusal.{Refusal}
+use Rattle.hls_base.specs.Refusals.{IfRefused}
+use Rattle.c_tree.specs.Tree as tree
+use Rattle.c_tree.specs.Tree.{ItemTree, ProgramTree}
+use Rattle.c_tree.specs.View.{program_of, item_of, function_of}
+use Rattle.c_checked.specs.Programs.{program_faults}
+use Rattle.sum_program.specs.declared.program.Sum.{Sum}
+use Rattle.sum_program.specs.SumForm.{IsSum}
+use Rattle.hls_flow.specs.FirstFault as f
+use Rattle.hls_flow.specs.FirstFault.{IsTheProgramOf, IsSumSource, IsNotCompiled, IsFirstFault}
+use Rattle.hls_flow.proofs.Outcomes.{refused_weaker}
+use Rattle.hls_flow.proofs.synth.read_sum.Goals as goal
+
+-- a sum that the source is, is one of the program that was read
+sum_of_program : (source top : List ℕ) (program : ProgramTree) (s : Sum) → IsTheProgramOf source program → IsSumSource source top s → IsSum program s
+sum_of_program source top program s the is = subst (λ p. IsSum p s) (the.only is.program is.is) is.sum_is
+
+pub returns-in-Some-clause-refused : goal.returns-in-Some-clause-refused
+returns-in-Some-clause-refused c =
+    let program = program_of c.in_ok-checked.checked.program in
+    let the : IsTheProgramOf c.args.source.now program = c.in_ok-checked.ensures.found in
+    let only : (other : Sum) → IsSum program other → other ≡ c.in-Some.sum = rw c.in-Some.is at c.in_ok-sum.ensures.only in
+    refused_weaker c.named.result (λ r. (r ≡ record { rule = 37; place = c.top_function.result.now.at }) × (c.in-Some.sum.name ≢ c.items.result.now)) (IsFirstFault c.args.source.now c.args.top.now)
+    (λ r h. f.other_form program the c.in_ok-checked.ensures.faultless
+    (λ s is. let same : s ≡ c.in-Some.sum = only s (sum_of_program c.args.source.now c.args.top.now program s the is) in
+    h.1 (ap (λ (x : Sum). x.name) (sym same) ∙ (is.named ∙ sym c.items.ensures)))
+    (record {
+      index = c.in_ok-checked.checked.top;
+      function = function_of c.top_function.result.now;
+      item = subst (λ items. slice_get (map item_of items) c.in_ok-checked.checked.top ≡ Some (tree.function (function_of c.top_function.result.now))) c.deref.ensures.value c.top_function.ensures.item;
+      has_body = c.top_function.ensures.body;
+      fault_is = h.0;
+    }))
+    c.named.ensures.refused
+
+pub returns-clause-refused : goal.returns-clause-refused
+returns-clause-refused c =
+    let program = program_of c.in_ok-checked.checked.program in
+    let the : IsTheProgramOf c.args.source.now program = c.in_ok-checked.ensures.found in
+    let none : (s : Sum) → ¬ IsSum program s = rw c.in-None.is at c.in_ok-sum.ensures.refused in
+    let not : IsNotCompiled program (record { rule = 37; place = c.top_function.result.now.at }) = record {
+      index = c.in_ok-checked.checked.top;
+      function = function_of c.top_function.result.now;
+      item = subst (λ items. slice_get (map item_of items) c.in_ok-checked.checked.top ≡ Some (tree.function (function_of c.top_function.result.now))) c.deref.ensures.value c.top_function.ensures.item;
+      has_body = c.top_function.ensures.body;
+      fault_is = refl;
+    } in
+    subst (λ z. IfRefused {A = Sum} (Err z) (IsFirstFault c.args.source.now c.args.top.now)) (sym c.not_compiled.ensures)
+    (f.other_form program the c.in_ok-checked.ensures.faultless (λ s is. none s (sum_of_program c.args.source.now c.args.top.now program s the is)) not)
