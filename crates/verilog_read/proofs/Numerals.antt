@@ -29,7 +29,7 @@ no_quote_digit : (m : ℕ) → m ≡ 39 → IsDigit m → ⊥
 no_quote_digit m e h = omega (arith, e, h.0)
 
 -- two rows of digits before a quote
-sizes_agree : (ds size : List ℕ) (ms more : List ℕ) → All IsDigit ds → All IsDigit size → ds ++ (39 ∷ ms) ≡ size ++ (39 ∷ more) → (ds ≡ size) × (ms ≡ more)
+pub sizes_agree : (ds size : List ℕ) (ms more : List ℕ) → All IsDigit ds → All IsDigit size → ds ++ (39 ∷ ms) ≡ size ++ (39 ∷ more) → (ds ≡ size) × (ms ≡ more)
 sizes_agree [] [] ms more h k e = (refl, cc)
 sizes_agree [] (d ∷ size) ms more h k e = let same : d ≡ 39 = cc in absurd (no_quote_digit d same (All-head IsDigit d size k))
 sizes_agree (d ∷ ds) [] ms more h k e = let same : d ≡ 39 = cc in absurd (no_quote_digit d same (All-head IsDigit d ds h))
@@ -68,7 +68,7 @@ number_head : (ds : List ℕ) → IsNumber ds → (c : ℕ) × (cs : List ℕ) �
 number_head [] h = absurd (omega (arith, h.0))
 number_head (c ∷ cs) h = (c, cs, refl, All-head IsDigit c cs h.1)
 
-not_digit_end : (ds : List ℕ) (m : ℕ) (ms : List ℕ) → m ≡ 39 → All IsDigit (ds ++ (m ∷ ms)) → ⊥
+pub not_digit_end : (ds : List ℕ) (m : ℕ) (ms : List ℕ) → m ≡ 39 → All IsDigit (ds ++ (m ∷ ms)) → ⊥
 not_digit_end [] m ms e all = no_quote_digit m e (All-head IsDigit m ms all)
 not_digit_end (d ∷ ds) m ms e all = not_digit_end ds m ms e (All-tail IsDigit d (ds ++ (m ∷ ms)) all)
 

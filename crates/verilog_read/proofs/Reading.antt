@@ -20,7 +20,8 @@ use Rattle.verilog_read.specs.ModuleViews.{added, no_module}
 use Rattle.verilog_read.specs.Parsing.{tokens_in, Common, FitsSome, IsReached, FirstWrong, IsParsed}
 use Rattle.verilog_read.proofs.Runs.{Agree, stops, common_within, opened, no_follower, step_back}
 use Rattle.verilog_read.proofs.Forms.{tokens_long}
-use Rattle.verilog_read.proofs.Seen.{Seen, seen_nothing, seen_whole, step_on, no_start}
+use Rattle.verilog_read.proofs.Phases.{Seen}
+use Rattle.verilog_read.proofs.Seen.{seen_nothing, seen_whole, step_on, no_start}
 
 -- ---- every form can be completed
 
@@ -53,7 +54,7 @@ completed (x ∷ xs) (t ∷ ts) n (inl (fit, r)) = subst (λ k. FitsAll (x ∷ x
 completed (x ∷ xs) (t ∷ ts) n (inr (none, e)) = subst (λ k. FitsAll (x ∷ xs) (take k (t ∷ ts) ++ map example (drop k (x ∷ xs)))) (sym e) (examples_fit (x ∷ xs))
 
 -- some tokens go on behind a form
-abbrev Finish : Form → Type 0
+abbrev pub Finish : Form → Type 0
 Finish form = (more : List spelled.Token) × Goes form more
 
 finish_by : (form next : Form) → Contains (followers_of form) next → Finish next → Finish form
@@ -71,7 +72,7 @@ finish_clock = finish_by f.Clock f.ModuleEnd (14, omega arith, refl) finish_end
 finish_head : Finish f.Head
 finish_head = finish_by f.Head f.Clock (1, omega arith, refl) finish_clock
 
-finish : (form : Form) → Finish form
+pub finish : (form : Form) → Finish form
 finish f.Start = finish_by f.Start f.Head (0, omega arith, refl) finish_head
 finish f.Head = finish_head
 finish f.HeaderName = finish_by f.HeaderName f.Clock (1, omega arith, refl) finish_clock

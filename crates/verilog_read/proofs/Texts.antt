@@ -8,7 +8,8 @@ use Rattle.hls_base.specs.declared.refusal.Fail.{Fail}
 use Rattle.hls_base.specs.declared.refusal.Fail.TheVariants.{Refused, Memory}
 use Rattle.hls_base.specs.Refusals.{IfRefused}
 use Rattle.rtl_core.specs.declared.design.Design.{Design}
-use Rattle.rtl_core.specs.Netlist.{netlist_of}
+use Rattle.rtl_core.specs.Netlist.{Netlist, netlist_of}
+use Rattle.rtl_core.specs.ModuleText.{IsModuleText}
 use Rattle.verilog_read.specs.Circuit.{circuit_of}
 use Rattle.verilog_read.specs.declared.token.Token.{Token}
 use Rattle.verilog_read.specs.declared.parser.Stop.{Stop}
@@ -22,8 +23,9 @@ use Rattle.verilog_read.specs.ModuleViews.{blank}
 use Rattle.verilog_read.specs.Parsing.{tokens_in, FirstWrong, StopsRight, IsParsed}
 use Rattle.verilog_read.specs.Earliest.{first_fault}
 use Rattle.verilog_read.specs.Faults.{module_faults}
-use Rattle.verilog_read.specs.TextFaults.{limit, Says, IsTextOf, FrontFault, unknown, misplaced, early, IsFirstFault, at_front, in_module, refusal_behind, failure_of}
+use Rattle.verilog_read.specs.TextFaults.{limit, Says, FrontFault, unknown, misplaced, early, IsFirstFault, at_front, in_module, refusal_behind, failure_of}
 use Rattle.verilog_read.proofs.Forms.{tokens_long}
+use Rattle.verilog_read.proofs.Relation.{related, only_related}
 
 same_tokens : (ts : List Token) → tokens_of (lexemes_of ts) ≡ tokens_in ts
 same_tokens [] = refl
@@ -92,14 +94,23 @@ refused_end bytes tokens end m small lexed parsed other =
 pub says : (bytes : List ℕ) (tokens : List Token) (end : Refusal) (m : PlacedModule) → Lexes bytes tokens end → IsParsed tokens m → end.rule ≡ 51 → Says bytes m
 says bytes tokens end m lexed parsed rule =
     let none : lexed.rest ≡ [] = (elim lexed.ends [ inl e ↦ e.0 | inr u ↦ absurd (omega (arith, rule, u.1)) ]) in
-    record { lexemes = lexemes_of tokens; end = end.place; reads = subst (λ y. Reads bytes text_start (lexemes_of tokens) y end.place) none lexed.reads; stand = parsed.stand; named = parsed.named }
+    record { lexemes = lexemes_of tokens; end = end.place; reads = subst (λ y. Reads bytes text_start (lexemes_of tokens) y end.place) none lexed.reads; stand = parsed.stand; grammar = subst IsModule (sym (same_tokens tokens)) parsed.grammar; blocks = parsed.blocks; nets = parsed.nets; named = parsed.named }
 
 -- ---- the answer
 
-pub read_ok : (bytes : List ℕ) (m : PlacedModule) (r : Result Design Fail) → length bytes ≤ limit → Says bytes m → IfOk r (λ d. (first_fault (module_faults m) ≡ None) × (netlist_of d ≡ circuit_of m))
-    → IfOk r (λ d. IsTextOf bytes (netlist_of d))
-read_ok bytes m (Ok d) small said h = record { within = small; content = m; says = said; faultless = h.0; circuit = h.1 }
-read_ok bytes m (Err e) small said h = tt
+pub read_within : (bytes : List ℕ) (r : Result Design Fail) → length bytes ≤ limit → IfOk r (λ d. length bytes ≤ limit)
+read_within bytes (Ok d) small = small
+read_within bytes (Err e) small = tt
+
+pub read_text : (bytes : List ℕ) (m : PlacedModule) (r : Result Design Fail) → length bytes ≤ limit → Says bytes m → IfOk r (λ d. (first_fault (module_faults m) ≡ None) × (netlist_of d ≡ circuit_of m))
+    → IfOk r (λ d. IsModuleText bytes (netlist_of d))
+read_text bytes m (Ok d) small said h = subst (IsModuleText bytes) (sym h.1) (related bytes m small said h.0)
+read_text bytes m (Err e) small said h = tt
+
+pub read_only : (bytes : List ℕ) (m : PlacedModule) (r : Result Design Fail) → length bytes ≤ limit → Says bytes m → IfOk r (λ d. (first_fault (module_faults m) ≡ None) × (netlist_of d ≡ circuit_of m))
+    → IfOk r (λ d. (e : Netlist) → IsModuleText bytes e → e ≡ netlist_of d)
+read_only bytes m (Ok d) small said h = λ e is. only_related bytes m e small said h.0 is ∙ sym h.1
+read_only bytes m (Err e) small said h = tt
 
 pub read_refused : (bytes : List ℕ) (m : PlacedModule) (r : Result Design Fail) → length bytes ≤ limit → Says bytes m → IfRefused r (λ x. first_fault (module_faults m) ≡ Some x) → IfRefused r (λ x. IsFirstFault bytes x)
 read_refused bytes m (Ok d) small said h = tt

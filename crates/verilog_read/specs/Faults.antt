@@ -96,10 +96,13 @@ may_add_up bits None None = nat_lt 1 bits
 abbrev pub join_fits : Scope → ℕ → Operand → Operand → Bool
 join_fits scope bits x y = (may_add_up bits (meaning scope x) (meaning scope y) && is_in_range x) && is_in_range y
 
+-- the bits from `high` down to `low` are there, and so many
+abbrev pub is_part : ℕ → ℕ → List ℕ → List ℕ → Bool
+is_part wide bits high low =
+    (nat_lt (number_value high) wide && nat_le (number_value low) (number_value high)) && ((bits + number_value low) == (number_value high + 1))
+
 abbrev pub part_fits : Scope → ℕ → List ℕ → List ℕ → List ℕ → Bool
-part_fits scope bits name high low =
-    option_map_or (λ (m : Meaning). (nat_lt (min (number_value high) 1000000) m.bits && nat_le (min (number_value low) 1000000) (min (number_value high) 1000000))
-    && ((bits + min (number_value low) 1000000) == (min (number_value high) 1000000 + 1))) (named scope name) true
+part_fits scope bits name high low = option_map_or (λ (m : Meaning). is_part m.bits bits high low) (named scope name) true
 
 abbrev pub same_atom : Atom → Atom → Bool
 same_atom (atom.Constant b v) (atom.Constant c w) = (b == c) && (v == w)

@@ -1,5 +1,5 @@
 -- The tokens of what a module's text says, each with its place where a fault may stand there.
-use Rattle.std.specs.Prelude.{◌≡◌, ℕ, Bool, true, false, List, [], ◌∷◌, ◌++◌, codes, if◌then◌else◌}
+use Rattle.std.specs.Prelude.{◌≡◌, ℕ, Bool, true, false, not, ◌&&◌, ◌||◌, List, [], ◌∷◌, ◌++◌, codes, if◌then◌else◌}
 use Rattle.hls_base.specs.declared.place.Place.{Place}
 use Rattle.rtl_core.specs.ModuleTokens.{Token, Word, Number, Constant, Sign}
 use Rattle.rtl_core.specs.ModuleSyntax.{Operand, Named, Fixed, operator}
@@ -118,6 +118,11 @@ end_before is_open drive = if goes_on drive then [] else end_marks is_open
 abbrev pub is_open_behind : Bool → List Drive → Bool
 is_open_behind is_open [] = is_open
 is_open_behind is_open (d ∷ ds) = is_open_behind (opens d) ds
+
+-- a further port stands where a block is open
+abbrev pub in_blocks : Bool → List Drive → Bool
+in_blocks is_open [] = true
+in_blocks is_open (d ∷ ds) = (is_open || not (goes_on d)) && in_blocks (opens d) ds
 
 -- all edges, where a block may be left open
 abbrev pub open_marks : Bool → List Drive → List Mark

@@ -1,5 +1,5 @@
 -- What the parser finds.
-use Rattle.std.specs.Prelude.{◌≡◌, ◌⊎◌, ℕ, suc, ◌<◌, ◌≤◌, List, [], ◌∷◌, length, take, map}
+use Rattle.std.specs.Prelude.{◌≡◌, ◌⊎◌, ℕ, suc, true, false, ◌<◌, ◌≤◌, List, [], ◌∷◌, length, take, map}
 use Rattle.std.specs.List.{All, Contains}
 use Rattle.rtl_core.specs.Valid.{IsName}
 use Rattle.rtl_core.specs.ModuleTokens as spelled
@@ -11,7 +11,7 @@ use Rattle.verilog_read.specs.declared.parser.Stop.TheVariants as stop
 use Rattle.verilog_read.specs.Views.{token_of, lexemes_of}
 use Rattle.verilog_read.specs.Forms.{FitsClass, classes_of, IsModule, BeginsModule}
 use Rattle.verilog_read.specs.PlacedSyntax.{PlacedModule, PlacedDeclared, PlacedMemory, PlacedWire}
-use Rattle.verilog_read.specs.Marks.{Stand, module_marks}
+use Rattle.verilog_read.specs.Marks.{NetStands, Stand, in_blocks, module_marks}
 
 abbrev pub tokens_in : List Token → List spelled.Token
 tokens_in tokens = map (λ (x : Token). token_of x.kind) tokens
@@ -54,4 +54,6 @@ pub record IsNamed (m : PlacedModule) : Type 0 where
 pub record IsParsed (tokens : List Token) (m : PlacedModule) : Type 0 where
   pub grammar : IsModule (tokens_in tokens)
   pub stand : Stand (lexemes_of tokens) (module_marks m)
+  pub blocks : in_blocks false m.drives ≡ true
+  pub nets : All (λ (x : PlacedWire). NetStands x.place x.net) m.wires
   pub named : IsNamed m

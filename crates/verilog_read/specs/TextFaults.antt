@@ -1,8 +1,8 @@
--- The first fault of a text, and which circuit the text of a module without a fault is.
-use Rattle.std.specs.Prelude.{◌≡◌, ℕ, ◌<◌, ◌≤◌, List, [], ◌∷◌, ◌++◌, length, nat_lt, slice_index_or, Some, None, if◌then◌else◌}
+-- What a text says, and its first fault.
+use Rattle.std.specs.Prelude.{◌≡◌, ℕ, ◌<◌, ◌≤◌, List, [], ◌∷◌, ◌++◌, length, nat_lt, slice_index_or, true, false, Some, if◌then◌else◌}
+use Rattle.std.specs.List.{All}
 use Rattle.hls_base.specs.declared.place.Place.{Place}
 use Rattle.hls_base.specs.declared.refusal.Refusal.{Refusal}
-use Rattle.rtl_core.specs.Netlist.{Netlist}
 use Rattle.hls_base.specs.declared.refusal.Fail.{Fail}
 use Rattle.hls_base.specs.declared.refusal.Fail.TheVariants as fail
 use Rattle.verilog_read.specs.declared.token.Token.{Token}
@@ -12,12 +12,11 @@ use Rattle.verilog_read.specs.ModuleViews.{blank}
 use Rattle.verilog_read.specs.TextPlaces.{text_start}
 use Rattle.verilog_read.specs.Lexemes.{Lexeme, tokens_of, Reads, NothingBegins}
 use Rattle.verilog_read.specs.Forms.{IsModule, BeginsModule}
-use Rattle.verilog_read.specs.PlacedSyntax.{PlacedModule}
-use Rattle.verilog_read.specs.Marks.{Stand, module_marks}
+use Rattle.verilog_read.specs.PlacedSyntax.{PlacedWire, PlacedModule}
+use Rattle.verilog_read.specs.Marks.{NetStands, Stand, in_blocks, module_marks}
 use Rattle.verilog_read.specs.Parsing.{IsNamed}
 use Rattle.verilog_read.specs.Earliest.{first_fault}
 use Rattle.verilog_read.specs.Faults.{module_faults}
-use Rattle.verilog_read.specs.Circuit.{circuit_of}
 
 abbrev pub limit : ℕ
 limit = 67108864
@@ -28,15 +27,10 @@ pub record Says (bytes : List ℕ) (m : PlacedModule) : Type 0 where
   pub end : Place
   pub reads : Reads bytes text_start lexemes [] end
   pub stand : Stand lexemes (module_marks m)
+  pub grammar : IsModule (tokens_of lexemes)
+  pub blocks : in_blocks false m.drives ≡ true
+  pub nets : All (λ (x : PlacedWire). NetStands x.place x.net) m.wires
   pub named : IsNamed m
-
--- the bytes are the text of a module without a fault, which is this circuit
-pub record IsTextOf (bytes : List ℕ) (d : Netlist) : Type 0 where
-  pub within : length bytes ≤ limit
-  pub content : PlacedModule
-  pub says : Says bytes content
-  pub faultless : first_fault (module_faults content) ≡ None
-  pub circuit : d ≡ circuit_of content
 
 -- A byte at which no token begins, where the tokens before it are those with which a module's text begins; the first token that no module's text has there; or the end of a text that is none, though one begins with its tokens.
 pub data FrontFault (bytes : List ℕ) : Refusal → Type 0 where

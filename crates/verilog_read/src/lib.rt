@@ -3,14 +3,15 @@
 
 ghost use Rattle.std.specs.Prelude.{◌≡◌, ◌++◌, ◌≤◌, ◌<◌, ℕ, List, length, None, Some, IfOk, OnOk};
 ghost use Rattle.hls_base.specs.Refusals.{IfRefused};
-ghost use Rattle.rtl_core.specs.Netlist.{netlist_of};
+ghost use Rattle.rtl_core.specs.Netlist.{Netlist, netlist_of};
+ghost use Rattle.rtl_core.specs.ModuleText.{IsModuleText};
 ghost use Rattle.verilog_read.specs.NameTable.{scope_in};
 ghost use Rattle.verilog_read.specs.ModuleViews.{module_view};
 ghost use Rattle.verilog_read.specs.Scope.{scope_of, pins, declarations};
 ghost use Rattle.verilog_read.specs.Earliest.{noted, first_fault};
 ghost use Rattle.verilog_read.specs.Faults.{header_faults, declared_faults, no_scope, content_faults, module_faults, output_slots, driven};
 ghost use Rattle.verilog_read.specs.Circuit.{circuit_of};
-ghost use Rattle.verilog_read.specs.TextFaults.{IsTextOf, IsFirstFault, refusal_behind, failure_of};
+ghost use Rattle.verilog_read.specs.TextFaults.{limit, IsFirstFault, refusal_behind, failure_of};
 
 mod characters;
 mod checks;
@@ -122,8 +123,11 @@ fn failure_of(lexed: &Lexed, stop: Stop) -> Fail
 
 /// The circuit of a module's text, or the text's first fault.
 pub fn read(alloc: Global, bytes: &[u8]) -> Result<Design, Fail>
-    ensures read { IfOk result (λ d. IsTextOf bytes.now (netlist_of d)) }
+    ensures within { IfOk result (λ d. length bytes.now ≤ limit) }
+    ensures text { IfOk result (λ d. IsModuleText bytes.now (netlist_of d)) }
+    ensures only { IfOk result (λ d. (e : Netlist) → IsModuleText bytes.now e → e ≡ netlist_of d) }
     ensures refused { IfRefused result (λ r. IsFirstFault bytes.now r) }
+    ensures no_text { IfRefused result (λ r. length bytes.now ≤ limit → (d : Netlist) → IsModuleText bytes.now d → ⊥) }
 {
     if bytes.len() > TEXT_LIMIT {
         return Err(Fail::Refused(Refusal {

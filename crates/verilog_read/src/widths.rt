@@ -1,7 +1,7 @@
 ghost use Rattle.std.specs.Prelude.{◌≡◌, ℕ, ◌^◌, ◌==◌, ◌||◌, ◌&&◌, nat_lt, min, map, IfOk, OnOk};
 ghost use Rattle.verilog_read.specs.ModuleViews.{operand_view, value_view, net_view, name_view, write_view, drive_view};
 ghost use Rattle.verilog_read.specs.NameTable.{scope_in};
-ghost use Rattle.verilog_read.specs.Faults.{same_atom, is_port_of, is_port_drive, port_addresses, is_in_range, may_have, may_agree, pair_fits, may_add_up, join_fits, part_fits, is_same_depth, address_fits, word_fits, net_fits};
+ghost use Rattle.verilog_read.specs.Faults.{same_atom, is_port_of, is_port_drive, port_addresses, is_in_range, may_have, may_agree, pair_fits, may_add_up, join_fits, is_part, part_fits, is_same_depth, address_fits, word_fits, net_fits};
 ghost use Rattle.verilog_read.specs.AddressSets.{address_of, addresses_in};
 ghost use Rattle.rtl_core.specs.declared.design.Atom.{Atom};
 
@@ -166,15 +166,20 @@ fn join_fits(names: &Names, bits: u8, high: Operand, low: Operand) -> bool
         && is_in_range(low)
 }
 
-fn part_fits(names: &Names, bits: u8, name: Name, high: &[u8], low: &[u8]) -> bool
-    ensures { result ≡ part_fits (scope_in names.now) bits (name_view name.entry).text high.now low.now }
+/// Whether the bits from `high` down to `low` are among so many, and make up so many.
+fn is_part(wide: u8, bits: u8, high: &[u8], low: &[u8]) -> bool
+    ensures { result ≡ is_part wide bits high.now low.now }
 {
     let high = number_value(high);
     let low = number_value(low);
+    (high < u32::from(wide) && low <= high) && u32::from(bits) + low == high + 1
+}
+
+fn part_fits(names: &Names, bits: u8, name: Name, high: &[u8], low: &[u8]) -> bool
+    ensures { result ≡ part_fits (scope_in names.now) bits (name_view name.entry).text high.now low.now }
+{
     match names.named(name.text) {
-        Some(meaning) => {
-            (high < u32::from(meaning.bits) && low <= high) && u32::from(bits) + low == high + 1
-        }
+        Some(meaning) => is_part(meaning.bits, bits, high, low),
         None => true,
     }
 }
