@@ -1,9 +1,10 @@
 pub mod Accepted
 pub mod Inits
+pub mod Layers
 pub mod Least
 pub mod Lists
+pub mod Noted
 pub mod Operands
 pub mod Rounds
-pub mod Scopes
 pub mod StatementTrees
 pub mod Trees

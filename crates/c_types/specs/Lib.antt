@@ -1,5 +1,8 @@
 pub mod Views
 pub mod Senses
+pub mod Entries
+pub mod Layers
 pub mod Written
 pub mod Extended
 pub mod Linked
+pub mod Noted

@@ -42,6 +42,7 @@ fn is_accessed(names: &Scopes, name: &Text, subscripts: usize) -> bool
 }
 
 /// The read of a name with so many subscripts, if it is one.
+#[inline(never)]
 pub fn read_of(
     alloc: Global,
     names: &Scopes,
@@ -59,6 +60,7 @@ pub fn read_of(
 }
 
 /// The change of a name with so many subscripts, if it is one.
+#[inline(never)]
 pub fn change_of(
     alloc: Global,
     names: &Scopes,

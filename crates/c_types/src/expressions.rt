@@ -34,6 +34,7 @@ struct Operands {
 }
 
 /// What was found of two parts, one after the other.
+#[inline(never)]
 fn both(left: Judged, right: Judged) -> Result<Judged, AllocError>
     ensures fault { IfOk result (λ j. j.fault ≡ order.lesser left.fault right.fault) }
     ensures accesses { IfOk result (λ j. j.accesses.items ≡ left.accesses.items ++ right.accesses.items) }
@@ -121,6 +122,7 @@ pub fn expression(
 }
 
 /// An element that is read.
+#[inline(never)]
 #[cycle(expression)]
 #[tactic(auto, using(crate::proofs::Least::least_append))]
 fn element(
@@ -145,6 +147,7 @@ fn element(
     Ok(Judged { fault, accesses })
 }
 
+#[inline(never)]
 #[cycle(expression)]
 #[tactic(auto, using(crate::proofs::Least::least_append))]
 fn call(
@@ -172,6 +175,7 @@ fn call(
 }
 
 /// A target that is changed by this operator, to a value with these accesses.
+#[inline(never)]
 #[cycle(expression)]
 #[tactic(auto, using(crate::proofs::Operands::changed_parts))]
 pub fn changed(
@@ -231,6 +235,7 @@ fn operand_fault(
 }
 
 /// Subscripts, or the arguments for these parameters.
+#[inline(never)]
 #[cycle(expression)]
 fn all_operands(
     alloc: Global,

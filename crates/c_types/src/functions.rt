@@ -70,10 +70,13 @@ pub fn declaration_fault(
     if names.find(&f.name).is_none() {
         let name = f.name.copy(alloc)?;
         let result = f.result;
-        names.declare(Declared {
-            name,
-            sense: Sense::Function { result, params },
-        })?;
+        names.declare(
+            alloc,
+            Declared {
+                name,
+                sense: Sense::Function { result, params },
+            },
+        )?;
     }
     Ok(fault_if(other || again, 8, f.at))
 }
@@ -110,7 +113,7 @@ fn param_fault(
     if param.named {
         let name = param.object.name.copy(alloc)?;
         let sense = Sense::Object(form.shape);
-        names.declare(Declared { name, sense })?;
+        names.declare(alloc, Declared { name, sense })?;
     }
     Ok(fault)
 }

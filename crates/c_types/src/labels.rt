@@ -1,12 +1,14 @@
 //! Labels and jumps.
-ghost use Rattle.std.specs.Prelude.{◌≡◌, ◌++◌, [], OnOk, IfOk};
+ghost use Rattle.std.specs.Prelude.{◌≡◌, ◌++◌, ◌||◌, [], OnOk, IfOk};
 ghost use Rattle.std.specs.Option.{option_map};
 ghost use Rattle.c_tree.specs.View.{tree_of, stmt_of, stmts_of};
 ghost use Rattle.c_checked.specs.Faults.{least};
 ghost use Rattle.c_checked.specs.Faults as order;
-ghost use Rattle.c_checked.specs.Labels.{outside_faults, repeated_faults, is_label_among};
+ghost use Rattle.c_checked.specs.Labels.{outside_faults, repeated_faults};
 ghost use Rattle.c_checked.specs.Labels as spec;
 ghost use Rattle.c_types.specs.Written.{label_view, around_view};
+ghost use Rattle.c_types.specs.Noted.{is_noted};
+ghost use Rattle.c_types.specs.declared.labels.Label.{Label};
 
 use crate::faults::{fault_if, lesser};
 use crate::lengths::has_value;
@@ -17,6 +19,7 @@ use c_value::constant::{Constant, constant_value};
 use c_value::convert::convert;
 use hls_base::place::Place;
 use hls_base::refusal::Refusal;
+use indexmap::IndexSet;
 use std::alloc::{AllocError, Global};
 use std::marker::Model;
 
@@ -100,7 +103,7 @@ pub fn has_no_value(value: &Option<Expr>) -> bool
 }
 
 /// What a label asks for: a number, the default, or nothing where its value is at fault.
-#[derive(Clone, Copy, Debug, PartialEq, Eq)]
+#[derive(Clone, Copy, Debug, PartialEq, Eq, Hash)]
 pub enum Label {
     Case(i128),
     Default,
@@ -172,38 +175,30 @@ fn block_labels(alloc: Global, kind: CType, body: &[Stmt]) -> Result<Vec<LabelAt
     Ok(labels)
 }
 
-fn same_label(label: Label, other: Label) -> bool
-    ensures { result ≡ spec.same_label (label_view label) (label_view other) }
+/// Whether a label like this one was noted. The next time it was.
+fn note(noted: &mut IndexSet<Label>, label: Label) -> Result<bool, AllocError>
+    ensures found { IfOk result (λ r. r ≡ is_noted noted.old.keys label) }
+    ensures noted { OnOk result ((other : Label) → is_noted noted.new.keys other ≡ (is_noted noted.old.keys other || spec.same_label (label_view other) (label_view label))) }
 {
-    match (label, other) {
-        (Label::Case(n), Label::Case(m)) => n == m,
-        (Label::Default, Label::Default) => true,
-        _ => false,
+    if let Label::Faulty = label {
+        return Ok(false);
     }
-}
-
-fn is_among(label: Label, labels: &[LabelAt]) -> bool
-    ensures { result ≡ is_label_among (label_view label) labels.now }
-{
-    for other in labels {
-        if same_label(label, other.label) {
-            return true;
-        }
-    }
-    false
+    let is_new = noted.insert(label)?;
+    Ok(!is_new)
 }
 
 /// The least label that is the same as one before it.
-fn least_repeated(labels: &[LabelAt]) -> Option<Refusal>
-    ensures { result ≡ least (repeated_faults [] labels.now) }
+fn least_repeated(alloc: Global, labels: &[LabelAt]) -> Result<Option<Refusal>, AllocError>
+    ensures { IfOk result (λ r. r ≡ least (repeated_faults [] labels.now)) }
 {
+    let mut noted = IndexSet::new(alloc);
     let mut worst = None;
     for i in 0..labels.len() {
         let here = &labels[i];
-        let repeated = is_among(here.label, &labels[..i]);
+        let repeated = note(&mut noted, here.label)?;
         worst = lesser(worst, fault_if(repeated, 16, here.at));
     }
-    worst
+    Ok(worst)
 }
 
 /// The least label of a switch over this type that is the same as one before it.
@@ -215,5 +210,5 @@ pub fn repeated_fault(
     ensures { IfOk result (λ r. r ≡ least (repeated_faults [] (spec.block_labels kind (stmts_of body.now)))) }
 {
     let labels = block_labels(alloc, kind, body)?;
-    Ok(least_repeated(&labels))
+    least_repeated(alloc, &labels)
 }

@@ -1,15 +1,17 @@
 //! What names stand for, and where they are declared.
-ghost use Rattle.std.specs.Prelude.{◌≡◌, ◌+◌, ◌-◌, ◌<◌, ◌≤◌, [], ◌∷◌, IfOk, length, drop, take, reverse, is_some, bytes_eq};
-ghost use Rattle.std.specs.Option.{option_copied, option_map};
+ghost use Rattle.std.specs.Prelude.{◌≡◌, ◌-◌, ◌<◌, ◌≤◌, ℕ, List, true, [], ◌∷◌, IfOk, length, drop, is_some, bytes_eq, if◌then◌else◌};
+ghost use Rattle.std.specs.Option.{option_map};
 ghost use Rattle.c_checked.specs.Faults.{least};
 ghost use Rattle.c_checked.specs.Names.{sense_of, is_declared_since, dimension_faults, use_faults, target_faults};
 ghost use Rattle.c_types.specs.Senses.{sense_view};
+ghost use Rattle.c_types.specs.Entries.{entry_in, index_in};
 
 use crate::faults::{fault, fault_if, lesser};
 use c_token::ctype::CType;
 use hls_base::place::Place;
 use hls_base::refusal::Refusal;
 use hls_base::text::Text;
+use indexmap::IndexMap;
 use std::alloc::{AllocError, Global};
 use std::marker::Model;
 
@@ -56,19 +58,31 @@ impl Model for Declared {
     ghost view = { λ d. declared_view d.name d.sense };
 }
 
-/// The names that are visible at a place. A clause sees them from the latest to the earliest.
+/// A declaration, and the index of the earlier one of the same name that it hides.
 #[derive(Debug, Drop)]
+struct Layer {
+    declared: Declared,
+    hidden: Option<usize>,
+}
+
+/// The names that are visible at a place. A clause sees them from the latest to the earliest.
+#[derive(Drop)]
 pub struct Scopes {
-    declared: Vec<Declared>,
+    layers: Vec<Layer>,
+    latest: IndexMap<Vec<u8>, Option<usize>>,
 }
 
 impl Model for Scopes {
-    ghost use Rattle.std.specs.Prelude.{List, reverse};
+    ghost use Rattle.std.specs.Prelude.{List};
     ghost use Rattle.c_checked.specs.Names.{Declared};
 
     ghost Value = { List Declared };
 
-    ghost view = { λ s. reverse s.declared.items };
+    ghost use Rattle.c_types.specs.Layers.{visible, IsIndexed};
+
+    ghost view = { λ s. visible s.layers.items };
+
+    ghost invariant = { λ s. IsIndexed s.layers.items s.latest.entries };
 }
 
 impl Scopes {
@@ -76,7 +90,8 @@ impl Scopes {
         ensures { result ≡ [] }
     {
         Scopes {
-            declared: Vec::new(alloc),
+            layers: Vec::new(alloc),
+            latest: IndexMap::new(alloc),
         }
     }
 
@@ -84,33 +99,57 @@ impl Scopes {
     pub fn len(&self) -> usize
         ensures { result ≡ length self.now }
     {
-        self.declared.len()
+        self.layers.len()
     }
 
     /// What the name stands for, if anything.
     pub fn find(&self, name: &Text) -> Option<&Sense>
         ensures { option_map (λ s. sense_view s.now) result ≡ sense_of name.now self.now }
     {
-        find_last(&self.declared, name)
+        match latest_index(&self.latest, name.items()) {
+            None => None,
+            Some(index) => {
+                let layer = &self.layers[index];
+                let declared = &layer.declared;
+                Some(&declared.sense)
+            }
+        }
     }
 
     /// Whether the name is among those that were declared since there were so many.
     pub fn is_declared_since(&self, start: usize, name: &Text) -> bool
         ensures { result ≡ is_declared_since start name.now self.now }
     {
-        let declared = self.declared.as_slice();
-        if start < declared.len() {
-            find_last(&declared[start..], name).is_some()
-        } else {
-            false
+        match latest_index(&self.latest, name.items()) {
+            None => false,
+            Some(index) => start <= index,
         }
     }
 
-    pub fn declare(&mut self, declared: Declared) -> Result<(), AllocError>
+    pub fn declare(&mut self, alloc: Global, declared: Declared) -> Result<(), AllocError>
         ensures { IfOk result (λ _. self.new ≡ declared ∷ self.old) }
     {
-        self.declared.push(declared)?;
-        Ok(())
+        let index = self.layers.len();
+        let name = Vec::from_slice(alloc, declared.name.items())?;
+        let hidden = latest_index(&self.latest, &name);
+        self.layers.push(Layer { declared, hidden })?;
+        match self.latest.insert(name, Some(index)) {
+            Ok(_) => Ok(()),
+            Err(_) => {
+                self.layers.pop();
+                Err(AllocError)
+            }
+        }
+    }
+
+    /// Forgets the latest name.
+    fn forget_latest(&mut self)
+        requires { 0 < length self.old }
+        ensures { self.new ≡ drop 1 self.old }
+    {
+        if let Some(layer) = self.layers.pop() {
+            restore(&mut self.latest, layer.declared.name.items(), layer.hidden);
+        }
     }
 
     /// Forgets the names that were declared since there were so many.
@@ -118,7 +157,20 @@ impl Scopes {
         requires { len ≤ length self.old }
         ensures { self.new ≡ drop (length self.old - len) self.old }
     {
-        self.declared.truncate(len);
+        let count = self.len() - len;
+        for i in 0..count {
+            self.forget_latest();
+        }
+    }
+}
+
+/// The index of the latest declaration of the name.
+fn latest_index(latest: &IndexMap<Vec<u8>, Option<usize>>, name: &[u8]) -> Option<usize>
+    ensures { result ≡ index_in name.now latest.now.entries }
+{
+    match latest.get(name) {
+        Some(index) => *index,
+        None => None,
     }
 }
 
@@ -128,19 +180,14 @@ pub fn is_same_name(name: &Text, other: &Text) -> bool
     name.items() == other.items()
 }
 
-/// What the last declaration of the name says.
-fn find_last<'a>(declared: &'a [Declared], name: &Text) -> Option<&'a Sense>
-    ensures { option_map (λ s. sense_view s.now) result ≡ sense_of name.now (reverse declared.now) }
+/// Gives the name's entry this index.
+fn restore(latest: &mut IndexMap<Vec<u8>, Option<usize>>, name: &[u8], index: Option<usize>)
+    requires { is_some (entry_in name.now latest.old.entries) ≡ true }
+    ensures { (q : List ℕ) → index_in q latest.new.entries ≡ (if bytes_eq q name.now then index else index_in q latest.old.entries) }
 {
-    let mut i = declared.len();
-    while i > 0 {
-        i -= 1;
-        let last = &declared[i];
-        if is_same_name(name, &last.name) {
-            return Some(&last.sense);
-        }
+    if let Some(entry) = latest.get_mut(name) {
+        *entry = index;
     }
-    None
 }
 
 /// The fault of an element, or of a name alone, of an object with so many dimensions.

@@ -1,10 +1,9 @@
 //! Functions that come back to themselves by calls.
-ghost use Rattle.std.specs.Prelude.{◌≡◌, ◌≤◌, ◌<◌, ◌+◌, ◌++◌, ◌==◌, ◌&&◌, ◌||◌, ℕ, false, nat_le, length, slice_index_or, All, OnOk, IfOk};
-ghost use Rattle.std.specs.List.{list_any};
+ghost use Rattle.std.specs.Prelude.{◌≡◌, ◌≤◌, ◌<◌, ◌+◌, ◌++◌, ◌==◌, ◌&&◌, ℕ, List, [], false, nat_le, length, slice_index_or, OnOk, IfOk};
 ghost use Rattle.std.specs.Vec.{vec_len};
 ghost use Rattle.c_checked.specs.Faults.{least};
 ghost use Rattle.c_checked.specs.Calls.{number_of, call_links, links, reaches, round_faults, recursion_faults};
-ghost use Rattle.c_types.specs.Linked.{AreWithin, Marks};
+ghost use Rattle.c_types.specs.Linked.{AreWithin, AreBelow, Marks, sources, HasSources, RowsAreBelow, is_among, calls_one, Spreads};
 
 use crate::called::{Called, Caller};
 use crate::faults::{fault_if, lesser};
@@ -53,35 +52,88 @@ fn links_of(alloc: Global, callers: &[Caller]) -> Result<Vec<(usize, usize)>, Al
     Ok(linked)
 }
 
-/// The functions that come to the target by one call more.
-fn one_more(
+/// The functions that call the one with this number.
+fn sources_of(
     alloc: Global,
     linked: &[(usize, usize)],
-    marks: &[bool],
-    target: usize,
-) -> Result<Vec<bool>, AllocError>
-    requires within { AreWithin (length marks.now) linked.now }
-    requires target { target < length marks.now }
-    ensures len { IfOk result (λ v. vec_len v ≡ length marks.now) }
-    ensures value { IfOk result (λ v. (f : ℕ) → f < length marks.now → slice_index_or v.items f false ≡ ((f == target) || list_any (λ l. (l.0 == f) && slice_index_or marks.now l.1 false) linked.now)) }
+    callee: usize,
+) -> Result<Vec<usize>, AllocError>
+    ensures { IfOk result (λ v. v.items ≡ sources linked.now callee) }
 {
-    let mut next = vec![in alloc; false; marks.len()]?;
-    next[target] = true;
-    mark(&mut next, linked, marks);
-    Ok(next)
-}
-
-/// Marks who calls one that is marked.
-fn mark(next: &mut [bool], linked: &[(usize, usize)], marks: &[bool])
-    requires within { AreWithin (length marks.now) linked.now }
-    requires len { length next.old ≡ length marks.now }
-    ensures { (f : ℕ) → f < length marks.now → slice_index_or next.new f false ≡ (slice_index_or next.old f false || list_any (λ l. (l.0 == f) && slice_index_or marks.now l.1 false) linked.now) }
-{
+    let mut found = Vec::new(alloc);
     for link in linked {
-        if marks[link.1] {
-            next[link.0] = true;
+        if callee == link.1 {
+            found.push(link.0)?;
         }
     }
+    Ok(found)
+}
+
+/// Who calls each function.
+fn all_sources(
+    alloc: Global,
+    linked: &[(usize, usize)],
+    size: usize,
+) -> Result<Vec<Vec<usize>>, AllocError>
+    ensures { IfOk result (λ v. HasSources linked.now size v.items) }
+{
+    let mut rows = Vec::new(alloc);
+    for callee in 0..size {
+        rows.push(sources_of(alloc, linked, callee)?)?;
+    }
+    Ok(rows)
+}
+
+/// Marks these functions, and notes those that were not marked before.
+fn mark(these: &[usize], marks: &mut [bool], noted: &mut Vec<usize>) -> Result<(), AllocError>
+    requires { AreBelow (length marks.old) these.now }
+    ensures { OnOk result (Spreads (λ f. is_among f these.now) marks.old noted.old.items marks.new noted.new.items) }
+{
+    for number in these {
+        if !marks[*number] {
+            marks[*number] = true;
+            noted.push(*number)?;
+        }
+    }
+    Ok(())
+}
+
+/// Marks the functions that call one of the front, and notes those that were not marked before.
+fn spread(
+    rows: &[Vec<usize>],
+    front: &[usize],
+    marks: &mut [bool],
+    noted: &mut Vec<usize>,
+) -> Result<(), AllocError>
+    requires long { length rows.now ≡ length marks.old }
+    requires rows { RowsAreBelow (length marks.old) rows.now }
+    requires front { AreBelow (length marks.old) front.now }
+    ensures { OnOk result (Spreads (λ f. calls_one rows.now f front.now) marks.old noted.old.items marks.new noted.new.items) }
+{
+    for number in front {
+        mark(&rows[*number], marks, noted)?;
+    }
+    Ok(())
+}
+
+/// The marks, and the functions that were marked last.
+#[derive(Debug, Drop)]
+struct Wave {
+    marks: Vec<bool>,
+    front: Vec<usize>,
+}
+
+/// The functions that come to the target by one call more.
+fn one_more(alloc: Global, rows: &[Vec<usize>], wave: Wave) -> Result<Wave, AllocError>
+    requires long { length rows.now ≡ length wave.marks.items }
+    requires rows { RowsAreBelow (length wave.marks.items) rows.now }
+    requires front { AreBelow (length wave.marks.items) wave.front.items }
+    ensures { IfOk result (λ w. Spreads (λ f. calls_one rows.now f wave.front.items) wave.marks.items [] w.marks.items w.front.items) }
+{
+    let mut marks = wave.marks;
+    let mut front = Vec::new(alloc);
+    spread(rows, &wave.front, &mut marks, &mut front)?;
+    Ok(Wave { marks, front })
 }
 
 /// The target alone.
@@ -98,22 +150,23 @@ fn alone(alloc: Global, size: usize, target: usize) -> Result<Vec<bool>, AllocEr
 /// The functions that come to the target by at most so many calls.
 fn reaching(
     alloc: Global,
-    linked: &[(usize, usize)],
-    size: usize,
+    rows: &[Vec<usize>],
     rounds: usize,
     target: usize,
 ) -> Result<Vec<bool>, AllocError>
-    requires within { AreWithin size linked.now }
-    requires target { target < size }
-    ensures { IfOk result (λ v. Marks linked.now size rounds target v.items) }
+    requires rows { RowsAreBelow (length rows.now) rows.now }
+    requires target { target < length rows.now }
+    ensures { IfOk result (λ v. (links : List (ℕ × ℕ)) → AreWithin (length rows.now) links → HasSources links (length rows.now) rows.now → Marks links (length rows.now) rounds target v.items) }
 {
-    let mut marks = alone(alloc, size, target)?;
+    let marks = alone(alloc, rows.len(), target)?;
+    let front = vec![in alloc; target]?;
+    let mut wave = Wave { marks, front };
     let mut round = 0;
-    while round < rounds {
-        marks = one_more(alloc, linked, &marks, target)?;
+    while round < rounds && !wave.front.is_empty() {
+        wave = one_more(alloc, rows, wave)?;
         round += 1;
     }
-    Ok(marks)
+    Ok(wave.marks)
 }
 
 /// Whether the callee is marked and its body stands at or before the one with this index.
@@ -144,15 +197,16 @@ fn round_fault(
     worst
 }
 
-/// The least call that leads round. It takes time by the calls and twice the functions.
+/// The least call that leads round. It takes time by the functions, times the functions and the calls.
 pub fn recursion_fault(alloc: Global, callers: &[Caller]) -> Result<Option<Refusal>, AllocError>
     ensures { IfOk result (λ r. r ≡ least (recursion_faults callers.now 0 callers.now)) }
 {
     let linked = links_of(alloc, callers)?;
+    let rows = all_sources(alloc, &linked, callers.len() + 1)?;
     let mut worst = None;
     for (i, caller) in callers.iter().enumerate() {
         let target = number(callers, &caller.name);
-        let marks = reaching(alloc, &linked, callers.len() + 1, callers.len(), target)?;
+        let marks = reaching(alloc, &rows, callers.len(), target)?;
         worst = lesser(
             worst,
             round_fault(callers, &marks, i, target, &caller.calls),

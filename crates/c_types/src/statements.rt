@@ -46,7 +46,7 @@ fn object_fault(
     let lengths = lengths_fault(alloc, bodies, names, &o.lengths)?;
     let name = o.name.copy(alloc)?;
     let sense = Sense::Object(form.shape);
-    names.declare(Declared { name, sense })?;
+    names.declare(alloc, Declared { name, sense })?;
     let init = optional_init_fault(alloc, bodies, names, &o.init)?;
     Ok(lesser(repeated, lesser(form.fault, lesser(lengths, init))))
 }

@@ -1,2 +1,3 @@
 mod Examples
+pub mod Choosing
 pub mod Operating

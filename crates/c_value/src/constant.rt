@@ -1,8 +1,10 @@
 //! Constant expressions.
-ghost use Rattle.std.specs.Prelude.{◌≡◌, pos};
+ghost use Rattle.std.specs.Prelude.{◌≡◌, pos, if◌then◌else◌};
 ghost use Rattle.c_tree.specs.View.{tree_of};
-ghost use Rattle.c_value.specs.Operators.{computed_of};
-ghost use Rattle.c_value.specs.Constant.{is_constant, constant_kind, constant_number, constant_value, as_truth, operated};
+ghost use Rattle.c_value.specs.Operators.{computed_of, defined, is_true};
+ghost use Rattle.c_value.specs.Operators as operators;
+ghost use Rattle.c_value.specs.Values as values;
+ghost use Rattle.c_value.specs.Constant.{then_compute, is_constant, constant_kind, constant_number, constant_value, as_truth, operated};
 ghost use Rattle.c_value.specs.Inside.{value_of};
 
 use crate::convert::convert;
@@ -10,7 +12,7 @@ use crate::kind::{INT, common};
 use crate::operate::{binary_kind, binary_value, unary_kind, unary_value};
 use c_token::ctype::CType;
 use c_tree::expression::Expr;
-use c_tree::operator::Binary;
+use c_tree::operator::{Binary, Unary};
 use hls_base::refusal::UbRule;
 
 /// What an expression is as a constant: a number of a type, or an expression of the form that has no value, or none of the form.
@@ -84,48 +86,94 @@ fn operated(
     }
 }
 
-/// The number of a constant expression.
-pub fn constant_number(e: &Expr) -> Result<i128, UbRule>
-    ensures { computed_of result ≡ constant_number (tree_of e.now) }
+/// The type and the number of a constant expression.
+#[derive(Debug, Drop)]
+struct Valued {
+    kind: CType,
+    number: Result<i128, UbRule>,
+}
+
+fn of_unary(op: Unary, arg: Valued) -> Valued
+    ensures kind { result.kind ≡ operators.unary_kind op arg.kind }
+    ensures number { computed_of result.number ≡ then_compute (computed_of arg.number) (operators.unary_value op arg.kind) }
+{
+    let kind = unary_kind(op, arg.kind);
+    let number = match arg.number {
+        Ok(x) => unary_value(op, arg.kind, x),
+        Err(rule) => Err(rule),
+    };
+    Valued { kind, number }
+}
+
+fn of_binary(op: Binary, left: Valued, right: Valued) -> Valued
+    ensures kind { result.kind ≡ operators.binary_kind op left.kind right.kind }
+    ensures number { computed_of result.number ≡ then_compute (computed_of left.number) (λ x. operated op left.kind x right.kind (computed_of right.number)) }
+{
+    let kind = binary_kind(op, left.kind, right.kind);
+    let number = match left.number {
+        Ok(x) => operated(op, left.kind, x, right.kind, right.number),
+        Err(rule) => Err(rule),
+    };
+    Valued { kind, number }
+}
+
+fn converted(kind: CType, number: Result<i128, UbRule>) -> Result<i128, UbRule>
+    ensures { computed_of result ≡ then_compute (computed_of number) (λ y. defined (values.convert kind y)) }
+{
+    let y = number?;
+    Ok(convert(kind, y))
+}
+
+fn of_choice(test: Valued, yes: Valued, no: Valued) -> Valued
+    ensures kind { result.kind ≡ values.common yes.kind no.kind }
+    ensures number { computed_of result.number ≡ then_compute (computed_of test.number) (λ x. then_compute (if is_true x then computed_of yes.number else computed_of no.number) (λ y. defined (values.convert (values.common yes.kind no.kind) y))) }
+{
+    let kind = common(yes.kind, no.kind);
+    let number = match test.number {
+        Ok(0) => converted(kind, no.number),
+        Ok(_) => converted(kind, yes.number),
+        Err(rule) => Err(rule),
+    };
+    Valued { kind, number }
+}
+
+fn evaluate(e: &Expr) -> Valued
+    ensures kind { result.kind ≡ constant_kind (tree_of e.now) }
+    ensures number { computed_of result.number ≡ constant_number (tree_of e.now) }
 {
     match e {
-        Expr::Number { value, .. } => Ok(i128::from(*value)),
-        Expr::Unary { op, arg, .. } => {
-            let x = constant_number(arg)?;
-            unary_value(*op, constant_kind(arg), x)
-        }
+        Expr::Number { value, kind, .. } => Valued {
+            kind: *kind,
+            number: Ok(i128::from(*value)),
+        },
+        Expr::Unary { op, arg, .. } => of_unary(*op, evaluate(arg)),
         Expr::Binary {
             op,
             left,
             right,
             ..
-        } => {
-            let x = constant_number(left)?;
-            operated(
-                *op,
-                constant_kind(left),
-                x,
-                constant_kind(right),
-                constant_number(right),
-            )
-        }
-        Expr::Choice { test, yes, no, .. } => {
-            let kind = common(constant_kind(yes), constant_kind(no));
-            let x = constant_number(test)?;
-            if x != 0 {
-                let y = constant_number(yes)?;
-                Ok(convert(kind, y))
-            } else {
-                let y = constant_number(no)?;
-                Ok(convert(kind, y))
-            }
-        }
-        Expr::Cast { to, arg, .. } => {
-            let x = constant_number(arg)?;
-            Ok(convert(*to, x))
-        }
-        _ => Ok(0),
+        } => of_binary(*op, evaluate(left), evaluate(right)),
+        Expr::Choice { test, yes, no, .. } => of_choice(
+            evaluate(test),
+            evaluate(yes),
+            evaluate(no),
+        ),
+        Expr::Cast { to, arg, .. } => Valued {
+            kind: *to,
+            number: converted(*to, evaluate(arg).number),
+        },
+        _ => Valued {
+            kind: INT,
+            number: Ok(0),
+        },
     }
+}
+
+/// The number of a constant expression.
+pub fn constant_number(e: &Expr) -> Result<i128, UbRule>
+    ensures { computed_of result ≡ constant_number (tree_of e.now) }
+{
+    evaluate(e).number
 }
 
 /// What the expression is as a constant.
@@ -135,9 +183,10 @@ pub fn constant_value(e: &Expr) -> Constant
     if !is_constant(e) {
         return Constant::Other;
     }
-    match constant_number(e) {
+    let found = evaluate(e);
+    match found.number {
         Ok(number) => Constant::Number {
-            kind: constant_kind(e),
+            kind: found.kind,
             number,
         },
         Err(rule) => Constant::Undefined(rule),

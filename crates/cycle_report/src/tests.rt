@@ -228,22 +228,32 @@ fn reads_what_it_prints(rt: HostRuntime) -> Result<(), Fail> {
     Ok(())
 }
 
-#[test]
-fn refuses_every_front_of_a_report(rt: HostRuntime) -> Result<(), Fail> {
-    let alloc = rt.alloc();
-    let text = print(alloc, &full_report(alloc)?)?;
+/// Whether each front of the text that is not the whole is refused just behind its last byte.
+fn is_refused_at_each_end(alloc: Global, text: &[u8]) -> bool {
     let mut line = 1u32;
     let mut column = 1u32;
-    for n in 0..text.items().len() {
-        let (front, _) = text.items().split_at(n);
-        assert_eq!(rt; refused_at(alloc, front), (line, column));
-        if text.items()[n] == b'\n' {
+    for n in 0..text.len() {
+        let (front, _) = text.split_at(n);
+        if refused_at(alloc, front) != (line, column) {
+            return false;
+        }
+        if text[n] == b'\n' {
             line = line.wrapping_add(1);
             column = 1;
         } else {
             column = column.wrapping_add(1);
         }
     }
+    true
+}
+
+#[test]
+fn refuses_every_front_of_a_report(rt: HostRuntime) -> Result<(), Fail> {
+    let alloc = rt.alloc();
+    let text = print(alloc, &loop_report(alloc)?)?;
+    assert!(rt; is_refused_at_each_end(alloc, text.items()));
+    let text = print(alloc, &full_report(alloc)?)?;
+    assert!(rt; is_refused_at_each_end(alloc, text.items()));
     let (_, rest) = text.items().split_at(13);
     assert_eq!(rt; refused_at(alloc, rest), (1, 1));
     Ok(())

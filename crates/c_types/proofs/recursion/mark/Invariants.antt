@@ -1,9 +1,6 @@
-use Rattle.std.proofs.Common.{◌≡◌, ℕ, ◌<◌, ◌==◌, ◌&&◌, ◌||◌, false, drop, length, get_or}
-use Rattle.std.specs.List.{list_any}
+use Rattle.std.proofs.Common.{take}
+use Rattle.c_types.specs.Linked.{is_among, Spreads}
 use Rattle.c_types.proofs.recursion.mark.Given as goal
 
-abbrev pub invariant-loop-link : goal.invariant-loop-link
-invariant-loop-link l = record {
-  right : (f : ℕ) → f < length l.marks → (get_or l.next f false || list_any (λ k. (k.0 == f) && get_or l.marks k.1 false) (drop l.link-index l.linked))
-      ≡ (get_or l.initial.next f false || list_any (λ k. (k.0 == f) && get_or l.marks k.1 false) l.linked);
-}
+abbrev pub invariant-loop-number : goal.invariant-loop-number
+invariant-loop-number l = Spreads (λ f. is_among f (take l.number-index l.these)) l.initial.marks l.initial.noted.items l.marks l.noted.items

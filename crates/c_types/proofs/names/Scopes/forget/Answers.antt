@@ -1,5 +1,6 @@
-use Rattle.c_types.proofs.Scopes.{reverse_take}
+use Rattle.std.proofs.Common.{drop, ap, ◌∙◌}
+use Rattle.c_types.proofs.Layers.{drop_one}
 use Rattle.c_types.proofs.names.Scopes.forget.Goals as goal
 
-pub returns : goal.returns
-returns c = rw (c.truncate.ensures.items, ← c.self.view_is) (reverse_take c.args.len c.self.inside.declared.items)
+pub loop-i-preserved : goal.loop-i-preserved
+loop-i-preserved c = c.forget_latest.ensures ∙ ap (drop 1) c.loop-i.invariant ∙ drop_one c.loop-i.i c.args.self.now
