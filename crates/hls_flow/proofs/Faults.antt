@@ -1,10 +1,9 @@
 -- A source that is a program has no fault, and is one program.
-use Rattle.std.proofs.Common.{◌≡◌, ℕ, suc, ◌+◌, ◌<◌, List, [], ◌∷◌, ◌++◌, length, refl, sym, subst, ap, ◌∙◌, arith, inl, inr, append_assoc, append-nil, length-append}
-use Rattle.hls_base.specs.declared.place.Place.{Place}
+use Rattle.std.proofs.Common.{◌≡◌, ℕ, ◌<◌, List, [], ◌∷◌, sym, subst, arith}
 use Rattle.hls_base.specs.declared.refusal.Refusal.{Refusal}
 use Rattle.c_token.specs.declared.token.Token.{Token}
-use Rattle.c_token.specs.SourceText.{Spells, FirstFault}
-use Rattle.c_token.specs.Replacement.{Becomes, FirstReplacementFault}
+use Rattle.c_token.specs.SourceText.{Spells}
+use Rattle.c_token.specs.Replacement.{Becomes}
 use Rattle.c_token.proofs.Unique.{spells_once, spelled_or_refused}
 use Rattle.c_token.proofs.Divided.{becomes_once, becomes_or_refused}
 use Rattle.c_tree.specs.Terminals.{terminals}
@@ -12,14 +11,13 @@ use Rattle.c_tree.specs.Tree.{ProgramTree}
 use Rattle.c_tree.specs.Refusal.{IsProgram}
 use Rattle.c_checked.specs.Faults.{IsLeast}
 use Rattle.c_checked.specs.Programs.{program_faults}
-use Rattle.sum_program.specs.declared.program.Sum.{Sum}
 use Rattle.hls_flow.specs.FirstFault as f
 use Rattle.hls_flow.specs.FirstFault.{end_of, IsReplaced, IsProgramOf, IsSumSource, IsAccepted, IsFaultBefore, IsFirstFault}
 use Rattle.hls_flow.proofs.Grammar.{no_fault}
 
 -- ---- a source
 
-one_list : (source : List ℕ) (tokens others : List Token) → IsReplaced source tokens → IsReplaced source others → tokens ≡ others
+pub one_list : (source : List ℕ) (tokens others : List Token) → IsReplaced source tokens → IsReplaced source others → tokens ≡ others
 one_list source tokens others a b =
     let spelled : a.tokens ≡ b.tokens = spells_once source a.tokens b.tokens a.spelled b.spelled in
     becomes_once b.tokens tokens others (subst (λ x. Becomes x tokens) spelled a.becomes) b.becomes
@@ -41,7 +39,7 @@ are_replaced source items tokens others replaced e g spelled becomes =
 pub program_of_list : (source : List ℕ) (program : ProgramTree) (tokens : List Token) → IsProgramOf source program → IsReplaced source tokens → IsProgram (terminals tokens) (end_of source) program
 program_of_list source program tokens p replaced = subst (λ x. IsProgram (terminals x) (end_of source) program) (one_list source _ _ p.replaced replaced) p.is
 
-no_least : (fs : List Refusal) (fault : Refusal) → fs ≡ [] → IsLeast fs fault → ⊥
+pub no_least : (fs : List Refusal) (fault : Refusal) → fs ≡ [] → IsLeast fs fault → ⊥
 no_least [] fault e least = let none : least.0.0 < 0 = least.0.1 in absurd (omega arith)
 no_least (f ∷ fs) fault e least = absurd cc
 

@@ -1,6 +1,6 @@
 -- A source that is a program has fewer items than the most tokens that it may become.
-use Rattle.std.proofs.Common.{◌≡◌, ℕ, zero, suc, ◌+◌, ◌<◌, ◌≤◌, List, [], ◌∷◌, ◌++◌, length, refl, sym, ap, subst, ◌∙◌, arith, Bool, true, false, Result, Ok, Err, length-append}
-use Rattle.c_tree.specs.Terminals.{Terminal, terminals}
+use Rattle.std.proofs.Common.{◌≤◌, List, [], ◌∷◌, ◌++◌, length, arith, length-append}
+use Rattle.c_tree.specs.Terminals.{Terminal}
 use Rattle.c_tree.specs.Tree.{ItemTree, ObjectTree}
 use Rattle.c_tree.specs.Grammar as g
 use Rattle.c_tree.specs.Grammar.{DerivesItem, DerivesItems, DerivesDeclaration}

@@ -1,21 +1,17 @@
 -- The module and the report that are made of a sum are those of a correct synthesis.
-use Rattle.std.proofs.Common.{◌≡◌, ◌≢◌, ℕ, ◌+◌, ◌*◌, ◌<◌, ◌≤◌, List, [], ◌∷◌, length, refl, sym, subst, ap, arith, Bool, true, false, ◌∙◌, inl, inr, ◌⊎◌, Option, Some, None}
-use Rattle.std.specs.Prelude.{◌&&◌, ◌||◌, ◌==◌, nat_le, not, codes, IsTrue, if◌then◌else◌}
-use Rattle.std.specs.List.{All, list_all}
-use Rattle.std.proofs.lemmas.List.Elements.{All-head, All-nil}
-use Rattle.std.proofs.lemmas.List.Sums.{list_all-from_AllPass}
-use Rattle.std.proofs.lemmas.Bool.{eq-eqb, le-leb}
+use Rattle.std.proofs.Common.{◌≡◌, ℕ, ◌+◌, ◌*◌, ◌<◌, ◌≤◌, List, [], ◌∷◌, length, refl, sym, subst, ap, arith, Bool, true, false, Some}
+use Rattle.std.specs.Prelude.{◌&&◌, nat_le, not, if◌then◌else◌}
+use Rattle.std.proofs.lemmas.List.Elements.{All-nil}
+use Rattle.std.proofs.lemmas.Bool.{eq-eqb}
 use Rattle.std.proofs.lemmas.Bool.Decides.{nat_tests}
 use Rattle.hls_base.specs.FileScope.{FileScope}
 use Rattle.hls_base.specs.declared.place.Place.{Place}
 use Rattle.hls_base.specs.declared.settings.Settings.{Settings}
-use Rattle.rtl_core.specs.Netlist.{Netlist}
-use Rattle.rtl_core.specs.Valid.{IsIdentifier, pin_names}
+use Rattle.rtl_core.specs.Valid.{pin_names}
 use Rattle.rtl_core.specs.ModuleText.{IsModuleText}
-use Rattle.rtl_core.specs.Box.{Answer, Answers, Ended}
+use Rattle.rtl_core.specs.Box.{Ended}
 use Rattle.rtl_core.specs.Agreement.{Agrees}
 use Rattle.verilog_print.specs.PrintableNames.{IsNumbered, HasPrintableNames}
-use Rattle.cycle_report.specs.PlainReport.{PlainReport}
 use Rattle.cycle_report.specs.ReportForm as form
 use Rattle.cycle_report.specs.FormulaValue.{cycles, same_place}
 use Rattle.sum_program.specs.declared.program.Sum.{Sum}
@@ -24,7 +20,7 @@ use Rattle.sum_program.specs.SumMeaning.{sum_result, sum_tally}
 use Rattle.sum_circuit.specs.SumCircuit.{sum_interface, sum_answers, sum_netlist}
 use Rattle.sum_circuit.proofs.Names.{all_by}
 use Rattle.hls_flow.specs.FirstFault.{IsFound}
-use Rattle.hls_flow.specs.Synthesis.{AreInRange, interface_of, first_contents, c_answers, ReportsCircuit, SynthesisIsCorrect}
+use Rattle.hls_flow.specs.Synthesis.{AreInRange, first_contents, SynthesisIsCorrect}
 use Rattle.hls_flow.specs.SumReport.{sum_report}
 use Rattle.hls_flow.proofs.Words.{name_test}
 

@@ -55,11 +55,12 @@ pub data IsFaultBefore (source : List ℕ) (fault : Refusal) : Type 0 where
   of_grammar : (tokens : List Token) → IsReplaced source tokens → IsFaultOf (terminals tokens) (end_of source) fault → IsFaultBefore source fault
 
 -- Rule 37 stands where the body of the top function does, at the function's name.
-pub record IsNotCompiled (program : ProgramTree) (fault : Refusal) : Type 0 where
+pub record IsNotCompiled (program : ProgramTree) (top : List ℕ) (fault : Refusal) : Type 0 where
   pub index : ℕ
   pub function : FunctionTree
   pub item : slice_get program.items index ≡ Some (tree.function function)
   pub has_body : is_some function.body ≡ true
+  pub named : function.name ≡ top
   pub fault_is : fault ≡ record { rule = 37; place = function.at }
 
 -- The first fault of a source: it is no program within the limits; or a program that breaks a rule of C, of which the earliest place counts, and at one place the smallest rule; or a program of a form that is not compiled yet, under rule 37.
@@ -67,7 +68,7 @@ pub data IsFirstFault (source top : List ℕ) (fault : Refusal) : Type 0 where
   no_program : IsFaultBefore source fault → IsFirstFault source top fault
   breaks_a_rule : (program : ProgramTree) → IsTheProgramOf source program → IsLeast (program_faults program top) fault → IsFirstFault source top fault
   other_form : (program : ProgramTree) → IsTheProgramOf source program → program_faults program top ≡ [] → ((sum : Sum) → ¬ IsSumSource source top sum)
-      → IsNotCompiled program fault → IsFirstFault source top fault
+      → IsNotCompiled program top fault → IsFirstFault source top fault
 
 -- what holds of the sum that was found: it is the source's, and its function's name is that of a module
 pub record IsFound (source top : List ℕ) (sum : Sum) : Type 0 where

@@ -1,5 +1,5 @@
 -- The report of a sum: a run takes one cycle, and two for the block of the addition.
-use Rattle.std.specs.Prelude.{ℕ, List, [], ◌∷◌}
+use Rattle.std.specs.Prelude.{[], ◌∷◌}
 use Rattle.hls_base.specs.declared.point.PointKind.TheVariants.{Begin}
 use Rattle.hls_base.specs.declared.settings.Settings.{Settings}
 use Rattle.cycle_report.specs.PlainReport.{PlainReport}

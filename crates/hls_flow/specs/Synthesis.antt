@@ -5,10 +5,10 @@ use Rattle.hls_base.specs.declared.settings.Settings.{Settings}
 use Rattle.rtl_core.specs.Netlist.{Netlist}
 use Rattle.rtl_core.specs.ModuleText.{IsModuleText}
 use Rattle.rtl_core.specs.Interface.{Interface}
-use Rattle.rtl_core.specs.Box.{Answer, Answers, Ended}
+use Rattle.rtl_core.specs.Box.{Answers, Ended}
 use Rattle.rtl_core.specs.Agreement.{Agrees}
 use Rattle.rtl_core.specs.Resources.{multipliers, dividers}
-use Rattle.cycle_report.specs.PlainReport.{PlainReport, PlainUnits}
+use Rattle.cycle_report.specs.PlainReport.{PlainReport}
 use Rattle.cycle_report.specs.ReportForm.{IsReport}
 use Rattle.cycle_report.specs.FormulaValue.{cycles}
 use Rattle.sum_program.specs.declared.program.Sum.{Sum}

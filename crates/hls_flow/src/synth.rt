@@ -1,5 +1,6 @@
 ghost use Rattle.std.specs.Prelude.{◌≡◌, ◌≢◌, [], true, map, length, ◌≤◌, slice_get, is_some, Some, IsSome, IfOk};
 ghost use Rattle.hls_base.specs.Refusals.{IfRefused};
+ghost use Rattle.hls_base.specs.declared.refusal.Refusal.{Refusal};
 ghost use Rattle.hls_base.specs.declared.settings.Settings.{Settings};
 ghost use Rattle.cycle_report.specs.PlainReport.{plain_of};
 ghost use Rattle.c_tree.specs.Tree as tree;
@@ -40,6 +41,7 @@ pub fn synth(alloc: Global, source: &[u8], settings: &Settings) -> Result<Made, 
     requires { AreInRange settings.now }
     ensures made { IfOk result (λ m. SynthesisIsCorrect source.now settings.now m.module m.report) }
     ensures refused { IfRefused result (IsFirstFault source.now settings.now.top) }
+    ensures once { IfRefused result (λ r. (q : Refusal) → IsFirstFault source.now settings.now.top q → q ≡ r) }
 {
     let program = read_sum(alloc, source, &settings.top)?;
     let design = sum_design(alloc, &program)?;

@@ -1,6 +1,9 @@
 ghost use Rattle.std.specs.Prelude.{IfOk};
 ghost use Rattle.hls_flow.specs.Synthesis.{AreInRange};
 
+mod limits;
+mod round_trip;
+
 use crate::synth::synth;
 use hls_base::refusal::{Fail, Refusal};
 use hls_base::settings::Settings;

@@ -1,6 +1,4 @@
-use Rattle.std.proofs.Common.{◌≡◌, List, ℕ, [], refl, sym, subst, ap, ◌∙◌}
-use Rattle.hls_base.specs.declared.refusal.Refusal.{Refusal}
-use Rattle.c_tree.specs.Tree.{ProgramTree}
+use Rattle.std.proofs.Common.{◌≡◌, sym, subst}
 use Rattle.c_tree.specs.declared.program.Program.{Program}
 use Rattle.c_tree.specs.View.{program_of}
 use Rattle.c_checked.specs.declared.checked.Checked.{Checked}

@@ -1,11 +1,10 @@
-use Rattle.std.proofs.Common.{◌≡◌, ◌≤◌, sym, subst, List, length, arith}
+use Rattle.std.proofs.Common.{◌≡◌, ◌≤◌, sym, subst, length, arith}
 use Rattle.std.proofs.lemmas.List.{length-map}
 use Rattle.std.specs.declared.vec.Vec.{Vec}
 use Rattle.std.specs.declared.alloc.Global.{Global}
-use Rattle.hls_base.specs.declared.refusal.Refusal.{Refusal}
 use Rattle.c_token.specs.declared.token.Token.{Token}
 use Rattle.c_token.specs.SourceText.{Spells}
-use Rattle.c_token.specs.Replacement.{Becomes, FirstReplacementFault}
+use Rattle.c_token.specs.Replacement.{FirstReplacementFault}
 use Rattle.c_tree.specs.Terminals.{terminals, terminal_of}
 use Rattle.c_tree.specs.Tree.{ProgramTree}
 use Rattle.c_tree.specs.View.{program_of, item_of}

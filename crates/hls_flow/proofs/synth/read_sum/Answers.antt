@@ -1,16 +1,15 @@
-use Rattle.std.proofs.Common.{◌≡◌, ◌≢◌, List, ℕ, [], refl, sym, subst, ap, ◌∙◌, map, true, Some, Result, Ok, Err}
-use Rattle.std.specs.Prelude.{slice_get, is_some}
-use Rattle.hls_base.specs.declared.refusal.Refusal.{Refusal}
+use Rattle.std.proofs.Common.{◌≡◌, ◌≢◌, List, ℕ, refl, sym, subst, ap, ◌∙◌, map, Some, Err}
+use Rattle.std.specs.Prelude.{slice_get}
 use Rattle.hls_base.specs.Refusals.{IfRefused}
 use Rattle.c_tree.specs.Tree as tree
 use Rattle.c_tree.specs.Tree.{ItemTree, ProgramTree}
 use Rattle.c_tree.specs.View.{program_of, item_of, function_of}
-use Rattle.c_checked.specs.Programs.{program_faults}
 use Rattle.sum_program.specs.declared.program.Sum.{Sum}
 use Rattle.sum_program.specs.SumForm.{IsSum}
 use Rattle.hls_flow.specs.FirstFault as f
 use Rattle.hls_flow.specs.FirstFault.{IsTheProgramOf, IsSumSource, IsNotCompiled, IsFirstFault}
 use Rattle.hls_flow.proofs.Outcomes.{refused_weaker}
+use Rattle.hls_flow.proofs.BodyOnce.{top_named}
 use Rattle.hls_flow.proofs.synth.read_sum.Goals as goal
 
 -- a sum that the source is, is one of the program that was read
@@ -31,6 +30,8 @@ returns-in-Some-clause-refused c =
       function = function_of c.top_function.result.now;
       item = subst (λ items. slice_get (map item_of items) c.in_ok-checked.checked.top ≡ Some (tree.function (function_of c.top_function.result.now))) c.deref.ensures.value c.top_function.ensures.item;
       has_body = c.top_function.ensures.body;
+      named = top_named program c.in_ok-checked.checked.top (function_of c.top_function.result.now) c.args.top.now c.in_ok-checked.ensures.top
+          (subst (λ items. slice_get (map item_of items) c.in_ok-checked.checked.top ≡ Some (tree.function (function_of c.top_function.result.now))) c.deref.ensures.value c.top_function.ensures.item) c.top_function.ensures.body;
       fault_is = h.0;
     }))
     c.named.ensures.refused
@@ -40,11 +41,13 @@ returns-clause-refused c =
     let program = program_of c.in_ok-checked.checked.program in
     let the : IsTheProgramOf c.args.source.now program = c.in_ok-checked.ensures.found in
     let none : (s : Sum) → ¬ IsSum program s = rw c.in-None.is at c.in_ok-sum.ensures.refused in
-    let not : IsNotCompiled program (record { rule = 37; place = c.top_function.result.now.at }) = record {
+    let not : IsNotCompiled program c.args.top.now (record { rule = 37; place = c.top_function.result.now.at }) = record {
       index = c.in_ok-checked.checked.top;
       function = function_of c.top_function.result.now;
       item = subst (λ items. slice_get (map item_of items) c.in_ok-checked.checked.top ≡ Some (tree.function (function_of c.top_function.result.now))) c.deref.ensures.value c.top_function.ensures.item;
       has_body = c.top_function.ensures.body;
+      named = top_named program c.in_ok-checked.checked.top (function_of c.top_function.result.now) c.args.top.now c.in_ok-checked.ensures.top
+          (subst (λ items. slice_get (map item_of items) c.in_ok-checked.checked.top ≡ Some (tree.function (function_of c.top_function.result.now))) c.deref.ensures.value c.top_function.ensures.item) c.top_function.ensures.body;
       fault_is = refl;
     } in
     subst (λ z. IfRefused {A = Sum} (Err z) (IsFirstFault c.args.source.now c.args.top.now)) (sym c.not_compiled.ensures)

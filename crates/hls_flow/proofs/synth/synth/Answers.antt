@@ -1,18 +1,19 @@
 -- What is made of the program that was found.
-use Rattle.std.proofs.Common.{◌≡◌, List, ℕ, ◌≤◌, length, ◌∙◌, sym, subst}
-use Rattle.hls_base.specs.FileScope.{FileScope}
-use Rattle.rtl_core.specs.Netlist.{Netlist, netlist_of}
+use Rattle.std.proofs.Common.{◌≡◌, List, ℕ, ◌≤◌, length, sym, subst}
+use Rattle.rtl_core.specs.Netlist.{Netlist}
 use Rattle.rtl_core.specs.ModuleText.{IsModuleText}
 use Rattle.rtl_core.specs.Agreement.{Agrees}
 use Rattle.verilog_print.specs.PrintableNames.{HasPrintableNames}
-use Rattle.cycle_report.specs.PlainReport.{PlainReport, plain_of}
 use Rattle.cycle_report.specs.ReportForm.{HasForm, IsReport}
 use Rattle.sum_program.specs.SumForm.{IsWord}
-use Rattle.hls_flow.specs.FirstFault.{IsFound}
-use Rattle.sum_circuit.specs.SumCircuit.{sum_interface, sum_answers, sum_netlist}
-use Rattle.hls_flow.specs.SumReport.{sum_report}
+use Rattle.hls_base.specs.declared.refusal.Refusal.{Refusal}
+use Rattle.sum_program.specs.declared.program.Sum.{Sum}
+use Rattle.hls_flow.specs.FirstFault.{IsFirstFault}
+use Rattle.sum_circuit.specs.SumCircuit.{sum_interface, sum_answers}
 use Rattle.hls_flow.proofs.Words.{identifier_of}
 use Rattle.hls_flow.proofs.SumMade.{names_printable, has_form, correct}
+use Rattle.hls_flow.proofs.Outcomes.{passed_on}
+use Rattle.hls_flow.proofs.Once.{first_fault_once}
 use Rattle.hls_flow.proofs.synth.synth.Goals as goal
 
 pub sum_design-requires : goal.sum_design-requires
@@ -36,3 +37,10 @@ returns-clause-made c =
     (subst (IsModuleText c.in_ok-module.module) c.in_ok-design.ensures.exact c.in_ok-module.ensures.circuit)
     (subst (IsReport c.in_ok-report-2.report) c.in_ok-report.ensures c.in_ok-report-2.ensures.related)
     (λ file_scope. let P : Netlist → Type 0 = λ d. Agrees d sum_interface 0 file_scope (sum_answers program) in subst P c.in_ok-design.ensures.exact (c.in_ok-design.ensures.agrees file_scope))
+
+pub returns-in_err-program-clause-once : goal.returns-in_err-program-clause-once
+returns-in_err-program-clause-once c =
+    let source = c.args.source.now in
+    let top = c.args.settings.now.top in
+    passed_on Sum _ c.in_err-program.field-0.0 (IsFirstFault source top) (λ r. (q : Refusal) → IsFirstFault source top q → q ≡ r) c.from_residual.ensures.1 (λ y e. e)
+    (λ r fault q other. first_fault_once source top r q fault other) c.in_err-program.ensures.refused
