@@ -46,5 +46,9 @@ pub mod Faultless
 pub mod Refuted
 pub mod Relation
 pub mod NoText
+pub mod SameReading
+pub mod OnePlacing
+pub mod OneFault
 pub mod Texts
 pub mod Examples
+pub mod PrintableNames

@@ -135,7 +135,7 @@ gap_no_token _ r1 t2 r2 token (gap.line_comment body rest h l) is e = gap_begins
 gap_no_token _ r1 t2 r2 token (gap.block_comment body rest h) is e =
     gap_begins 47 (42 ∷ ((body ++ codes "*/") ++ r1)) (inr refl) (first_of 47 (42 ∷ ((body ++ codes "*/") ++ r1)) t2 r2 token e is)
 
-gap_some : (t r : List ℕ) → IsGap t r → 0 < length t
+pub gap_some : (t r : List ℕ) → IsGap t r → 0 < length t
 gap_some _ r (gap.white c rest w) = omega arith
 gap_some _ r (gap.line_comment body rest h l) = omega arith
 gap_some _ r (gap.block_comment body rest h) = omega arith
@@ -225,7 +225,7 @@ opened _ tokens (spelled.block_comment body rest ts h s) =
     with_gap (codes "/*" ++ (body ++ codes "*/")) rest (ap (λ x. 47 ∷ 42 ∷ x) (sym (append_assoc body (codes "*/") rest))) (gap.block_comment body rest h) s
 opened _ _ (spelled.a_token text rest token more is longest s) = with_token text rest token more refl is longest refl s
 
-empty_front : (text rest : List ℕ) → text ++ rest ≡ [] → 0 < length text → ⊥
+pub empty_front : (text rest : List ℕ) → text ++ rest ≡ [] → 0 < length text → ⊥
 empty_front text rest e some = omega (arith, some, ap length e, length-append text rest)
 
 gap_passed : (text rest : List ℕ) (tokens : List Token) → IsGap text rest → Spells (text ++ rest) tokens → Spells rest tokens

@@ -22,7 +22,7 @@ use Rattle.verilog_read.proofs.OneSyntax.{same_syntax}
 use Rattle.verilog_read.proofs.OneCircuit.{one_circuit}
 
 -- the tokens of what is said
-said_tokens : (bytes : List ℕ) (m : PlacedModule) (said : Says bytes m) → tokens_of said.lexemes ≡ syntax_tokens (syntax_of m)
+pub said_tokens : (bytes : List ℕ) (m : PlacedModule) (said : Says bytes m) → tokens_of said.lexemes ≡ syntax_tokens (syntax_of m)
 said_tokens bytes m said = stand_tokens said.lexemes (module_marks m) said.stand ∙ module_tokens m said.blocks
 
 pub said_sized : (bytes : List ℕ) (m : PlacedModule) → length bytes ≤ limit → Says bytes m → IsSizedModule m

@@ -2,6 +2,7 @@
 #![tactic(auto)]
 
 ghost use Rattle.std.specs.Prelude.{◌≡◌, ◌++◌, ◌≤◌, ◌<◌, ℕ, List, length, None, Some, IfOk, OnOk};
+ghost use Rattle.hls_base.specs.declared.refusal.Refusal.{Refusal};
 ghost use Rattle.hls_base.specs.Refusals.{IfRefused};
 ghost use Rattle.rtl_core.specs.Netlist.{Netlist, netlist_of};
 ghost use Rattle.rtl_core.specs.ModuleText.{IsModuleText};
@@ -127,6 +128,7 @@ pub fn read(alloc: Global, bytes: &[u8]) -> Result<Design, Fail>
     ensures text { IfOk result (λ d. IsModuleText bytes.now (netlist_of d)) }
     ensures only { IfOk result (λ d. (e : Netlist) → IsModuleText bytes.now e → e ≡ netlist_of d) }
     ensures refused { IfRefused result (λ r. IsFirstFault bytes.now r) }
+    ensures once { IfRefused result (λ r. (q : Refusal) → IsFirstFault bytes.now q → q ≡ r) }
     ensures no_text { IfRefused result (λ r. length bytes.now ≤ limit → (d : Netlist) → IsModuleText bytes.now d → ⊥) }
 {
     if bytes.len() > TEXT_LIMIT {

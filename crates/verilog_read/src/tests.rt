@@ -1,3 +1,5 @@
+mod round_trip;
+
 use crate::read;
 use hls_base::place::Place;
 use hls_base::refusal::{Fail, Refusal};

@@ -4,12 +4,13 @@ use Rattle.verilog_read.specs.ModuleViews.{module_view}
 use Rattle.verilog_read.specs.Parsing.{IsParsed, StopsRight, tokens_in}
 use Rattle.verilog_read.specs.TextFaults.{too_long}
 use Rattle.verilog_read.proofs.NoText.{no_text, refused_no_text}
+use Rattle.verilog_read.proofs.OneFault.{one_fault, refused_once}
 use Rattle.verilog_read.proofs.Texts.{refused_stop, refused_end, says, read_within, read_text, read_only, read_refused}
 use Rattle.verilog_read.proofs.read.Goals as goal
 
 pub returns-then-bytes-gt-TEXT_LIMIT : goal.returns-then-bytes-gt-TEXT_LIMIT
 returns-then-bytes-gt-TEXT_LIMIT c =
-    let first = too_long c.if-bytes-gt-TEXT_LIMIT.true in record { within = tt; text = tt; only = tt; refused = first; no_text = no_text c.args.bytes.now _ first }
+    let first = too_long c.if-bytes-gt-TEXT_LIMIT.true in record { within = tt; text = tt; only = tt; refused = first; once = λ q is. one_fault c.args.bytes.now q _ is first; no_text = no_text c.args.bytes.now _ first }
 
 pub returns-in-Ok : goal.returns-in-Ok
 returns-in-Ok c =
@@ -23,6 +24,7 @@ returns-in-Ok c =
       text = read_text c.args.bytes.now m c.design_of.result c.if-bytes-gt-TEXT_LIMIT.false said c.design_of.ensures.found;
       only = read_only c.args.bytes.now m c.design_of.result c.if-bytes-gt-TEXT_LIMIT.false said c.design_of.ensures.found;
       refused = first;
+      once = refused_once c.args.bytes.now c.design_of.result first;
       no_text = refused_no_text c.args.bytes.now c.design_of.result first;
     }
 
@@ -32,11 +34,11 @@ returns-in-Ok-2 c =
     let lexed = c.in_ok-lexed.lexed in
     let parsed = subst (λ (x : List Token). IsParsed x m) c.deref.ensures.value c.in-Ok-2.ensures.parsed in
     let first = refused_end c.args.bytes.now lexed.tokens.items lexed.end m c.if-bytes-gt-TEXT_LIMIT.false c.in_ok-lexed.ensures parsed c.if-lexed-eq51.false in
-    record { within = tt; text = tt; only = tt; refused = first; no_text = no_text c.args.bytes.now lexed.end first }
+    record { within = tt; text = tt; only = tt; refused = first; once = λ q is. one_fault c.args.bytes.now q lexed.end is first; no_text = no_text c.args.bytes.now lexed.end first }
 
 pub returns : goal.returns
 returns c =
     let lexed = c.in_ok-lexed.lexed in
     let first = refused_stop c.args.bytes.now lexed.tokens.items lexed.end c.in-Err.stop c.failure_of.result c.if-bytes-gt-TEXT_LIMIT.false c.in_ok-lexed.ensures
     (subst (λ (x : List Token). StopsRight (tokens_in x) c.in-Err.stop) c.deref.ensures.value c.in-Err.ensures.stopped) c.failure_of.ensures in
-    record { within = tt; text = tt; only = tt; refused = first; no_text = refused_no_text c.args.bytes.now (Err c.failure_of.result) first }
+    record { within = tt; text = tt; only = tt; refused = first; once = refused_once c.args.bytes.now (Err c.failure_of.result) first; no_text = refused_no_text c.args.bytes.now (Err c.failure_of.result) first }
