@@ -7,4 +7,5 @@ pub mod Noted
 pub mod Operands
 pub mod Rounds
 pub mod StatementTrees
+pub mod Chains
 pub mod Trees

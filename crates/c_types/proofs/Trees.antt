@@ -43,6 +43,9 @@ module _ (used : Bool) (bodies : List (List ℕ)) (names : List Declared) where
       ∙ least_append (expression_faults true bodies names (tree_of t.value)) (expression_faults true bodies names (tree_of l.value) ++ expression_faults true bodies names (tree_of r.value))
       ∙ ap (lesser _) (least_append (expression_faults true bodies names (tree_of l.value)) (expression_faults true bodies names (tree_of r.value)))
 
+  pub choice_accesses : (t l r : Box Expr Global) (at colon : Place) → accesses names (tree_of (e.Choice t l r at colon)) ≡ accesses names (tree_of t.value) ++ (accesses names (tree_of l.value) ++ accesses names (tree_of r.value))
+  choice_accesses t l r at colon = ap (accesses names) (choice_tree t l r at colon)
+
   pub assign_faults : (t : Target) (op : Option Binary) (v : Box Expr Global) (at : Place) → least (expression_faults used bodies names (tree_of (e.Assign t op v at)))
       ≡ lesser (least (changed_faults bodies names (target_of t) at (accesses names (tree_of v.value)))) (least (expression_faults true bodies names (tree_of v.value)))
   assign_faults t op v at =

@@ -6,3 +6,4 @@ pub mod Written
 pub mod Extended
 pub mod Linked
 pub mod Noted
+pub mod Chains

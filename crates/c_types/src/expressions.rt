@@ -1,29 +1,25 @@
 //! The faults of expressions.
 ghost use Rattle.std.specs.Prelude.{◌≡◌, ◌++◌, [], drop, IfOk, true, if◌then◌else◌};
 ghost use Rattle.c_tree.specs.View.{tree_of, trees_of, target_of};
-ghost use Rattle.c_checked.specs.Faults as order;
 ghost use Rattle.c_checked.specs.Faults.{least};
-ghost use Rattle.c_checked.specs.Conflicts.{accesses, all_accesses, target_accesses, conflicts_among};
+ghost use Rattle.c_checked.specs.Conflicts as conflicts;
+ghost use Rattle.c_checked.specs.Conflicts.{accesses, all_accesses, target_accesses, conflicts_among, conflicts_inside};
+ghost use Rattle.c_checked.specs.Names.{sense_of, use_faults, target_faults};
+ghost use Rattle.c_checked.specs.Names.{count as spec_count};
 ghost use Rattle.c_checked.specs.Expressions.{expression_faults, changed_faults, operand_faults};
 ghost use Rattle.c_checked.specs.Expressions as spec;
 ghost use Rattle.c_tree.specs.Tree as tree;
 
 use crate::calls::{call_fault, count, is_array, name_given_fault, params_of, void_fault};
-use crate::conflicts::{Access, between, change_of, conflict_inside, operand_conflict, read_of};
+use crate::conflicts::{Access, between, change_of, conflict_inside, read_of};
 use crate::faults::lesser;
 use crate::names::{Scopes, Shape, target_fault, use_fault};
+use crate::steps::{Changed, Judged, Step, assigned, chosen, joined};
 use c_tree::expression::{Expr, Target};
 use hls_base::place::Place;
 use hls_base::refusal::Refusal;
 use hls_base::text::Text;
 use std::alloc::{AllocError, Global};
-
-/// What was found of an expression: its least fault, and its accesses.
-#[derive(Debug, Drop)]
-pub struct Judged {
-    pub fault: Option<Refusal>,
-    pub accesses: Vec<Access>,
-}
 
 /// What was found of subscripts or arguments: the least fault inside them, the least conflict between them, and all their accesses.
 #[derive(Debug, Drop)]
@@ -33,22 +29,11 @@ struct Operands {
     accesses: Vec<Access>,
 }
 
-/// What was found of two parts, one after the other.
-#[inline(never)]
-fn both(left: Judged, right: Judged) -> Result<Judged, AllocError>
-    ensures fault { IfOk result (λ j. j.fault ≡ order.lesser left.fault right.fault) }
-    ensures accesses { IfOk result (λ j. j.accesses.items ≡ left.accesses.items ++ right.accesses.items) }
-{
-    let mut accesses = left.accesses;
-    let mut more = right.accesses;
-    accesses.append(&mut more)?;
-    let fault = lesser(left.fault, right.fault);
-    Ok(Judged { fault, accesses })
-}
-
 /// The least fault of an expression, and its accesses. `bodies` names the functions with a body. A value that is not used may be a call without a result.
+///
+/// Operators of one chain are gone through in a loop, so that the depth of the recursion is bounded by how deep the source nests.
 #[cycle(expression)]
-#[tactic(auto, using(crate::proofs::Trees::binary_faults, crate::proofs::Trees::choice_faults, crate::proofs::Trees::assign_faults, crate::proofs::Trees::comma_faults))]
+#[tactic(auto, using(crate::proofs::Trees::choice_faults, crate::proofs::Trees::choice_accesses))]
 pub fn expression(
     alloc: Global,
     bodies: &[Text],
@@ -59,66 +44,88 @@ pub fn expression(
     ensures fault { IfOk result (λ j. j.fault ≡ least (expression_faults used bodies.now names.now (tree_of e.now))) }
     ensures accesses { IfOk result (λ j. j.accesses.items ≡ accesses names.now (tree_of e.now)) }
 {
-    match e {
-        Expr::Number { .. } => Ok(Judged {
-            fault: None,
-            accesses: Vec::new(alloc),
-        }),
-        Expr::Name { name, at } => {
-            let accesses = read_of(alloc, names, name, 0)?;
-            let fault = use_fault(names, name, 0, *at);
-            Ok(Judged { fault, accesses })
-        }
-        Expr::Index {
-            array,
-            subscripts,
-            at,
-        } => element(alloc, bodies, names, array, subscripts, *at),
-        Expr::Call { callee, args, at } => call(alloc, bodies, names, used, callee, args, *at),
-        Expr::Unary { arg, .. } => expression(alloc, bodies, names, true, arg),
-        Expr::Binary {
-            op,
-            left,
-            right,
-            ..
-        } => {
-            let left = expression(alloc, bodies, names, true, left)?;
-            let right = expression(alloc, bodies, names, true, right)?;
-            let conflict = operand_conflict(*op, &left.accesses, &right.accesses);
-            let inner = both(left, right)?;
-            Ok(Judged {
-                fault: lesser(conflict, inner.fault),
-                accesses: inner.accesses,
-            })
-        }
-        Expr::Choice { test, yes, no, .. } => {
-            let test = expression(alloc, bodies, names, true, test)?;
-            let yes = expression(alloc, bodies, names, true, yes)?;
-            let no = expression(alloc, bodies, names, true, no)?;
-            let arms = both(yes, no)?;
-            let all = both(test, arms)?;
-            Ok(all)
-        }
-        Expr::Cast { arg, .. } => expression(alloc, bodies, names, true, arg),
-        Expr::Assign {
-            target,
-            value,
-            at,
-            ..
-        } => {
-            let value = expression(alloc, bodies, names, true, value)?;
-            let target = changed(alloc, bodies, names, target, *at, &value.accesses)?;
-            let all = both(target, value)?;
-            Ok(all)
-        }
-        Expr::Bump { target, at, .. } => changed(alloc, bodies, names, target, *at, &[]),
-        Expr::Comma { left, right, .. } => {
-            let left = expression(alloc, bodies, names, false, left)?;
-            let right = expression(alloc, bodies, names, true, right)?;
-            let all = both(left, right)?;
-            Ok(all)
+    let mut steps = Vec::new(alloc);
+    let mut used = used;
+    let mut part = e;
+    'chain: loop {
+        match part {
+            Expr::Binary {
+                op,
+                left,
+                right,
+                ..
+            } => {
+                let right = expression(alloc, bodies, names, true, right)?;
+                steps.push(Step::Binary { op: *op, right })?;
+                used = true;
+                part = left;
+            }
+            Expr::Comma { left, right, .. } => {
+                let right = expression(alloc, bodies, names, true, right)?;
+                steps.push(Step::Comma { right })?;
+                used = false;
+                part = left;
+            }
+            Expr::Assign {
+                target,
+                value,
+                at,
+                ..
+            } => {
+                let target = change(alloc, bodies, names, target, *at)?;
+                steps.push(Step::Assign(target))?;
+                used = true;
+                part = value;
+            }
+            Expr::Unary { arg, .. } | Expr::Cast { arg, .. } => {
+                used = true;
+                part = arg;
+            }
+            Expr::Number { .. } => return joined(number(alloc), steps),
+            Expr::Name { name, at } => return joined(named(alloc, names, name, *at)?, steps),
+            Expr::Index {
+                array,
+                subscripts,
+                at,
+            } => return joined(
+                element(alloc, bodies, names, array, subscripts, *at)?,
+                steps,
+            ),
+            Expr::Call { callee, args, at } => {
+                return joined(call(alloc, bodies, names, used, callee, args, *at)?, steps);
+            }
+            Expr::Choice { test, yes, no, .. } => {
+                let test = expression(alloc, bodies, names, true, test)?;
+                let yes = expression(alloc, bodies, names, true, yes)?;
+                let no = expression(alloc, bodies, names, true, no)?;
+                return joined(chosen(test, yes, no)?, steps);
+            }
+            Expr::Bump { target, at, .. } => {
+                return joined(changed(alloc, bodies, names, target, *at, &[])?, steps);
+            }
         }
     }
+}
+
+fn number(alloc: Global) -> Judged
+    ensures fault { result.fault ≡ None }
+    ensures accesses { result.accesses.items ≡ [] }
+{
+    Judged {
+        fault: None,
+        accesses: Vec::new(alloc),
+    }
+}
+
+/// A name that is read.
+#[inline(never)]
+fn named(alloc: Global, names: &Scopes, name: &Text, at: Place) -> Result<Judged, AllocError>
+    ensures fault { IfOk result (λ j. j.fault ≡ least (use_faults (sense_of name.now names.now) 0 at)) }
+    ensures accesses { IfOk result (λ j. j.accesses.items ≡ conflicts.read_of names.now name.now 0) }
+{
+    let accesses = read_of(alloc, names, name, 0)?;
+    let fault = use_fault(names, name, 0, at);
+    Ok(Judged { fault, accesses })
 }
 
 /// An element that is read.
@@ -174,10 +181,43 @@ fn call(
     Ok(Judged { fault, accesses })
 }
 
+/// A target that is changed by this operator, before its value is known.
+#[inline(never)]
+#[cycle(expression)]
+fn change(
+    alloc: Global,
+    bodies: &[Text],
+    names: &Scopes,
+    target: &Target,
+    at: Place,
+) -> Result<Changed, AllocError>
+    ensures used { IfOk result (λ c. c.used ≡ least (target_faults (sense_of target.now.name names.now) (spec_count (trees_of target.now.subscripts.items)) target.now.at)) }
+    ensures conflict { IfOk result (λ c. c.conflict ≡ least (conflicts_among names.now [] (trees_of target.now.subscripts.items))) }
+    ensures inside { IfOk result (λ c. c.inside ≡ least (conflicts_inside c.own.items c.subscripts.items)) }
+    ensures fault { IfOk result (λ c. c.fault ≡ least (operand_faults bodies.now names.now [] (trees_of target.now.subscripts.items))) }
+    ensures own { IfOk result (λ c. c.own.items ≡ conflicts.change_of names.now target.now.name (spec_count (trees_of target.now.subscripts.items)) at) }
+    ensures subscripts { IfOk result (λ c. c.subscripts.items ≡ all_accesses names.now (trees_of target.now.subscripts.items)) }
+{
+    let subscripts = target.subscripts.as_slice();
+    let inner = all_operands(alloc, bodies, names, &[], subscripts)?;
+    let number = count(subscripts);
+    let own = change_of(alloc, names, &target.name, number, at)?;
+    let used = target_fault(names, &target.name, number, target.at);
+    let inside = conflict_inside(&own, &inner.accesses);
+    Ok(Changed {
+        used,
+        conflict: inner.conflict,
+        inside,
+        fault: inner.fault,
+        own,
+        subscripts: inner.accesses,
+    })
+}
+
 /// A target that is changed by this operator, to a value with these accesses.
 #[inline(never)]
 #[cycle(expression)]
-#[tactic(auto, using(crate::proofs::Operands::changed_parts))]
+#[tactic(auto, using(crate::proofs::Chains::changed_by_parts, crate::proofs::Chains::accesses_by_parts))]
 pub fn changed(
     alloc: Global,
     bodies: &[Text],
@@ -189,19 +229,9 @@ pub fn changed(
     ensures fault { IfOk result (λ j. j.fault ≡ least (changed_faults bodies.now names.now (target_of target.now) at valued.now)) }
     ensures accesses { IfOk result (λ j. j.accesses.items ≡ target_accesses names.now (target_of target.now) at) }
 {
-    let subscripts = target.subscripts.as_slice();
-    let inner = all_operands(alloc, bodies, names, &[], subscripts)?;
-    let number = count(subscripts);
-    let mut accesses = change_of(alloc, names, &target.name, number, at)?;
-    let used = target_fault(names, &target.name, number, target.at);
-    let apart = between(&inner.accesses, valued);
-    let inside = conflict_inside(&accesses, &inner.accesses);
-    let beside = conflict_inside(&accesses, valued);
-    let inner_fault = lesser(inside, lesser(beside, inner.fault));
-    let fault = lesser(used, lesser(inner.conflict, lesser(apart, inner_fault)));
-    let mut more = inner.accesses;
-    accesses.append(&mut more)?;
-    Ok(Judged { fault, accesses })
+    let target = change(alloc, bodies, names, target, at)?;
+    let judged = assigned(target, valued)?;
+    Ok(judged)
 }
 
 /// Whether the operand is a name that is given for an array, which the parameter is.

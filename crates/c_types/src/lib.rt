@@ -16,5 +16,6 @@ mod parts;
 pub mod program;
 mod recursion;
 mod statements;
+mod steps;
 #[cfg(test)]
 mod tests;

@@ -1,0 +1,44 @@
+-- An expression as its innermost part and the operators around it: what is found of the whole, from what is found of the part.
+use Rattle.std.specs.Prelude.{ℕ, Bool, List, [], ◌∷◌, ◌++◌, Option}
+use Rattle.hls_base.specs.declared.refusal.Refusal.{Refusal}
+use Rattle.c_tree.specs.Tree.{Tree}
+use Rattle.c_checked.specs.Faults.{lesser, least}
+use Rattle.c_checked.specs.Names.{Declared}
+use Rattle.c_checked.specs.Conflicts.{Access, accesses, between, operand_conflicts, conflicts_inside}
+use Rattle.c_checked.specs.Expressions.{expression_faults}
+use Rattle.c_types.specs.declared.steps.Changed.{Changed}
+use Rattle.c_types.specs.declared.steps.Step.{Step}
+use Rattle.c_types.specs.declared.steps.Step.TheVariants as s
+
+-- the least fault of an expression, and its accesses
+pub record Found : Type 0 where
+  pub fault : Option Refusal
+  pub accesses : List Access
+
+abbrev pub found : Option Refusal → List Access → Found
+found fault accesses = record { fault = fault; accesses = accesses }
+
+abbrev pub found_of : Bool → List (List ℕ) → List Declared → Tree → Found
+found_of used bodies names t = found (least (expression_faults used bodies names t)) (accesses names t)
+
+-- of a target that is changed to a value with these accesses
+abbrev pub changed_fault : Changed → List Access → Option Refusal
+changed_fault target valued =
+    lesser target.used
+    (lesser target.conflict
+    (lesser (least (between target.subscripts.items valued))
+    (lesser target.inside
+    (lesser (least (conflicts_inside target.own.items valued))
+    target.fault))))
+
+-- the operator with the part that it goes on with: its left operand, or the value that it assigns
+abbrev pub step : Step → Found → Found
+step (s.Binary op right) left =
+    found (lesser (least (operand_conflicts op left.accesses right.accesses.items)) (lesser left.fault right.fault)) (left.accesses ++ right.accesses.items)
+step (s.Comma right) left = found (lesser left.fault right.fault) (left.accesses ++ right.accesses.items)
+step (s.Assign target) value = found (lesser (changed_fault target value.accesses) value.fault) ((target.own.items ++ target.subscripts.items) ++ value.accesses)
+
+-- outermost first
+abbrev pub steps : List Step → Found → Found
+steps [] part = part
+steps (first ∷ rest) part = step first (steps rest part)
