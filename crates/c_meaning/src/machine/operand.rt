@@ -1,0 +1,168 @@
+//! Operators behind an operand.
+use crate::machine::Machine;
+use crate::machine::frame::{Frame, Step, ValueFrame};
+use crate::machine::operator::assigned;
+use crate::machine::tree::{acts, result_kind};
+use crate::store::{kind_of, write};
+use crate::value::{Completion, Value};
+use c_token::ctype::CType;
+use c_tree::expression::Expr;
+use c_tree::operator::Binary;
+use c_value::convert::convert;
+use c_value::kind::{INT, common};
+use c_value::operate::{binary_kind, unary_kind};
+use hls_base::place::Place;
+use hls_base::point::PointKind;
+use hls_base::text::Text;
+
+impl<'p> Machine<'p> {
+    ghost use Rattle.std.specs.Prelude.{◌≡◌, ◌<◌, ◌||◌, length};
+    ghost use Rattle.c_tree.specs.View.{tree_of};
+    ghost use Rattle.c_meaning.specs.Expression as e;
+    ghost use Rattle.c_meaning.specs.Frames as f;
+    ghost use Rattle.c_meaning.specs.Moves.{resumed, joined, reached, not_reached, picked, chosen, kind_here, popped, at_fork, here, still};
+    ghost use Rattle.hls_base.specs.declared.point.PointKind.TheVariants as point;
+    ghost use Rattle.c_meaning.specs.Store.{kind_of_object, object_named};
+    ghost use Rattle.c_meaning.specs.Stacks.{stack_of};
+    ghost use Rattle.c_meaning.specs.Machines.{configuration_of};
+
+    /// An operator behind its first operand.
+    pub fn join(&mut self, op: Binary, x: Value, right: &'p Expr, at: Place)
+        requires { 0 < length (stack_of self.old.stack) }
+        ensures { configuration_of self.new ≡ joined op x (tree_of right.now) at (popped (configuration_of self.old)) }
+    {
+        match op {
+            Binary::LogAnd if x.number == 0 => self.skip_operand(acts(right), false, at),
+            Binary::LogOr if x.number != 0 => self.skip_operand(acts(right), true, at),
+            Binary::LogAnd | Binary::LogOr => self.reach_operand(right, at),
+            _ => self.evaluate_then(ValueFrame::Right { op, x, at }, right),
+        }
+    }
+
+    /// The second operand of `&&` or `||` is evaluated.
+    fn reach_operand(&mut self, right: &'p Expr, at: Place)
+        requires { 0 < length (stack_of self.old.stack) }
+        ensures { configuration_of self.new ≡ reached (e.acts (tree_of right.now)) (tree_of right.now) at (popped (configuration_of self.old)) }
+    {
+        let fork = acts(right);
+        self.stack
+            .replace(Frame::OnValue(ValueFrame::Reached { fork, at }));
+        let step = Step::Evaluate {
+            used: true,
+            e: right,
+        };
+        self.go_at_fork(fork, PointKind::Arm, at, step);
+    }
+
+    /// It is not evaluated.
+    fn skip_operand(&mut self, fork: bool, decided: bool, at: Place)
+        ensures { configuration_of self.new ≡ not_reached fork decided at (popped (configuration_of self.old)) }
+    {
+        self.stack.pop();
+        let step = Step::Give(Value {
+            kind: INT,
+            number: i128::from(decided),
+        });
+        self.go_at_fork(fork, PointKind::End, at, step);
+    }
+
+    /// The operand of `?:` that its test chooses is evaluated.
+    pub fn pick_operand(
+        &mut self,
+        first: &'p Expr,
+        second: &'p Expr,
+        at: Place,
+        colon: Place,
+        x: Value,
+    )
+        requires { 0 < length (stack_of self.old.stack) }
+        ensures { configuration_of self.new ≡ picked (tree_of first.now) (tree_of second.now) at colon x (popped (configuration_of self.old)) }
+    {
+        let kind = common(self.kind_here(first), self.kind_here(second));
+        let fork = acts(first) || acts(second);
+        if x.number != 0 {
+            self.choose_operand(fork, at, at, kind, first);
+        } else {
+            self.choose_operand(fork, colon, at, kind, second);
+        }
+    }
+
+    fn choose_operand(&mut self, fork: bool, arm: Place, at: Place, kind: CType, operand: &'p Expr)
+        requires { 0 < length (stack_of self.old.stack) }
+        ensures { configuration_of self.new ≡ chosen fork arm at kind (tree_of operand.now) (popped (configuration_of self.old)) }
+    {
+        self.stack
+            .replace(Frame::OnValue(ValueFrame::Chosen { fork, at, kind }));
+        let step = Step::Evaluate {
+            used: true,
+            e: operand,
+        };
+        self.go_at_fork(fork, PointKind::Arm, arm, step);
+    }
+
+    /// The second operand of `&&` or `||`, or the chosen one of `?:`, is evaluated.
+    pub fn leave_operand(&mut self, fork: bool, at: Place, v: Value)
+        ensures { configuration_of self.new ≡ at_fork fork point.End at (f.give v) (popped (configuration_of self.old)) }
+    {
+        self.stack.pop();
+        self.go_at_fork(fork, PointKind::End, at, Step::Give(v));
+    }
+
+    /// The type of an expression.
+    fn kind_here(&self, e: &Expr) -> CType
+        ensures { result ≡ kind_here (configuration_of self.now) (tree_of e.now) }
+    {
+        match e {
+            Expr::Number { kind, .. } => *kind,
+            Expr::Name { name, .. } => self.kind_of_name(name),
+            Expr::Index { array, .. } => self.kind_of_name(array),
+            Expr::Call { callee, .. } => result_kind(self.items, callee.items()),
+            Expr::Unary { op, arg, .. } => unary_kind(*op, self.kind_here(arg)),
+            Expr::Binary {
+                op,
+                left,
+                right,
+                ..
+            } => binary_kind(*op, self.kind_here(left), self.kind_here(right)),
+            Expr::Choice { yes, no, .. } => common(self.kind_here(yes), self.kind_here(no)),
+            Expr::Cast { to, .. } => *to,
+            Expr::Assign { target, .. } | Expr::Bump { target, .. } => {
+                self.kind_of_name(&target.name)
+            }
+            Expr::Comma { right, .. } => self.kind_here(right),
+        }
+    }
+
+    fn kind_of_name(&self, name: &Text) -> CType
+        ensures { result ≡ kind_of_object (still (configuration_of self.now)) (object_named (here (configuration_of self.now)) name.now) }
+    {
+        kind_of(self.objects.as_slice(), self.scopes.find(name.items()))
+    }
+
+    /// An assignment, behind its value.
+    pub fn assign_element(
+        &mut self,
+        name: &Text,
+        op: Option<Binary>,
+        place: Place,
+        x: Value,
+        at: Place,
+    )
+        ensures { configuration_of self.new ≡ resumed (f.assigned_to name.now op place at) x (popped (configuration_of self.old)) }
+    {
+        let object = self.scopes.find(name.items());
+        let subscripts = self.numbers.last();
+        let outcome = assigned(&mut self.objects, op, object, subscripts, place, x, at);
+        self.numbers.close();
+        self.conclude_top(outcome);
+    }
+
+    /// An element of an initialiser, behind its value.
+    pub fn initialise_element(&mut self, object: usize, element: usize, x: Value)
+        ensures { configuration_of self.new ≡ resumed (f.initial object element) x (popped (configuration_of self.old)) }
+    {
+        let number = convert(kind_of(self.objects.as_slice(), object), x.number);
+        write(&mut self.objects, object, element, number);
+        self.go_on(Step::Complete(Completion::Normal));
+    }
+}
