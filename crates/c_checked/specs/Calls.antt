@@ -46,7 +46,7 @@ agrees f (function result params) = same_result result f.result && same_shapes p
 abbrev pub with_function : FunctionTree → List Declared → List Declared
 with_function f names = if is_some (sense_of f.name names) then names else record { name = f.name; sense = function f.result (param_shapes f.params) } ∷ names
 
--- Rule 8: a later declaration of a function agrees with the first, and one function has one body (C11 6.7 paragraph 4, 6.9 paragraph 3).
+-- Rule 8: a later declaration of a function agrees with the first, and one function has one body (C11 6.7 paragraph 4, 6.9 paragraphs 3 and 5).
 abbrev pub disagrees : FunctionTree → Option Sense → Bool
 disagrees f None = false
 disagrees f (Some sense) = not (agrees f sense)
@@ -72,7 +72,7 @@ abbrev pub all_fit : List Declared → List Shape → Trees → Bool
 all_fit names (param ∷ params) (tree.more arg args) = fits names param arg && all_fit names params args
 all_fit names _ _ = true
 
--- Rule 7: a function that is called is declared and has a body somewhere. Rule 9: an object is not called. Rule 10: a call has as many arguments as the function has parameters (C11 6.5.2.2 paragraph 2). Rule 11: arguments fit array parameters.
+-- Rule 7: a function that is called is declared and has a body somewhere (C11 6.9 paragraph 5). Rule 9: an object is not called (6.5.2.2 paragraph 1). Rule 10: a call has as many arguments as the function has parameters (6.5.2.2 paragraph 2). Rule 11: arguments fit array parameters.
 abbrev pub called_faults : Bool → List Declared → Option Sense → Trees → Place → List Refusal
 called_faults has_body names None args at = fault 7 at ∷ []
 called_faults has_body names (Some (object shape)) args at = fault 9 at ∷ []

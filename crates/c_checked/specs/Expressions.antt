@@ -45,7 +45,7 @@ abbrev mutual
   expression_faults used bodies names (tree.bump changed up post at) = changed_faults bodies names changed at []
   expression_faults used bodies names (tree.comma left right at) = expression_faults false bodies names left ++ expression_faults true bodies names right
 
-  -- of a target that is changed at this operator, to a value with these accesses
+  -- Of a target that is changed at this operator, to a value with these accesses. Rule 24 is judged between its subscripts, between them and the value, and between the change and the changes inside both.
   pub changed_faults : List (List ℕ) → List Declared → TargetTree → Place → List Access → List Refusal
   changed_faults bodies names (tree.target text subscripts place) at valued =
       target_faults (sense_of text names) (count subscripts) place

@@ -1,5 +1,5 @@
 -- Labels and jumps: C11 6.8.1, 6.8.4.2, 6.8.6.
-use Rattle.std.specs.Prelude.{not, Bool, true, false, List, [], ◌∷◌, ◌++◌, ℤ, Option, Some, None, is_some, is_none}
+use Rattle.std.specs.Prelude.{not, Bool, true, false, List, [], ◌∷◌, ◌++◌, ℤ, Option, Some, None, is_some}
 use Rattle.std.specs.Ordering.{int_eq}
 use Rattle.std.specs.List.{list_any}
 use Rattle.hls_base.specs.declared.place.Place.{Place}

@@ -72,7 +72,7 @@ product_of (Some ns) = 2 ^ address_bits ns
 abbrev pub rounded_product : List (Option ℕ) → ℕ
 rounded_product lengths = product_of (all_usable lengths)
 
--- Rule 13: a length is there and is 1 to 65,536, and so is the product of the rounded lengths.
+-- Rule 13: a length is there and is 1 to 65,536, and so is the product of the rounded lengths. C itself asks for more than 0, C11 6.7.6.2 paragraph 1.
 abbrev pub is_out_of_range : Length → Bool
 is_out_of_range (number n) = is_none (usable (number n))
 is_out_of_range left_out = true
@@ -88,7 +88,7 @@ is_no_constant _ = false
 
 -- ---- initialisers
 
--- Rule 22: an initialiser has a level of braces for each dimension, and at each level no more items than the dimension is long.
+-- Rule 22: an initialiser has a level of braces for each dimension, and at each level no more items than the dimension is long. C11 6.7.9 paragraphs 2 and 16.
 abbrev pub exceeds : ℕ → Option ℕ → Bool
 exceeds items None = false
 exceeds items (Some n) = nat_lt n items

@@ -1,5 +1,5 @@
 -- The beginning of a call, where its parameters are bound.
-use Rattle.std.proofs.Common.{◌≡◌, ap, ℕ, List, [], ◌∷◌, length, true}
+use Rattle.std.proofs.Common.{◌≡◌, ap, List, [], ◌∷◌, length, true}
 use Rattle.hls_base.specs.declared.place.Place.{Place}
 use Rattle.hls_base.specs.declared.point.PointKind.TheVariants as point
 use Rattle.c_tree.specs.Tree.{FunctionTree, ItemTree}

@@ -4,12 +4,12 @@ use Rattle.std.proofs.lemmas.List.{map-append, append-nil}
 use Rattle.std.proofs.Math.Seq.{drop-cons}
 use Rattle.std.proofs.Math.ListN.{drop_of_length-le}
 use Rattle.hls_base.specs.declared.place.Place.{Place}
-use Rattle.c_tree.specs.Tree.{Tree, ObjectTree, StmtTree, StmtTrees}
+use Rattle.c_tree.specs.Tree.{Tree, ObjectTree, StmtTree}
 use Rattle.c_tree.specs.declared.object.Object.{Object as Declared}
 use Rattle.c_tree.specs.declared.statement.Stmt.{Stmt}
 use Rattle.c_tree.specs.View.{object_of, stmt_of, stmts_of}
-use Rattle.c_meaning.specs.Store.{Object, Environment, unwritten, declared, all_declared, declared_by, declared_in}
-use Rattle.c_meaning.specs.Moves.{Landing, labelled, landing, landed_here, skipping}
+use Rattle.c_meaning.specs.Store.{Environment, unwritten, declared, all_declared, declared_by, declared_in}
+use Rattle.c_meaning.specs.Moves.{Landing, labelled, landing, skipping}
 
 drop-one : {A : Type 0} (xs : List A) (i : ℕ) (x : A) → i < length xs → x ≡ get_or xs i x → drop i xs ≡ x ∷ drop (i + 1) xs
 drop-one xs i x lt is =

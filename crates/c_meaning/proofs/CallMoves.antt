@@ -1,11 +1,10 @@
 -- Moves of calls leave of a run what was left before.
-use Rattle.std.proofs.Common.{◌≡◌, ℕ, zero, suc, ◌+◌, ◌-◌, ◌<◌, ◌≤◌, ◌&&◌, ◌∙◌, sym, refl, ap, List, [], ◌∷◌, ◌++◌, length, ℤ, pos, Option, Some, None, is_some, Bool, true, false, if◌then◌else◌, arith}
+use Rattle.std.proofs.Common.{◌≡◌, ℕ, zero, suc, ◌+◌, ◌-◌, ◌<◌, ◌&&◌, ◌∙◌, sym, refl, ap, List, [], ◌∷◌, ◌++◌, length, ℤ, Option, Some, None, is_some, Bool, true, false, if◌then◌else◌, arith}
 use Rattle.hls_base.specs.declared.place.Place.{Place}
 use Rattle.hls_base.specs.declared.point.PointKind.TheVariants as point
 use Rattle.hls_base.specs.declared.refusal.UbRule.TheVariants as ub
 use Rattle.c_tree.specs.Tree as tree
 use Rattle.c_tree.specs.Tree.{FunctionTree, ParamTree, ItemTree, Trees}
-use Rattle.c_meaning.specs.declared.value.Value.{Value}
 use Rattle.c_meaning.specs.declared.value.Argument.{Argument}
 use Rattle.c_meaning.specs.declared.value.Argument.TheVariants as argument
 use Rattle.c_meaning.specs.declared.value.Completion.{Completion}
@@ -14,7 +13,7 @@ use Rattle.c_meaning.specs.declared.names.Binding.{Binding}
 use Rattle.c_meaning.specs.Store.{State, Environment, declared_in, left_block}
 use Rattle.c_meaning.specs.Names.{begun}
 use Rattle.c_meaning.specs.Steps.{Ran, then_, goes, fails, pass}
-use Rattle.c_meaning.specs.Expression.{Calls, value, number_or_zero}
+use Rattle.c_meaning.specs.Expression.{value, number_or_zero}
 use Rattle.c_meaning.specs.Statement.{in_block, items_meaning}
 use Rattle.c_meaning.specs.Run as run
 use Rattle.c_meaning.specs.Run.{parameter, parameters, body_of, function_meaning, function_end, function_left, function_named, call_meaning, result_of, result_kind, calls}

@@ -1,15 +1,14 @@
 -- Numbers that are congruent, and the parts of a division.
-use Rattle.std.proofs.Common.{◌≡◌, ℕ, zero, suc, ◌+◌, ◌-◌, ◌*◌, ◌^◌, ◌<◌, ◌≤◌, ◌∙◌, ◌/◌, ◌%◌, sym, refl, ap, subst, inl, inr, Bool, true, false, ℤ, pos, negsuc, ◌+ℤ◌, ◌-ℤ◌, ◌*ℤ◌, ◌≤ℤ◌, ◌<ℤ◌, neg_ℤ, arith, if◌then◌else◌}
-use Rattle.std.specs.Prelude.{nat_lt, nat_le, unsigned_abs, int_div, int_rem}
+use Rattle.std.proofs.Common.{◌≡◌, ℕ, zero, suc, ◌+◌, ◌-◌, ◌*◌, ◌^◌, ◌<◌, ◌≤◌, ◌∙◌, ◌/◌, sym, refl, ap, subst, inl, inr, true, false, ℤ, pos, negsuc, ◌+ℤ◌, ◌-ℤ◌, ◌≤ℤ◌, ◌<ℤ◌, neg_ℤ, arith, if◌then◌else◌}
+use Rattle.std.specs.Prelude.{nat_lt, nat_le, unsigned_abs, int_rem}
 use Rattle.std.specs.Int.{int_rem_euclid}
 use Rattle.std.proofs.lemmas.Int.{ints, quot-rem, rem_below}
 use Rattle.std.proofs.lemmas.Bool.{cases_Bool, cases_lt, ltb-true, ltb-false}
 use Rattle.std.proofs.Math.Nat.{mod-add-div', mod-lt, mul-le-mul_right, two-pow-succ}
 use Rattle.std.proofs.lemmas.Nat.{pow_pos}
 use Rattle.c_token.specs.declared.ctype.CType.{CType}
-use Rattle.c_token.specs.declared.ctype.CType.TheVariants as t
-use Rattle.c_value.specs.Values.{integer, bits_of, width, pattern, number_of, convert, IsOf}
-use Rattle.c_meaning.specs.ValueLaws.{IsCongruent, Converted, ConversionsAreCongruent, Divided, DivisionsTruncate}
+use Rattle.c_value.specs.Values.{integer, bits_of, width, convert, IsOf}
+use Rattle.c_meaning.specs.ValueLaws.{IsCongruent, Converted, ConversionsAreCongruent, DivisionsTruncate}
 
 -- ---- remainders
 

@@ -1,20 +1,17 @@
 -- A point that is counted.
-use Rattle.std.proofs.Common.{◌≡◌, ◌≢◌, ℕ, zero, suc, ◌+◌, ◌<◌, ◌≤◌, ◌^◌, ◌∙◌, sym, refl, ap, subst, inl, inr, List, [], ◌∷◌, ◌++◌, map, length, Bool, true, false, cond, Option, Some, None, arith, true≢false, if◌then◌else◌, ◌-◌}
+use Rattle.std.proofs.Common.{◌≡◌, ℕ, ◌+◌, ◌<◌, ◌≤◌, ◌∙◌, sym, refl, ap, subst, inl, inr, List, [], ◌∷◌, true, false, Option, arith, true≢false, if◌then◌else◌, ◌-◌}
 use Rattle.std.specs.Prelude.{sum_by, unwrap_or, OnErr, Result, Ok, Err}
 use Rattle.c_meaning.specs.Reading.{Reading}
-use Rattle.std.specs.List.{All}
 use Rattle.std.specs.Map.{lookup}
 use Rattle.std.proofs.lemmas.Bool.{cases_Bool}
 use Rattle.std.proofs.lemmas.List.Elements.{All-nil, All-cons, All-head, All-tail}
 use Rattle.std.proofs.lemmas.List.Sums.{sum_by-cons}
 use Rattle.indexmap.specs.IndexMap.{insert_entry}
-use Rattle.hls_base.specs.declared.place.Place.{Place}
 use Rattle.hls_base.specs.declared.point.Point.{Point}
-use Rattle.hls_base.specs.declared.point.PointKind.{PointKind}
 use Rattle.hls_base.specs.Tallies.{HasDistinctPoints}
 use Rattle.c_meaning.specs.declared.meter.NumberedPoint.{NumberedPoint}
 use Rattle.c_meaning.specs.Points.{same_point, count_point}
-use Rattle.c_meaning.specs.PassedPaths.{PathTable, path_of, IsNumber, IsPathTable, Extends}
+use Rattle.c_meaning.specs.PassedPaths.{PathTable, IsNumber, IsPathTable, Extends}
 use Rattle.c_meaning.specs.Metering.{point_of, counts_of, HaveNumbers, AreSound}
 use Rattle.c_meaning.proofs.SameKeys.{point_eq, point_eq-Decides}
 use Rattle.c_meaning.proofs.PathNumbers.{number-extends, path_of-extends, same_number}

@@ -1,18 +1,18 @@
 -- Moves of declarations and initialisers leave of a run what was left before.
-use Rattle.std.proofs.Common.{◌≡◌, ℕ, zero, suc, ◌+◌, ◌*◌, ◌∙◌, sym, refl, ap, List, [], ◌∷◌, ◌++◌, ℤ, pos, Option, Some, None, true}
+use Rattle.std.proofs.Common.{◌≡◌, ℕ, zero, suc, ◌+◌, ◌*◌, sym, refl, ap, List, [], ◌∷◌, pos, Option, Some, None, true}
 use Rattle.hls_base.specs.ArrayAddress.{element_count}
 use Rattle.c_tree.specs.Tree as tree
 use Rattle.c_tree.specs.Tree.{Tree, InitTree, InitTrees, ObjectTree}
 use Rattle.c_value.specs.Values.{convert}
 use Rattle.c_meaning.specs.declared.value.Completion.TheVariants as end
-use Rattle.c_meaning.specs.Store.{State, Environment, declared, all_declared, kind_of_object, lengths_in, write_element}
-use Rattle.c_meaning.specs.Steps.{Ran, then_, goes}
+use Rattle.c_meaning.specs.Store.{State, declared, all_declared, kind_of_object, lengths_in, write_element}
+use Rattle.c_meaning.specs.Steps.{then_, goes}
 use Rattle.c_meaning.specs.Expression.{expression_meaning}
 use Rattle.c_meaning.specs.Statement.{zeros, initialise, initialise_rows, declare_object, declare_all}
 use Rattle.c_meaning.specs.Frames as f
 use Rattle.c_meaning.specs.Frames.{Configuration, in_environment}
 use Rattle.c_meaning.specs.Rest.{rest_of, rest_from, setting, state_with, calls_at, with_end}
-use Rattle.c_meaning.specs.Moves.{here, holding, pushed, initialised, next_row, object_declared, next_object, with_objects, still, going}
+use Rattle.c_meaning.specs.Moves.{here, holding, pushed, initialised, next_row, object_declared, next_object, still}
 use Rattle.c_meaning.proofs.ThenLaws.{then_assoc}
 use Rattle.c_meaning.proofs.Quiet.{with_left}
 

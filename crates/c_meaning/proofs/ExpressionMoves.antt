@@ -1,5 +1,5 @@
 -- Moves of expressions leave of a run what was left before.
-use Rattle.std.proofs.Common.{◌≡◌, ℕ, ◌∙◌, sym, refl, ap, List, [], ◌∷◌, ◌++◌, ◌||◌, ℤ, pos, Option, Some, None, Bool, true, false, if◌then◌else◌}
+use Rattle.std.proofs.Common.{◌≡◌, ℕ, ◌∙◌, sym, refl, ap, List, [], ◌∷◌, ◌++◌, ◌||◌, Option, Some, None, Bool, true, false, if◌then◌else◌}
 use Rattle.hls_base.specs.declared.place.Place.{Place}
 use Rattle.hls_base.specs.declared.point.PointKind.{PointKind}
 use Rattle.hls_base.specs.declared.point.PointKind.TheVariants as point
@@ -14,7 +14,7 @@ use Rattle.c_meaning.specs.declared.value.Value.{Value}
 use Rattle.c_meaning.specs.declared.value.Argument.{Argument}
 use Rattle.c_meaning.specs.declared.value.Argument.TheVariants as argument
 use Rattle.c_meaning.specs.declared.value.Completion.TheVariants as end
-use Rattle.c_meaning.specs.Store.{State, Environment, object_named}
+use Rattle.c_meaning.specs.Store.{State, object_named}
 use Rattle.c_meaning.specs.Steps.{Ran, then_, goes}
 use Rattle.c_meaning.specs.Expression as e
 use Rattle.c_meaning.specs.Expression.{Calls, value, acts, expression_meaning, computed, operated, read_object, numbers, arguments}

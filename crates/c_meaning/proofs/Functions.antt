@@ -1,12 +1,12 @@
 -- Searches among items and trees.
-use Rattle.std.proofs.Common.{◌≡◌, ℕ, suc, ◌+◌, ◌<◌, ◌≤◌, ◌∙◌, sym, refl, ap, List, [], ◌∷◌, map, length, drop, get_or, Option, Some, None, Bool, true, false, arith, add-one}
+use Rattle.std.proofs.Common.{◌≡◌, ℕ, ◌+◌, ◌<◌, ◌≤◌, refl, List, map, length, drop, get_or, Some, None, true, false, add-one}
 use Rattle.std.proofs.Math.Seq.{drop-cons}
 use Rattle.std.proofs.Math.ListN.{drop_of_length-le}
 use Rattle.c_tree.specs.declared.program.Item.{Item}
 use Rattle.c_tree.specs.declared.expression.Expr.{Expr}
 use Rattle.c_tree.specs.View.{item_of, tree_of, trees_of}
 use Rattle.c_tree.specs.Tree.{FunctionTree}
-use Rattle.c_meaning.specs.Run.{definition_in, first_of, function_named}
+use Rattle.c_meaning.specs.Run.{definition_in, function_named}
 use Rattle.c_meaning.specs.Expression.{acts, any_acts}
 
 pub function_named-here : (items : List Item) (i : ℕ) (item : Item) (name : List ℕ) (f : FunctionTree) → i < length items → item ≡ get_or items i item

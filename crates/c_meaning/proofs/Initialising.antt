@@ -1,9 +1,8 @@
 -- Elements that an initialiser gives, row by row.
-use Rattle.std.proofs.Common.{◌≡◌, ℕ, suc, ◌+◌, ◌-◌, ◌*◌, ◌<◌, ◌≤◌, ◌∙◌, sym, refl, ap, List, [], ◌∷◌, ◌++◌, map, length, drop, get_or, replicate, Option, Some, None, ℤ, pos, arith, add-one, append_assoc, subst, Vec, Global}
+use Rattle.std.proofs.Common.{◌≡◌, ℕ, suc, ◌+◌, ◌-◌, ◌*◌, ◌<◌, ◌≤◌, ◌∙◌, sym, ap, List, [], ◌∷◌, ◌++◌, map, length, drop, get_or, replicate, Option, Some, None, ℤ, pos, arith, append_assoc, subst, Vec, Global}
 use Rattle.std.proofs.Math.Seq.{drop-cons}
 use Rattle.std.proofs.Math.ListN.{drop_of_length-le}
 use Rattle.std.proofs.lemmas.List.{map-append}
-use Rattle.std.specs.List.{All}
 use Rattle.std.proofs.lemmas.List.Elements.{All-head, All-tail}
 use Rattle.hls_base.specs.declared.place.Place.{Place}
 use Rattle.hls_base.specs.ArrayAddress.{element_count}

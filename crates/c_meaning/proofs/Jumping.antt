@@ -1,5 +1,5 @@
 -- The parts of a jump.
-use Rattle.std.proofs.Common.{◌≡◌, ◌∙◌, sym, refl, ap, ℕ, List, length, map, Option, Result, Ok, Err, OnOk, false}
+use Rattle.std.proofs.Common.{◌≡◌, ◌∙◌, ap, ℕ, List, length, map, Option, Result, Ok, Err, OnOk, false}
 use Rattle.c_tree.specs.Tree.{StmtTrees}
 use Rattle.c_value.specs.Values.{promoted, convert}
 use Rattle.c_meaning.specs.declared.value.Value.{Value}

@@ -1,17 +1,17 @@
 -- What follows a run goes on following it.
-use Rattle.std.proofs.Common.{◌≡◌, ◌∙◌, ℕ, suc, ◌+◌, ◌<◌, sym, refl, ap, subst, List, [], ◌∷◌, ◌++◌, ℤ, Option, Result, Ok, Err, OnOk, OnErr, arith}
+use Rattle.std.proofs.Common.{◌≡◌, ◌∙◌, ℕ, ◌+◌, ◌≤◌, sym, ap, subst, [], ◌∷◌, ◌++◌, Result, Ok, Err, OnOk, OnErr, arith}
 use Rattle.hls_base.specs.declared.place.Place.{Place}
 use Rattle.hls_base.specs.declared.point.Point.{Point}
 use Rattle.hls_base.specs.declared.point.PointKind.{PointKind}
 use Rattle.c_meaning.specs.Reading.{Reading}
-use Rattle.c_meaning.specs.Steps.{Ran}
-use Rattle.c_meaning.specs.Points.{count_point, tally_of}
+use Rattle.c_meaning.specs.Points.{count_point}
 use Rattle.c_meaning.specs.Frames as f
 use Rattle.c_meaning.specs.Frames.{Configuration, Step}
 use Rattle.c_meaning.specs.Rest.{rest_of}
 use Rattle.c_meaning.specs.Sound.{Sound}
+use Rattle.c_meaning.specs.Shape.{Shaped}
 use Rattle.c_meaning.specs.Moves.{point_passed}
-use Rattle.c_meaning.specs.Following.{follows, keeps_following}
+use Rattle.c_meaning.specs.Following.{keeps_following}
 use Rattle.c_meaning.proofs.Tallies.{tally_of-more}
 use Rattle.c_meaning.proofs.Following.{follows-same, follows-point}
 
@@ -43,4 +43,14 @@ pub sound-counted : {E : Type 0} (result : Result (Unit {0}) E) (kind : PointKin
 sound-counted (Ok x) kind at step m m1 now is passed same h = let h1 = rw now at h in rw (is, passed) h1
 sound-counted (Err e) kind at step m m1 now is passed same h = rw same h
 
-pub ruleset keeping = (keeps-none, keeps-same, keeps-both, keeps-counted, sound-counted)
+pub shaped-counted : {E : Type 0} (result : Result (Unit {0}) E) (kind : PointKind) (at : Place) (step : Step) (m m1 : Configuration) → m.control ≡ f.before kind at step
+    → OnOk result (m1 ≡ record (point_passed step m) { meter = m1.meter }) → OnErr result (m1 ≡ m) → Shaped m → Shaped m1
+shaped-counted (Ok x) kind at step m m1 now is same h = let h1 = rw now at h in rw is h1
+shaped-counted (Err e) kind at step m m1 now is same h = rw same h
+
+-- and no fewer points are passed behind it
+pub more-counted : {E : Type 0} (result : Result (Unit {0}) E) (m m1 : Configuration) → OnOk result (m1.meter.passed ≡ m.meter.passed + 1) → OnErr result (m1 ≡ m) → m.meter.passed ≤ m1.meter.passed
+more-counted (Ok x) m m1 passed same = omega (arith, passed)
+more-counted (Err e) m m1 passed same = let e1 = ap (λ (x : Configuration). x.meter.passed) same in omega (arith, e1)
+
+pub ruleset keeping = (keeps-none, keeps-same, keeps-both, keeps-counted, sound-counted, shaped-counted, more-counted)

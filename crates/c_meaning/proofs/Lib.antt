@@ -16,6 +16,7 @@ pub mod StatementMoves
 pub mod SwitchMoves
 pub mod Moving
 pub mod Soundness
+pub mod Shaping
 pub mod Weights
 pub mod Scoping
 pub mod Blocks
@@ -23,6 +24,7 @@ pub mod RowSizes
 pub mod Meters
 pub mod Following
 pub mod Runs
+pub mod UnderWay
 pub mod Running
 pub mod Keeping
 pub mod Bumping
@@ -33,6 +35,7 @@ pub mod DimensionLengths
 pub mod Rows
 pub mod InitTrees
 pub mod Functions
+pub mod OperatorChains
 pub mod Labelling
 pub mod FileContents
 pub mod Initialising

@@ -1,26 +1,23 @@
 -- Moves of loops leave of a run what was left before.
-use Rattle.std.proofs.Common.{◌≡◌, ℕ, zero, suc, ◌+◌, ◌-◌, ◌<◌, ◌≤◌, ◌∙◌, sym, refl, ap, subst, List, [], ◌∷◌, ◌++◌, ℤ, pos, Option, Some, None, Bool, true, false, if◌then◌else◌, arith}
+use Rattle.std.proofs.Common.{◌≡◌, ℕ, zero, suc, ◌+◌, ◌-◌, ◌≤◌, ◌∙◌, sym, refl, ap, [], ◌∷◌, ℤ, Option, Some, None, Bool, true, false, arith}
 use Rattle.hls_base.specs.declared.place.Place.{Place}
 use Rattle.hls_base.specs.declared.point.PointKind.TheVariants as point
-use Rattle.c_tree.specs.Tree.{Tree, ActionTree, StmtTree}
-use Rattle.c_value.specs.Values.{int_type}
+use Rattle.c_tree.specs.Tree.{StmtTree}
 use Rattle.c_value.specs.Operators.{is_true}
-use Rattle.c_meaning.specs.declared.value.Value.{Value}
 use Rattle.c_meaning.specs.declared.value.Completion.{Completion}
 use Rattle.c_meaning.specs.declared.value.Completion.TheVariants as end
 use Rattle.c_meaning.specs.declared.value.Round.{Round}
 use Rattle.c_meaning.specs.declared.value.Round.TheVariants as round
 use Rattle.c_meaning.specs.Store.{State, Environment}
 use Rattle.c_meaning.specs.Steps.{Ran, then_, goes, waits, pass}
-use Rattle.c_meaning.specs.Expression.{Calls, value, expression_meaning}
-use Rattle.c_meaning.specs.Statement as s
-use Rattle.c_meaning.specs.Statement.{act_all, statement_meaning, repeat, if_again, behind_loop, run_body, run_step, round_of}
+use Rattle.c_meaning.specs.Expression.{Calls, expression_meaning}
+use Rattle.c_meaning.specs.Statement.{act_all, statement_meaning, repeat, if_again, behind_loop, run_body, round_of}
 use Rattle.c_meaning.specs.Frames as f
 use Rattle.c_meaning.specs.Frames.{Configuration, Loop}
-use Rattle.c_meaning.specs.Rest.{rest_of, setting, state_with, calls_at, with_value, with_end, rounds, round_meaning, behind_round, behind_test, behind_body, loop_place}
+use Rattle.c_meaning.specs.Rest.{rest_of, setting, state_with, calls_at, with_end, rounds, round_meaning, behind_round, behind_test, behind_body, loop_place}
 use Rattle.c_meaning.specs.Moves.{here, round_begun, loop_over, tested, stepping, body_left}
-use Rattle.c_meaning.proofs.ThenLaws.{then_assoc, then_same}
-use Rattle.c_meaning.proofs.Nesting.{nest3, nest4, inner2, inner3, inner4}
+use Rattle.c_meaning.proofs.ThenLaws.{then_assoc}
+use Rattle.c_meaning.proofs.Nesting.{nest4, inner3, inner4}
 
 -- ---- so many iterations at most
 

@@ -1,5 +1,5 @@
 -- Expressions where more points may be passed.
-use Rattle.std.proofs.Common.{◌≡◌, ℕ, ◌+◌, refl, List, [], ◌∷◌, ◌++◌, length, Bool, true, false, ◌==◌, ◌||◌, ℤ, pos, Option, Some, None, if◌then◌else◌}
+use Rattle.std.proofs.Common.{ℕ, refl, List, [], ◌∷◌, ◌++◌, length, Bool, true, false, ◌==◌, ◌||◌, ℤ, pos, Option, Some, None, if◌then◌else◌}
 use Rattle.hls_base.specs.declared.place.Place.{Place}
 use Rattle.hls_base.specs.declared.point.PointKind.TheVariants as point
 use Rattle.hls_base.specs.declared.refusal.UbRule.TheVariants as ub
@@ -15,10 +15,10 @@ use Rattle.c_meaning.specs.declared.value.Value.{Value}
 use Rattle.c_meaning.specs.declared.value.Argument.{Argument}
 use Rattle.c_meaning.specs.declared.value.Argument.TheVariants as argument
 use Rattle.c_meaning.specs.Store.{State, Environment, object_named, kind_of_object, lengths_of_object, read_element, write_element, element_place}
-use Rattle.c_meaning.specs.Steps.{Ran, goes, fails, then_, pass}
-use Rattle.c_meaning.specs.Expression.{value, Calls, expression_kind, acts, computed, operated, reached, not_reached, joined, chosen, read_found, read_place, read_object, store_number, store_place, store_object, assigned, bumped, array_given, argument_of, number_or_zero, call_value, expression_meaning, numbers, arguments}
+use Rattle.c_meaning.specs.Steps.{Ran}
+use Rattle.c_meaning.specs.Expression.{value, Calls, expression_kind, acts, computed, operated, reached, not_reached, joined, chosen, read_found, read_place, read_object, store_place, store_object, assigned, bumped, array_given, argument_of, number_or_zero, call_value, expression_meaning, numbers, arguments}
 use Rattle.c_meaning.specs.Laws.{more, IsExtended}
-use Rattle.c_meaning.proofs.MorePoints.{goes_more, goes_changed, fails_more, then_more, pass_more, pass_if_more, if_more}
+use Rattle.c_meaning.proofs.MorePoints.{goes_more, goes_changed, fails_more, then_more, pass_if_more, if_more}
 
 -- a part that does the same from the same objects with more points
 abbrev pub Steady : {A : Type 0} → ℕ → (State → Ran A) → (State → Ran A) → Type 0

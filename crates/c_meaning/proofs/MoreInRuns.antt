@@ -1,5 +1,5 @@
 -- Calls and runs where more points may be passed.
-use Rattle.std.proofs.Common.{◌≡◌, ℕ, zero, suc, ◌+◌, ◌∙◌, sym, refl, ap, subst, List, [], ◌∷◌, ◌++◌, map, length, Bool, true, false, ◌&&◌, ℤ, Option, Some, None, is_some, if◌then◌else◌, arith}
+use Rattle.std.proofs.Common.{◌≡◌, ℕ, zero, suc, ◌+◌, ◌∙◌, sym, refl, ap, List, [], ◌∷◌, length, Bool, true, ◌&&◌, ℤ, Option, Some, None, is_some, if◌then◌else◌, arith}
 use Rattle.std.specs.Prelude.{slice_get}
 use Rattle.hls_base.specs.FileScope.{FileScope}
 use Rattle.hls_base.specs.declared.place.Place.{Place}
@@ -7,7 +7,7 @@ use Rattle.hls_base.specs.declared.point.Point.{Point}
 use Rattle.hls_base.specs.declared.point.PointKind.TheVariants as point
 use Rattle.hls_base.specs.declared.refusal.UbRule.TheVariants as ub
 use Rattle.c_token.specs.declared.ctype.CType.{CType}
-use Rattle.c_tree.specs.Tree.{ObjectTree, ParamTree, FunctionTree, ItemTree, ProgramTree}
+use Rattle.c_tree.specs.Tree.{ObjectTree, ParamTree, FunctionTree, ItemTree}
 use Rattle.c_checked.specs.Limits.{file_objects}
 use Rattle.c_meaning.specs.declared.value.Completion.{Completion}
 use Rattle.c_meaning.specs.declared.value.Completion.TheVariants as end
@@ -19,7 +19,7 @@ use Rattle.c_meaning.specs.Names.{begun}
 use Rattle.c_meaning.specs.Steps as steps
 use Rattle.c_meaning.specs.Steps.{Outcome, Ran, goes, fails, then_, pass}
 use Rattle.c_meaning.specs.Expression.{Calls}
-use Rattle.c_meaning.specs.Statement.{in_block, items_meaning}
+use Rattle.c_meaning.specs.Statement.{items_meaning}
 use Rattle.c_meaning.specs.Run as run
 use Rattle.c_meaning.specs.Run.{Answer, parameter, parameters, function_end, function_left, body_of, function_body, function_meaning, called, call_meaning, calls, result_of, function_named, function_at, answer_of, started, top_arguments, run_of, c_run}
 use Rattle.c_meaning.specs.Laws.{more, Extended, IsExtended, IsKept, MorePointsKeepAnswers, RunsExtend}

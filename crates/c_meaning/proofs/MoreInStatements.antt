@@ -1,5 +1,5 @@
 -- Statements where more points may be passed.
-use Rattle.std.proofs.Common.{◌≡◌, ℕ, zero, suc, ◌+◌, ◌*◌, ◌-◌, ◌∙◌, sym, refl, ap, List, [], ◌∷◌, ◌++◌, length, Bool, true, false, ◌&&◌, ℤ, pos, Option, Some, None, if◌then◌else◌, arith}
+use Rattle.std.proofs.Common.{◌≡◌, ℕ, zero, suc, ◌+◌, ◌*◌, refl, List, [], ◌∷◌, length, Bool, true, false, ◌&&◌, pos, Option, Some, None, if◌then◌else◌, arith}
 use Rattle.hls_base.specs.declared.place.Place.{Place}
 use Rattle.hls_base.specs.declared.point.PointKind.TheVariants as point
 use Rattle.hls_base.specs.ArrayAddress.{element_count}
@@ -14,9 +14,9 @@ use Rattle.c_meaning.specs.declared.value.Argument.{Argument}
 use Rattle.c_meaning.specs.declared.value.Round.{Round}
 use Rattle.c_meaning.specs.declared.value.Round.TheVariants as round
 use Rattle.c_meaning.specs.Store.{State, Environment, declared, all_declared, declared_by, declared_in, declared_first, entered, inside, left_block, lengths_in, forget, kind_of_object, write_element}
-use Rattle.c_meaning.specs.Steps.{Ran, goes, then_, pass}
+use Rattle.c_meaning.specs.Steps.{Ran, then_}
 use Rattle.c_meaning.specs.Expression.{Calls, expression_meaning}
-use Rattle.c_meaning.specs.Statement.{zeros, initialise, initialise_rows, declare_object, declare_all, action_tree, act_all, go_on, is_last, in_block, behind_if, arm, behind_breakable, has_label, target_label, round_of, if_again, repeat, completion_of, behind_loop, loop, test_holds, tested, run_body, run_step, test_first, test_last, converted_result, returned_number, statement_meaning, else_meaning, first_meaning, items_meaning, jump_meaning, labelled_meaning}
+use Rattle.c_meaning.specs.Statement.{zeros, initialise, initialise_rows, declare_object, declare_all, action_tree, act_all, go_on, is_last, in_block, behind_if, arm, behind_breakable, has_label, target_label, round_of, if_again, repeat, completion_of, loop, test_holds, tested, run_body, run_step, test_first, test_last, converted_result, returned_number, statement_meaning, else_meaning, first_meaning, items_meaning, jump_meaning, labelled_meaning}
 use Rattle.c_meaning.specs.Laws.{more, IsExtended}
 use Rattle.c_meaning.proofs.MorePoints.{goes_more, goes_changed, waits_more, then_more, pass_more, if_more}
 use Rattle.c_meaning.proofs.MoreInExpressions.{Steady, Call, expression_more}

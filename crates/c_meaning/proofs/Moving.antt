@@ -1,5 +1,5 @@
 -- Each move of the machine leaves of a run what was left before.
-use Rattle.std.proofs.Common.{◌≡◌, ℕ, ◌+◌, ◌<◌, ◌≤◌, ◌∙◌, sym, refl, ap, List, [], ◌∷◌, ◌++◌, length, ℤ, Option, Some, None, Bool, true, false, arith}
+use Rattle.std.proofs.Common.{◌≡◌, ℕ, ◌+◌, ◌<◌, ◌∙◌, sym, refl, List, [], ◌∷◌, ℤ, Option, Bool, true, arith}
 use Rattle.hls_base.specs.declared.place.Place.{Place}
 use Rattle.c_tree.specs.Tree as tree
 use Rattle.c_tree.specs.Tree.{Trees}
@@ -9,8 +9,6 @@ use Rattle.c_value.specs.Values.{int_type}
 use Rattle.c_meaning.specs.declared.value.Value.{Value}
 use Rattle.c_meaning.specs.declared.value.Completion.{Completion}
 use Rattle.c_meaning.specs.Store.{object_named, left_block}
-use Rattle.c_meaning.specs.Steps.{Ran, then_}
-use Rattle.c_meaning.specs.Expression as e
 use Rattle.c_meaning.specs.Expression.{value, computed, operated, assigned}
 use Rattle.c_meaning.specs.Statement.{behind_breakable, round_of}
 use Rattle.c_meaning.specs.Run.{function_left}

@@ -1,11 +1,9 @@
 -- Numbers of paths: each path has one.
-use Rattle.std.proofs.Common.{◌≡◌, ◌≢◌, ℕ, zero, suc, ◌+◌, ◌<◌, ◌≤◌, ◌∙◌, sym, refl, ap, subst, ◌⊎◌, inl, inr, List, [], ◌∷◌, ◌++◌, map, length, get_or, append_assoc, Bool, true, false, cond, Option, Some, None, arith, Decides, true≢false, length-append}
-use Rattle.std.specs.Prelude.{slice_get, position, is_some}
-use Rattle.std.specs.List.{All}
-use Rattle.std.specs.Map.{keys_of, lookup}
-use Rattle.std.proofs.lemmas.Bool.{cases_Bool, cases_lt}
+use Rattle.std.proofs.Common.{◌≡◌, ◌≢◌, ℕ, zero, suc, ◌<◌, ◌≤◌, ◌∙◌, sym, refl, ap, subst, ◌⊎◌, inl, inr, List, [], ◌∷◌, ◌++◌, length, append_assoc, Option, Some, None, arith, length-append}
+use Rattle.std.specs.Prelude.{slice_get}
+use Rattle.std.proofs.lemmas.Bool.{cases_lt}
 use Rattle.std.proofs.lemmas.List.{append-nil}
-use Rattle.std.proofs.lemmas.Option.{slice_get_within, slice_get-get_or}
+use Rattle.std.proofs.lemmas.Option.{slice_get_within}
 use Rattle.hls_base.specs.declared.place.Place.{Place}
 use Rattle.c_meaning.specs.declared.meter.Call.{Call}
 use Rattle.c_meaning.specs.PassedPaths.{PathTable, path_in, path_of, IsNumber, IsBefore, IsPathTable, Extends}

@@ -1,11 +1,10 @@
 -- Operations that pass no point do the same however many points are left.
-use Rattle.std.proofs.Common.{◌≡◌, ℕ, ◌==◌, ◌∙◌, sym, refl, ap, List, [], ◌∷◌, ◌++◌, length, ℤ, pos, Option, Some, None, Bool, true, false, if◌then◌else◌}
+use Rattle.std.proofs.Common.{◌≡◌, ℕ, ◌==◌, ◌∙◌, sym, refl, ap, List, [], length, ℤ, pos, Option, Some, None, Bool, true, false, if◌then◌else◌}
 use Rattle.hls_base.specs.declared.place.Place.{Place}
-use Rattle.hls_base.specs.declared.point.Point.{Point}
 use Rattle.c_token.specs.declared.ctype.CType.{CType}
 use Rattle.c_tree.specs.declared.operator.Binary.{Binary}
 use Rattle.c_tree.specs.declared.operator.Binary.TheVariants as b
-use Rattle.c_value.specs.Values.{int_type, convert}
+use Rattle.c_value.specs.Values.{int_type}
 use Rattle.c_value.specs.Operators as o
 use Rattle.c_value.specs.Operators.{Computed, binary_kind, binary_value}
 use Rattle.c_meaning.specs.declared.value.Value.{Value}
@@ -14,7 +13,7 @@ use Rattle.c_meaning.specs.Steps.{Outcome, went, undefined, waiting, Ran, after,
 use Rattle.c_meaning.specs.Expression.{value, computed, operated, read_found, read_place, read_object, store_place, store_object, assigned, bumped}
 use Rattle.c_meaning.specs.Frames.{Configuration}
 use Rattle.c_meaning.specs.Rest.{rest_of, setting, with_value}
-use Rattle.c_meaning.specs.Moves.{concluded, still}
+use Rattle.c_meaning.specs.Moves.{concluded}
 
 -- the same state with so many points left
 abbrev pub with_left : ℕ → State → State

@@ -1,12 +1,14 @@
 -- What a move from a step that follows at once keeps.
-use Rattle.std.proofs.Common.{◌≡◌, ◌∙◌, ℕ, ◌+◌, ◌<◌, sym, refl, ap, arith}
+use Rattle.std.proofs.Common.{◌≡◌, ◌∙◌, ℕ, ◌+◌, ◌<◌, sym, ap, arith}
 use Rattle.c_meaning.specs.Frames as f
 use Rattle.c_meaning.specs.Frames.{Configuration, Step}
 use Rattle.c_meaning.specs.Rest.{rest_of}
 use Rattle.c_meaning.specs.Sound.{Sound, within}
+use Rattle.c_meaning.specs.Shape.{step_fits, Shaped}
 use Rattle.c_meaning.specs.Moves.{stepped}
 use Rattle.c_meaning.proofs.Moving.{stepped-rest}
 use Rattle.c_meaning.proofs.Soundness.{stepped-sound}
+use Rattle.c_meaning.proofs.Shaping.{stepped-shaped}
 use Rattle.c_meaning.proofs.Meters.{stepped-meter}
 use Rattle.c_meaning.proofs.Weights.{weight, control_size, step_size, stack_size, stepped-less}
 
@@ -20,6 +22,12 @@ moved-rest left step m m1 now h is =
 pub moved-sound : (step : Step) (m m1 : Configuration) → m.control ≡ f.next step → Sound m → m1 ≡ stepped step m → Sound m1
 moved-sound step m m1 now h is = rw is (stepped-sound step m (sound-within step m now h))
 
+pub shape-fits : (step : Step) (m : Configuration) → m.control ≡ f.next step → Shaped m → step_fits step m.stack
+shape-fits step m now h = rw now at h
+
+pub moved-shaped : (step : Step) (m m1 : Configuration) → m.control ≡ f.next step → Shaped m → m1 ≡ stepped step m → Shaped m1
+moved-shaped step m m1 now h is = rw is (stepped-shaped step m (shape-fits step m now h))
+
 pub moved-meter : (step : Step) (m m1 : Configuration) → m1 ≡ stepped step m → m1.meter ≡ m.meter
 moved-meter step m m1 is = ap (λ (x : Configuration). x.meter) is ∙ stepped-meter step m
 
@@ -30,4 +38,4 @@ moved-less step m m1 now is =
     let here : weight m1 ≡ weight (stepped step m) = ap weight is in
     omega (arith, less, there, here)
 
-pub ruleset running = (moved-rest, moved-sound, moved-meter, moved-less, sound-within)
+pub ruleset running = (moved-rest, moved-sound, moved-shaped, moved-meter, moved-less, sound-within)

@@ -1,5 +1,5 @@
 -- Runs from their beginning to their answers.
-use Rattle.std.proofs.Common.{◌≡◌, ◌∙◌, ℕ, zero, suc, ◌+◌, ◌<◌, sym, refl, ap, subst, List, [], ◌∷◌, ◌++◌, length, map, drop, ℤ, Option, Some, None, slice_get, IsTrue, Result, Ok, Err, IfOk, OnOk, arith}
+use Rattle.std.proofs.Common.{◌≡◌, ◌∙◌, ℕ, ◌+◌, sym, refl, ap, subst, List, [], ◌++◌, length, map, drop, ℤ, Option, Some, None, slice_get, IsTrue, Result, Ok, Err, IfOk, OnOk, arith}
 use Rattle.std.proofs.lemmas.List.{append-nil}
 use Rattle.std.specs.Borrow.{Bor}
 use Rattle.hls_base.specs.declared.point.Point.{Point}
@@ -13,16 +13,18 @@ use Rattle.c_checked.specs.Programs.{is_well_formed, is_faultless, body_name_of}
 use Rattle.c_meaning.specs.declared.outcome.Outcome.{Outcome}
 use Rattle.c_meaning.specs.declared.outcome.Outcome.TheVariants as o
 use Rattle.c_meaning.specs.Reading.{Reading}
-use Rattle.c_meaning.specs.Steps.{Ran, waits}
+use Rattle.c_meaning.specs.Steps.{Ran}
 use Rattle.c_meaning.specs.Points.{tally_of}
-use Rattle.c_meaning.specs.Run.{Answer, top_arguments, file_names, bindings_from, file_store, host_arrays, patterns, result_pattern, contents_of, function_at, answer, c_run, run_of}
+use Rattle.c_meaning.specs.Run.{top_arguments, file_names, bindings_from, file_store, host_arrays, patterns, result_pattern, contents_of, function_at, answer, c_run, run_of}
 use Rattle.c_meaning.specs.Frames as f
 use Rattle.c_meaning.specs.Frames.{Configuration, Control}
 use Rattle.c_meaning.specs.Rest.{rest_of}
 use Rattle.c_meaning.specs.Moves.{top_begun}
 use Rattle.c_meaning.specs.Sound.{Sound}
+use Rattle.c_meaning.specs.Shape.{Shaped, control_fits}
 use Rattle.c_meaning.specs.Following.{top_ran, behind, follows, keeps_following, is_done}
-use Rattle.c_meaning.specs.Runs.{Standing, top_function, ran, IsRunOf, IsSoundRun, passed, left_contents, outcome_of, outcome_by, outcome_at, keeps, is_begun}
+use Rattle.c_meaning.specs.Runs.{Standing, top_function, ran, IsRunOf, left_contents, outcome_of, outcome_by, keeps, is_begun}
+use Rattle.c_meaning.specs.Progress.{RunsFor}
 use Rattle.c_meaning.proofs.Following.{follows-begun}
 
 -- ---- the top function
@@ -52,6 +54,10 @@ begun-follows items (Some fn) kept scalars arrays m h =
 pub begun-sound : (items : List ItemTree) (top : Option FunctionTree) (file : List ObjectTree) (kept : FileScope) (scalars : List ℕ) (arrays : List (List ℕ)) (m : Configuration) → is_begun items top file kept scalars arrays m → Sound m
 begun-sound items None file kept scalars arrays m h = absurd h
 begun-sound items (Some fn) file kept scalars arrays m h = subst Sound (sym h) (omega arith, (tt, tt))
+
+pub begun-shaped : (items : List ItemTree) (top : Option FunctionTree) (file : List ObjectTree) (kept : FileScope) (scalars : List ℕ) (arrays : List (List ℕ)) (m : Configuration) → is_begun items top file kept scalars arrays m → Shaped m
+begun-shaped items None file kept scalars arrays m h = absurd h
+begun-shaped items (Some fn) file kept scalars arrays m h = subst Shaped (sym h) tt
 
 pub begun-passed : (items : List ItemTree) (top : Option FunctionTree) (file : List ObjectTree) (kept : FileScope) (scalars : List ℕ) (arrays : List (List ℕ)) (m : Configuration) → is_begun items top file kept scalars arrays m
     → m.meter.passed ≡ 0
@@ -126,28 +132,31 @@ left-kept items (Some fn) file kept scalars arrays m f.stuck trace n left same h
     subst (λ (r : Ran (Option ℤ)). keeps (answer (file_objects items) fn r) (contents_of file m.objects)) (sym h) tt
 
 -- a run that goes on, whose machine keeps following
-pub gone-run : (r0 r : Standing) → r.program ≡ r0.program → r.top ≡ r0.top → keeps_following r0.machine r.machine
-    → (kept : FileScope) (scalars : List ℕ) (arrays : List (List ℕ)) → IsRunOf r0 kept scalars arrays → IsRunOf r kept scalars arrays
-gone-run r0 r program top keeping kept scalars arrays h =
-    let h1 = keeping (ran r0.program.items (top_function r0.program r0.top) kept scalars arrays) h.0 h.1 h.2 in
-    subst (λ (p : ProgramTree). IsRunOf (record r { program = p }) kept scalars arrays) (sym program)
-    (subst (λ x. IsRunOf (record r { program = r0.program; top = x }) kept scalars arrays) (sym top) h1)
+pub gone-run : (r : Standing) (m : Configuration) → keeps_following r.machine m → (kept : FileScope) (scalars : List ℕ) (arrays : List (List ℕ)) → IsRunOf r kept scalars arrays → IsRunOf (record r { machine = m }) kept scalars arrays
+gone-run r m keeping kept scalars arrays h = keeping (ran r.program.items (top_function r.program r.top) kept scalars arrays) h.0 h.1 h.2
 
-pub gone-answer : (r0 r : Standing) (points left : ℕ) → r.program ≡ r0.program → r.top ≡ r0.top → IsSoundRun r → is_done r.machine.control left → passed r + left ≡ passed r0 + points
-    → (kept : FileScope) (scalars : List ℕ) (arrays : List (List ℕ)) → IsRunOf r kept scalars arrays → outcome_at r ≡ outcome_of (c_run r0.program r0.top kept scalars arrays (passed r0 + points))
-gone-answer r0 r points left program top sound done sum kept scalars arrays h =
-    told r.program.items (top_function r.program r.top) r.file kept scalars arrays r.machine r.machine.control h.0 (passed r + left) left sound.1 (h.1 left) h.2 done
-    ∙ ap (λ n. outcome_of (c_run r.program r.top kept scalars arrays n)) sum
-    ∙ ap (λ p. outcome_of (c_run p r.top kept scalars arrays (passed r0 + points))) program
-    ∙ ap (λ t. outcome_of (c_run r0.program t kept scalars arrays (passed r0 + points))) top
+-- What a machine tells that has gone on so far is the answer of its run.
+pub gone-answer : (r : Standing) (n left : ℕ) → r.file ≡ file_objects r.program.items → is_done r.machine.control left → r.machine.meter.passed + left ≡ n
+    → (kept : FileScope) (scalars : List ℕ) (arrays : List (List ℕ)) → IsRunOf r kept scalars arrays
+    → outcome_by r.file (top_function r.program r.top) r.machine r.machine.control ≡ outcome_of (c_run r.program r.top kept scalars arrays n)
+gone-answer r n left file done sum kept scalars arrays h =
+    told r.program.items (top_function r.program r.top) r.file kept scalars arrays r.machine r.machine.control h.0 (r.machine.meter.passed + left) left file (h.1 left) h.2 done
+    ∙ ap (λ k. outcome_of (c_run r.program r.top kept scalars arrays k)) sum
 
-pub gone-kept : (r0 r : Standing) (points left : ℕ) → r.program ≡ r0.program → r.top ≡ r0.top → IsSoundRun r → is_done r.machine.control left → passed r + left ≡ passed r0 + points
-    → (kept : FileScope) (scalars : List ℕ) (arrays : List (List ℕ)) → IsRunOf r kept scalars arrays → keeps (c_run r0.program r0.top kept scalars arrays (passed r0 + points)) (left_contents r)
-gone-kept r0 r points left program top sound done sum kept scalars arrays h =
-    let k = left-kept r.program.items (top_function r.program r.top) r.file kept scalars arrays r.machine r.machine.control h.0 (passed r + left) left sound.1 (h.1 left) done in
-    let k1 = subst (λ n. keeps (c_run r.program r.top kept scalars arrays n) (left_contents r)) sum k in
-    let k2 = subst (λ p. keeps (c_run p r.top kept scalars arrays (passed r0 + points)) (left_contents r)) program k1 in
-    subst (λ t. keeps (c_run r0.program t kept scalars arrays (passed r0 + points)) (left_contents r)) top k2
+pub gone-kept : (r : Standing) (n left : ℕ) → r.file ≡ file_objects r.program.items → is_done r.machine.control left → r.machine.meter.passed + left ≡ n
+    → (kept : FileScope) (scalars : List ℕ) (arrays : List (List ℕ)) → IsRunOf r kept scalars arrays → keeps (c_run r.program r.top kept scalars arrays n) (left_contents r)
+gone-kept r n left file done sum kept scalars arrays h =
+    subst (λ k. keeps (c_run r.program r.top kept scalars arrays k) (left_contents r)) sum
+    (left-kept r.program.items (top_function r.program r.top) r.file kept scalars arrays r.machine r.machine.control h.0 (r.machine.meter.passed + left) left file (h.1 left) done)
+
+-- A machine that goes on has passed all points that it may.
+pub gone-running : (file : List ObjectTree) (fn : Option FunctionTree) (m : Configuration) (c : Control) (n left : ℕ) → control_fits c m.stack → is_done c left → m.meter.passed + left ≡ n
+    → RunsFor (outcome_by file fn m c) m.meter.passed n
+gone-running file fn m (f.next step) n left fit done sum = absurd done
+gone-running file fn m (f.before kind at step) n left fit done sum = omega (arith, done, sum)
+gone-running file fn m (f.ended number) n left fit done sum = tt
+gone-running file fn m (f.undefined rule at) n left fit done sum = tt
+gone-running file fn m f.stuck n left fit done sum = absurd fit
 
 -- Points that may be passed more change nothing else.
 pub allowed-keeps : (m : Configuration) (meter : Reading) (m1 : Configuration) (points : ℕ) → meter ≡ record m.meter { left = points } → keeps_following (record m { meter = meter }) m1 → keeps_following m m1
@@ -167,6 +176,10 @@ allowed-sum old meter new points is total =
 pub told-ok : {A E : Type 0} (result : Result A E) (x y : A) → x ≡ y → IfOk result (λ o. o ≡ x) → IfOk result (λ o. o ≡ y)
 told-ok (Ok a) x y e h = h ∙ e
 told-ok (Err a) x y e h = h
+
+pub running-ok : {E : Type 0} (result : Result Outcome E) (x : Outcome) (passed n : ℕ) → RunsFor x passed n → IfOk result (λ o. o ≡ x) → IfOk result (λ o. RunsFor o passed n)
+running-ok (Ok o) x passed n h e = subst (λ y. RunsFor y passed n) (sym e) h
+running-ok (Err a) x passed n h e = tt
 
 pub kept-ok : {A E : Type 0} (result : Result A E) (P : Type 0) → P → OnOk result P
 kept-ok (Ok a) P h = h

@@ -1,5 +1,5 @@
 -- Names and calls that are added leave the outer environments as they are.
-use Rattle.std.proofs.Common.{◌≡◌, ◌∙◌, ℕ, zero, suc, ◌+◌, ◌^◌, ◌<◌, ◌≤◌, sym, refl, ap, List, [], ◌∷◌, ◌++◌, length, take, drop, map, reverse, Option, Result, Ok, Err, OnErr, ◌-◌, arith}
+use Rattle.std.proofs.Common.{◌≡◌, ◌∙◌, ℕ, ◌+◌, ◌^◌, ◌≤◌, sym, refl, ap, List, [], ◌∷◌, ◌++◌, length, take, drop, Option, Result, Ok, Err, OnErr, ◌-◌, arith}
 use Rattle.std.proofs.lemmas.List.{take-take, take-append-le, drop-append-le, length-take, length-take-le, length-append, drop-take}
 use Rattle.std.proofs.Math.Seq.{take-length}
 use Rattle.std.proofs.Math.ListN.{drop_of_length-le}
@@ -7,9 +7,8 @@ use Rattle.hls_base.specs.declared.place.Place.{Place}
 use Rattle.c_meaning.specs.declared.names.Binding.{Binding}
 use Rattle.c_meaning.specs.declared.machine.scopes.Scope.{Scope}
 use Rattle.c_token.specs.declared.ctype.CType.{CType}
-use Rattle.c_meaning.specs.Store.{Environment}
 use Rattle.c_meaning.specs.Names.{begun}
-use Rattle.c_meaning.specs.Scopes.{Environments, environment_of, environments_of, is_inside, are_nested}
+use Rattle.c_meaning.specs.Scopes.{Environments, environment_of, environments_of, are_nested}
 
 pub environments-kept : (file names names1 : List Binding) (calls calls1 : List Place) (n p : ℕ) (scopes : List Scope) → are_nested n p scopes
     → ((k : ℕ) → k ≤ n → take k names1 ≡ take k names) → ((k : ℕ) → k ≤ p → take k calls1 ≡ take k calls)

@@ -1,5 +1,5 @@
 -- Each move keeps a machine sound.
-use Rattle.std.proofs.Common.{◌≡◌, refl, ℕ, zero, suc, ◌+◌, ◌<◌, ◌≤◌, List, [], ◌∷◌, ◌++◌, take, ◌&&◌, ◌||◌, ℤ, Option, Some, None, is_some, Bool, true, false, if◌then◌else◌, arith}
+use Rattle.std.proofs.Common.{◌≡◌, refl, ℕ, zero, suc, ◌+◌, ◌<◌, ◌≤◌, List, [], ◌∷◌, take, ◌&&◌, ◌||◌, ℤ, Option, Some, None, is_some, Bool, true, false, if◌then◌else◌, arith}
 use Rattle.hls_base.specs.declared.place.Place.{Place}
 use Rattle.hls_base.specs.declared.point.PointKind.{PointKind}
 use Rattle.hls_base.specs.declared.point.PointKind.TheVariants as point
@@ -17,7 +17,7 @@ use Rattle.c_meaning.specs.declared.value.Completion.{Completion}
 use Rattle.c_meaning.specs.declared.value.Completion.TheVariants as end
 use Rattle.c_meaning.specs.declared.value.Round.{Round}
 use Rattle.c_meaning.specs.declared.value.Round.TheVariants as round
-use Rattle.c_meaning.specs.Store.{object_named, declared, declared_in, declared_first, lengths_in}
+use Rattle.c_meaning.specs.Store.{object_named, declared, declared_first, lengths_in}
 use Rattle.c_meaning.specs.Steps as Steps
 use Rattle.c_meaning.specs.Steps.{Outcome}
 use Rattle.c_meaning.specs.Expression.{acts, computed, operated, read_object, assigned, bumped, array_given}
@@ -25,7 +25,7 @@ use Rattle.c_meaning.specs.Statement.{action_tree, target_label, round_of}
 use Rattle.c_meaning.specs.Run.{function_named}
 use Rattle.c_meaning.specs.Frames as f
 use Rattle.c_meaning.specs.Frames.{Loop, Use, ValueFrame, EndFrame, Frame, Step, Configuration, latest, in_environment, numbers_closed, given_closed}
-use Rattle.c_meaning.specs.Sound.{value_fits, end_fits, frame_fits, all_fit, within, Sound}
+use Rattle.c_meaning.specs.Sound.{value_fits, end_fits, all_fit, within, Sound}
 use Rattle.c_meaning.specs.Moves as v
 use Rattle.c_meaning.specs.Moves.{here, holding, pushed, still, left_scope, block_entered, Landing, landing}
 

@@ -1,25 +1,23 @@
 -- Moves of statements leave of a run what was left before.
-use Rattle.std.proofs.Common.{◌≡◌, ℕ, ◌+◌, ◌∙◌, sym, refl, ap, List, [], ◌∷◌, ◌++◌, ◌&&◌, length, ℤ, Option, Some, None, Bool, true, false, if◌then◌else◌}
+use Rattle.std.proofs.Common.{◌≡◌, ℕ, ◌∙◌, sym, refl, List, [], ◌∷◌, ◌&&◌, length, Some, None, Bool, true, false}
 use Rattle.hls_base.specs.declared.place.Place.{Place}
 use Rattle.hls_base.specs.declared.point.PointKind.TheVariants as point
 use Rattle.c_tree.specs.Tree as tree
 use Rattle.c_tree.specs.Tree.{Tree, ObjectTree, StmtTree, StmtTrees, ElseTree, FirstTree}
 use Rattle.c_value.specs.Operators.{is_true}
-use Rattle.c_meaning.specs.declared.value.Value.{Value}
 use Rattle.c_meaning.specs.declared.value.Completion.{Completion}
 use Rattle.c_meaning.specs.declared.value.Completion.TheVariants as end
 use Rattle.c_meaning.specs.Store.{State, Environment, all_declared, declared_by, declared_in, declared_first, entered, inside, left_block}
 use Rattle.c_meaning.specs.Steps.{Ran, then_, goes, pass}
 use Rattle.c_meaning.specs.Expression.{expression_meaning}
-use Rattle.c_meaning.specs.Statement as s
 use Rattle.c_meaning.specs.Statement.{act_all, arm, behind_if, behind_breakable, branch_meaning, converted_result, declare_all, first_meaning, go_on, in_block, is_last, items_meaning, statement_meaning}
 use Rattle.c_meaning.specs.Frames as f
 use Rattle.c_meaning.specs.Frames.{Configuration, Loop, Held, in_environment, scope_left}
 use Rattle.c_meaning.specs.Rest as rest
 use Rattle.c_meaning.specs.Rest.{Setting, rest_of, rest_from, setting, state_with, calls_at, with_value, with_end, rounds}
-use Rattle.c_meaning.specs.Moves.{here, pushed, block_entered, first_begun, return_begun, executed, block_begun, next_item, items_resumed, branched, if_left, switch_left}
+use Rattle.c_meaning.specs.Moves.{here, block_entered, first_begun, executed, block_begun, next_item, items_resumed, branched, if_left, switch_left}
 use Rattle.c_meaning.proofs.ThenLaws.{then_assoc, then_same}
-use Rattle.c_meaning.proofs.Nesting.{nest3, inner3}
+use Rattle.c_meaning.proofs.Nesting.{nest3}
 use Rattle.c_meaning.proofs.LoopMoves.{loop_begun-rest}
 
 -- ---- blocks

@@ -1,5 +1,5 @@
 -- A switch jumps to where its meaning does, and leaves of a run what was left before.
-use Rattle.std.proofs.Common.{◌≡◌, ℕ, ◌∙◌, sym, refl, ap, List, [], ◌∷◌, ◌++◌, ◌||◌, length, ℤ, Option, Some, None, is_some, Bool, true, false, if◌then◌else◌}
+use Rattle.std.proofs.Common.{◌≡◌, ℕ, ◌∙◌, sym, refl, ap, List, [], ◌∷◌, ◌++◌, ◌||◌, length, Option, Some, None, is_some, Bool, true, false, if◌then◌else◌}
 use Rattle.hls_base.specs.declared.place.Place.{Place}
 use Rattle.hls_base.specs.declared.point.PointKind.TheVariants as point
 use Rattle.c_tree.specs.Tree as tree
@@ -14,7 +14,6 @@ use Rattle.c_meaning.specs.Expression.{Calls}
 use Rattle.c_meaning.specs.Statement.{arm, go_on, items_meaning, statement_meaning, jump_meaning, labelled_meaning, has_label, target_label}
 use Rattle.c_meaning.specs.Frames as f
 use Rattle.c_meaning.specs.Frames.{Configuration}
-use Rattle.c_meaning.specs.Rest as rest
 use Rattle.c_meaning.specs.Rest.{rest_of, rest_from, setting, state_with, calls_at, with_end}
 use Rattle.c_meaning.specs.Moves.{here, Landing, labelled, landing, landed_here, skipping, jumped_to, jumped}
 use Rattle.c_meaning.proofs.ThenLaws.{then_assoc, then_same}

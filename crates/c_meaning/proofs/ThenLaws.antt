@@ -1,5 +1,5 @@
 -- Laws of parts of a run one after another.
-use Rattle.std.proofs.Common.{◌≡◌, ◌++◌, ◌∙◌, List, [], ◌∷◌, refl, ap, sym, append_assoc}
+use Rattle.std.proofs.Common.{◌≡◌, ◌++◌, List, [], refl, ap, append_assoc}
 use Rattle.std.proofs.lemmas.List.{append-nil}
 use Rattle.hls_base.specs.declared.place.Place.{Place}
 use Rattle.hls_base.specs.declared.point.Point.{Point}

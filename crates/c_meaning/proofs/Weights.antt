@@ -1,5 +1,5 @@
 -- Between two points a machine takes trees apart: each move leaves less.
-use Rattle.std.proofs.Common.{◌≡◌, refl, ℕ, zero, suc, ◌+◌, ◌<◌, ◌≤◌, List, [], ◌∷◌, ◌++◌, take, ◌&&◌, ◌||◌, ℤ, Option, Some, None, is_some, Bool, true, false, if◌then◌else◌, arith}
+use Rattle.std.proofs.Common.{ℕ, zero, suc, ◌+◌, ◌<◌, List, [], ◌∷◌, take, ◌&&◌, ◌||◌, ℤ, Option, Some, None, is_some, Bool, true, false, if◌then◌else◌, arith}
 use Rattle.hls_base.specs.declared.place.Place.{Place}
 use Rattle.hls_base.specs.declared.point.PointKind.{PointKind}
 use Rattle.hls_base.specs.declared.point.PointKind.TheVariants as point
@@ -17,7 +17,7 @@ use Rattle.c_meaning.specs.declared.value.Completion.{Completion}
 use Rattle.c_meaning.specs.declared.value.Completion.TheVariants as end
 use Rattle.c_meaning.specs.declared.value.Round.{Round}
 use Rattle.c_meaning.specs.declared.value.Round.TheVariants as round
-use Rattle.c_meaning.specs.Store.{object_named, declared, declared_in, declared_first, lengths_in}
+use Rattle.c_meaning.specs.Store.{object_named, declared, declared_first, lengths_in}
 use Rattle.c_meaning.specs.Steps as Steps
 use Rattle.c_meaning.specs.Steps.{Outcome}
 use Rattle.c_meaning.specs.Expression.{acts, computed, operated, read_object, assigned, bumped, array_given}

@@ -1,5 +1,5 @@
 -- Elements that become 0 one after another.
-use Rattle.std.proofs.Common.{◌≡◌, ℕ, zero, suc, ◌+◌, ◌-◌, ◌<◌, ◌∙◌, sym, refl, ap, subst, List, pos, arith}
+use Rattle.std.proofs.Common.{◌≡◌, ℕ, suc, ◌+◌, ◌-◌, ◌<◌, ◌∙◌, sym, ap, List, pos, arith}
 use Rattle.std.specs.Prelude.{slice_get}
 use Rattle.c_meaning.specs.Store.{Object, State, changed, with_element, write_element}
 use Rattle.c_meaning.specs.Statement.{zeros}

@@ -1,5 +1,5 @@
 -- Inputs that a function may be started with: one number for each scalar parameter, and one list of the right length for each array parameter, each number within its width.
-use Rattle.std.specs.Prelude.{ℕ, ◌^◌, ◌==◌, ◌&&◌, nat_lt, Bool, true, false, List, [], ◌∷◌, length, if◌then◌else◌}
+use Rattle.std.specs.Prelude.{ℕ, ◌^◌, ◌==◌, ◌&&◌, nat_lt, Bool, false, List, [], ◌∷◌, length, if◌then◌else◌}
 use Rattle.std.specs.List.{list_all}
 use Rattle.hls_base.specs.ArrayAddress.{element_count}
 use Rattle.c_token.specs.declared.ctype.CType.{CType}

@@ -1,5 +1,5 @@
 -- The configurations of a machine that runs programs step by step: what it does next, and the frames of what waits behind it.
-use Rattle.std.specs.Prelude.{ℕ, ◌+◌, Bool, List, [], ◌∷◌, ◌++◌, ℤ, Option, None}
+use Rattle.std.specs.Prelude.{ℕ, Bool, List, [], ◌∷◌, ◌++◌, ℤ, Option, None}
 use Rattle.hls_base.specs.declared.place.Place.{Place}
 use Rattle.hls_base.specs.declared.point.PointKind.{PointKind}
 use Rattle.hls_base.specs.declared.refusal.UbRule.{UbRule}
@@ -11,7 +11,7 @@ use Rattle.c_meaning.specs.declared.value.Value.{Value}
 use Rattle.c_meaning.specs.declared.value.Argument.{Argument}
 use Rattle.c_meaning.specs.declared.value.Completion.{Completion}
 use Rattle.c_meaning.specs.declared.names.Binding.{Binding}
-use Rattle.c_meaning.specs.Store.{Object, State, Environment}
+use Rattle.c_meaning.specs.Store.{Object, Environment}
 use Rattle.c_meaning.specs.Names.{begun}
 use Rattle.c_meaning.specs.Reading.{Reading}
 

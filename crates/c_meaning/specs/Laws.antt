@@ -1,5 +1,5 @@
 -- Laws of runs.
-use Rattle.std.specs.Prelude.{◌≡◌, ◌≢◌, ℕ, ◌+◌, ◌<◌, ◌≤◌, Bool, List, ◌++◌, length, ℤ, Some, slice_get, sum_by, IsSome}
+use Rattle.std.specs.Prelude.{◌≡◌, ◌≢◌, ℕ, ◌+◌, ◌<◌, ◌≤◌, Bool, List, ◌++◌, length, ℤ, Some, slice_get, sum_by}
 use Rattle.hls_base.specs.ArrayAddress.{element_count}
 use Rattle.hls_base.specs.Tallies.{HasDistinctPoints}
 use Rattle.hls_base.specs.FileScope.{FileScope}

@@ -9,6 +9,7 @@ pub mod Frames
 pub mod Rest
 pub mod Moves
 pub mod Sound
+pub mod Shape
 pub mod Shown
 pub mod Limits
 pub mod Declarations
@@ -22,8 +23,10 @@ pub mod Stacks
 pub mod Machines
 pub mod Labels
 pub mod Calling
+pub mod Chains
 pub mod Laws
 pub mod Following
 pub mod Runs
+pub mod Progress
 pub mod RunViews
 pub mod ValueLaws

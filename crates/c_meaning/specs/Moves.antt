@@ -4,7 +4,6 @@ use Rattle.hls_base.specs.ArrayAddress.{element_count}
 use Rattle.hls_base.specs.declared.place.Place.{Place}
 use Rattle.hls_base.specs.declared.point.PointKind.{PointKind}
 use Rattle.hls_base.specs.declared.point.PointKind.TheVariants as point
-use Rattle.hls_base.specs.declared.refusal.UbRule.{UbRule}
 use Rattle.hls_base.specs.declared.refusal.UbRule.TheVariants as ub
 use Rattle.c_token.specs.declared.ctype.CType.{CType}
 use Rattle.c_tree.specs.declared.operator.Binary.{Binary}
@@ -25,8 +24,8 @@ use Rattle.c_meaning.specs.Store.{Object, State, Environment, object_named, kind
 use Rattle.c_meaning.specs.Names.{begun}
 use Rattle.c_meaning.specs.Steps as Steps
 use Rattle.c_meaning.specs.Steps.{Outcome}
-use Rattle.c_meaning.specs.Expression.{Calls, value, acts, computed, operated, kind_of, read_object, assigned, bumped, array_given, number_or_zero}
-use Rattle.c_meaning.specs.Statement.{zeros, action_tree, is_last, has_label, target_label, round_of, converted_result}
+use Rattle.c_meaning.specs.Expression.{value, acts, computed, operated, kind_of, read_object, assigned, bumped, array_given, number_or_zero}
+use Rattle.c_meaning.specs.Statement.{zeros, action_tree, is_last, target_label, round_of, converted_result}
 use Rattle.c_meaning.specs.Run.{function_named, result_of, kind_or_int, parameters, body_of}
 use Rattle.c_meaning.specs.Frames as f
 use Rattle.c_meaning.specs.Frames.{Loop, Use, ValueFrame, EndFrame, Frame, Step, Held, Configuration, latest, scope_opened, scope_left, in_environment, numbers_opened, number_added, numbers_closed, given_opened, argument_added, given_closed}

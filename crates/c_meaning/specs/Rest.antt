@@ -1,10 +1,8 @@
 -- What is left of a run at a configuration.
-use Rattle.std.specs.Prelude.{ℕ, zero, suc, ◌+◌, ◌-◌, ◌||◌, Bool, true, false, List, [], ◌∷◌, ◌++◌, ℤ, Option, Some, None, if◌then◌else◌}
+use Rattle.std.specs.Prelude.{ℕ, ◌+◌, ◌-◌, ◌||◌, Bool, true, false, List, [], ◌∷◌, ◌++◌, ℤ, Option, Some, if◌then◌else◌}
 use Rattle.hls_base.specs.declared.place.Place.{Place}
-use Rattle.hls_base.specs.declared.point.PointKind.{PointKind}
 use Rattle.hls_base.specs.declared.point.PointKind.TheVariants as point
-use Rattle.c_token.specs.declared.ctype.CType.{CType}
-use Rattle.c_tree.specs.Tree.{Tree, Trees, StmtTrees, ItemTree, FunctionTree}
+use Rattle.c_tree.specs.Tree.{Tree, Trees, StmtTrees, ItemTree}
 use Rattle.c_value.specs.Values.{int_type, promoted, convert, common}
 use Rattle.c_value.specs.Operators.{truth, is_true, unary_kind, unary_value}
 use Rattle.c_meaning.specs.declared.value.Value.{Value}

@@ -13,7 +13,6 @@ use Rattle.c_meaning.specs.Run.{Answer, ended, undefined, running, top_arguments
 use Rattle.c_meaning.specs.Frames as f
 use Rattle.c_meaning.specs.Frames.{Configuration}
 use Rattle.c_meaning.specs.Moves.{top_begun}
-use Rattle.c_meaning.specs.Sound.{Sound}
 use Rattle.c_meaning.specs.Following.{top_ran, follows}
 
 -- the program, the number of the item that is its top function, its objects of file scope, and the machine
@@ -36,13 +35,6 @@ ran items (Some fn) kept scalars arrays n =
 abbrev pub IsRunOf : Standing → FileScope → List ℕ → List (List ℕ) → Type 0
 IsRunOf r kept scalars arrays =
     (trace : List Point) × follows (ran r.program.items (top_function r.program r.top) kept scalars arrays) trace r.machine × (r.machine.meter.counts ≡ tally_of trace)
-
-abbrev pub IsSoundRun : Standing → Type 0
-IsSoundRun r = Sound r.machine × (r.file ≡ file_objects r.program.items)
-
--- the points that were passed
-abbrev pub passed : Standing → ℕ
-passed r = r.machine.meter.passed
 
 -- what the objects of file scope hold
 abbrev pub left_contents : Standing → FileScope
@@ -69,9 +61,6 @@ abbrev pub outcome_by : List ObjectTree → Option FunctionTree → Configuratio
 outcome_by file fn m (f.ended n) = o.Ended (record { ret = result_pattern (result_of fn) n; arrays = map patterns (drop (length file) m.objects); tally = m.meter.counts })
 outcome_by file fn m (f.undefined rule at) = o.Undefined rule at
 outcome_by file fn m _ = o.Running
-
-abbrev pub outcome_at : Standing → Outcome
-outcome_at r = outcome_by r.file (top_function r.program r.top) r.machine r.machine.control
 
 abbrev pub is_begun : List ItemTree → Option FunctionTree → List ObjectTree → FileScope → List ℕ → List (List ℕ) → Configuration → Type 0
 is_begun items None file kept scalars arrays m = ⊥

@@ -1,5 +1,5 @@
 -- How the environments of all calls that are under way lie in one list of names and one of calls.
-use Rattle.std.specs.Prelude.{ℕ, ◌+◌, ◌^◌, ◌≤◌, List, [], ◌∷◌, take, drop, length, map, reverse}
+use Rattle.std.specs.Prelude.{ℕ, ◌+◌, ◌^◌, ◌≤◌, List, [], ◌∷◌, take, drop, map}
 use Rattle.hls_base.specs.declared.place.Place.{Place}
 use Rattle.c_meaning.specs.declared.names.Binding.{Binding}
 use Rattle.c_meaning.specs.declared.machine.scopes.Scope.{Scope}

@@ -15,7 +15,6 @@ use Rattle.c_meaning.specs.declared.value.Completion.{Completion}
 use Rattle.c_meaning.specs.declared.value.Completion.TheVariants as end
 use Rattle.c_meaning.specs.declared.value.Round.{Round}
 use Rattle.c_meaning.specs.declared.value.Round.TheVariants as round
-use Rattle.c_meaning.specs.declared.value.Value.{Value}
 use Rattle.c_meaning.specs.Store.{State, Environment, declared, all_declared, declared_by, declared_in, declared_first, entered, inside, left_block, lengths_in, forget, kind_of_object, write_element}
 use Rattle.c_meaning.specs.Steps.{Ran, goes, waits, then_, pass}
 use Rattle.c_meaning.specs.Expression.{Calls, expression_meaning}

@@ -13,4 +13,6 @@ pub mod object;
 pub mod outcome;
 pub mod run;
 pub mod store;
+#[cfg(test)]
+mod tests;
 pub mod value;

@@ -2,6 +2,7 @@
 pub mod behind;
 pub mod block;
 pub mod call;
+pub mod chain;
 pub mod declaration;
 pub mod expression;
 pub mod frame;

@@ -1,9 +1,9 @@
 //! Runs of the top function.
-ghost use Rattle.std.specs.Prelude.{◌≡◌, Some, map, slice_get, IfOk};
-ghost use Rattle.c_tree.specs.View.{function_of, item_of, program_of};
+ghost use Rattle.std.specs.Prelude.{◌≡◌, Some, IfOk};
+ghost use Rattle.c_tree.specs.View.{function_of, program_of};
 ghost use Rattle.c_meaning.specs.Declarations.{objects_of};
 ghost use Rattle.c_meaning.specs.Machines.{configuration_of};
-ghost use Rattle.c_meaning.specs.Runs.{top_function, is_begun};
+ghost use Rattle.c_meaning.specs.Runs.{top_function, is_begun, outcome_by};
 
 mod beginning;
 
@@ -19,13 +19,34 @@ use c_tree::object::Object as Declared;
 use c_tree::program::Item;
 use hls_base::inputs::Inputs;
 use std::alloc::{AllocError, Global};
+use std::marker::Model;
 
 /// A run of a program's top function.
 #[derive(Drop)]
 pub struct Run<'p> {
     checked: &'p Checked,
     declared: Vec<&'p Declared>,
+    kept: FileContents,
+    inputs: Inputs,
     machine: Machine<'p>,
+}
+
+impl<'p> Model for Run<'p> {
+    ghost use Rattle.c_meaning.specs.Progress.{Progress};
+    ghost use Rattle.c_tree.specs.contracts.expression.Expr as expression;
+    ghost use Rattle.c_tree.specs.contracts.object.Init as init;
+    ghost use Rattle.c_tree.specs.contracts.statement.Stmt as statement;
+    ghost use Rattle.std.specs.Coded.{codes};
+
+    ghost Value = { Progress };
+
+    ghost coded = { Prim.hlevel (codes, expression.the_row.coded, init.the_row.coded, statement.the_row.coded) };
+
+    ghost use Rattle.c_meaning.specs.RunViews.{progress_of, IsUnderWay};
+
+    ghost view = { progress_of };
+
+    ghost invariant = { IsUnderWay };
 }
 
 #[tactic(auto, using(crate::proofs::Runs::runs))]
@@ -64,66 +85,81 @@ fn begin<'p>(
     Machine::start(alloc, items, f, names, objects, given.as_slice())
 }
 
-impl<'p> Run<'p> {
-    ghost use Rattle.std.specs.Prelude.{◌≡◌, ◌+◌, ◌<◌, ◌≤◌, ◌^◌, ℕ, List, IfOk, OnOk, OnErr};
-    ghost use Rattle.hls_base.specs.FileScope.{FileScope};
-    ghost use Rattle.c_meaning.specs.Run.{c_run};
-    ghost use Rattle.c_meaning.specs.Runs.{IsRunOf, IsSoundRun, passed, left_contents, outcome_of, outcome_at, keeps};
-    ghost use Rattle.c_meaning.specs.RunViews.{standing_of};
+/// Another owner of the same inputs.
+fn copied(alloc: Global, inputs: &Inputs) -> Result<Inputs, AllocError>
+    ensures { IfOk result (λ i. i ≡ inputs.now) }
+{
+    let scalars = inputs.scalars.copy(alloc)?;
+    let arrays = inputs.arrays.copy(alloc)?;
+    Ok(Inputs { scalars, arrays })
+}
 
-    #[tactic(auto, using(crate::proofs::Runs::runs))]
-    /// What the machine tells as it stands.
-    fn outcome(&self, alloc: Global) -> Result<Outcome, AllocError>
-        ensures { IfOk result (λ o. o ≡ outcome_at (standing_of self.now)) }
-    {
-        match self.machine.control {
-            Control::Ended(number) => {
-                let kind = top_function(self.checked).result;
-                let objects = self.machine.objects.as_slice();
-                let count = self.declared.len();
-                let ended = final_of(alloc, kind, number, objects, count, &self.machine.meter)?;
-                Ok(Outcome::Ended(ended))
-            }
-            Control::Undefined(rule, at) => Ok(Outcome::Undefined(rule, at)),
-            Control::Going(..) | Control::Stuck => Ok(Outcome::Running),
+#[tactic(auto, using(crate::proofs::Runs::runs))]
+/// What a machine tells as it stands.
+fn outcome(
+    alloc: Global,
+    checked: &Checked,
+    declared: &[&Declared],
+    machine: &Machine,
+) -> Result<Outcome, AllocError>
+    ensures { IfOk result (λ o. o ≡ outcome_by (objects_of declared.now) (top_function (program_of checked.now.program) checked.now.top) (configuration_of machine.now) (configuration_of machine.now).control) }
+{
+    match machine.control {
+        Control::Ended(number) => {
+            let kind = top_function(checked).result;
+            let objects = machine.objects.as_slice();
+            let ended = final_of(alloc, kind, number, objects, declared.len(), &machine.meter)?;
+            Ok(Outcome::Ended(ended))
         }
+        Control::Undefined(rule, at) => Ok(Outcome::Undefined(rule, at)),
+        Control::Going(..) | Control::Stuck => Ok(Outcome::Running),
     }
+}
+
+impl<'p> Run<'p> {
+    ghost use Rattle.std.specs.Prelude.{◌≡◌, ◌+◌, ◌<◌, ◌≤◌, ◌^◌, IfOk, OnOk, OnErr};
+    ghost use Rattle.c_meaning.specs.Progress.{answer_within, RunsFor};
+    ghost use Rattle.c_meaning.specs.Runs.{outcome_of, keeps};
 
     #[tactic(auto, using(crate::proofs::Runs::runs))]
     /// Passes at most so many points more. After `Ended` or `Undefined` the same answer comes again; after want of memory the run stands behind some of its points, and goes on from there.
     pub fn go(&mut self, alloc: Global, points: u64) -> Result<Outcome, AllocError>
-        requires fits { points + passed (standing_of self.old) < 2 ^ 64 }
-        requires sound { IsSoundRun (standing_of self.old) }
-        ensures answer { (kept : FileScope) (scalars : List ℕ) (arrays : List (List ℕ)) → IsRunOf (standing_of self.old) kept scalars arrays → IfOk result (λ o. o ≡ outcome_of (c_run (standing_of self.old).program (standing_of self.old).top kept scalars arrays (passed (standing_of self.old) + points))) }
-        ensures kept { (kept : FileScope) (scalars : List ℕ) (arrays : List (List ℕ)) → IsRunOf (standing_of self.old) kept scalars arrays → OnOk result (keeps (c_run (standing_of self.old).program (standing_of self.old).top kept scalars arrays (passed (standing_of self.old) + points)) (left_contents (standing_of self.new))) }
-        ensures run { (kept : FileScope) (scalars : List ℕ) (arrays : List (List ℕ)) → IsRunOf (standing_of self.old) kept scalars arrays → IsRunOf (standing_of self.new) kept scalars arrays }
-        ensures passed { passed (standing_of self.new) ≤ passed (standing_of self.old) + points }
-        ensures program { (standing_of self.new).program ≡ (standing_of self.old).program }
-        ensures top { (standing_of self.new).top ≡ (standing_of self.old).top }
-        ensures sound { IsSoundRun (standing_of self.new) }
+        requires { self.old.passed + points < 2 ^ 64 }
+        ensures answer { IfOk result (λ o. o ≡ outcome_of (answer_within self.old.begun (self.old.passed + points))) }
+        ensures left { OnOk result (keeps (answer_within self.old.begun (self.old.passed + points)) self.new.left) }
+        ensures begun { self.new.begun ≡ self.old.begun }
+        ensures passed { self.old.passed ≤ self.new.passed }
+        ensures within { self.new.passed ≤ self.old.passed + points }
+        ensures running { IfOk result (λ o. RunsFor o self.new.passed (self.old.passed + points)) }
     {
         self.machine.meter.allow(points);
         self.machine.run(alloc)?;
-        self.outcome(alloc)
+        outcome(alloc, self.checked, self.declared.as_slice(), &self.machine)
     }
 
     #[tactic(auto, using(crate::proofs::Runs::runs))]
-    /// Begins a new run from the file-scope contents that the last one left. After want of memory the run stands as before.
+    /// Begins a new run from the file-scope contents that are there: after `Ended`, those that the last run left. After want of memory the run stands as before.
     pub fn again(&mut self, alloc: Global, inputs: &Inputs) -> Result<(), AllocError>
-        requires { IsSoundRun (standing_of self.old) }
-        ensures run { OnOk result (IsRunOf (standing_of self.new) (left_contents (standing_of self.old)) inputs.now.scalars inputs.now.arrays) }
-        ensures passed { OnOk result (passed (standing_of self.new) ≡ 0) }
-        ensures program { (standing_of self.new).program ≡ (standing_of self.old).program }
-        ensures top { (standing_of self.new).top ≡ (standing_of self.old).top }
-        ensures sound { IsSoundRun (standing_of self.new) }
-        ensures unchanged { OnErr result (standing_of self.new ≡ standing_of self.old) }
+        ensures begun { OnOk result (self.new.begun ≡ record self.old.begun { kept = self.old.left; scalars = inputs.now.scalars; arrays = inputs.now.arrays }) }
+        ensures passed { OnOk result (self.new.passed ≡ 0) }
+        ensures unchanged { OnErr result (self.new ≡ self.old) }
     {
         let kept = contents(
             alloc,
             self.declared.as_slice(),
             self.machine.objects.as_slice(),
         )?;
-        self.machine = begin(alloc, self.checked, self.declared.as_slice(), &kept, inputs)?;
+        let inputs = copied(alloc, inputs)?;
+        let machine = begin(
+            alloc,
+            self.checked,
+            self.declared.as_slice(),
+            &kept,
+            &inputs,
+        )?;
+        self.kept = kept;
+        self.inputs = inputs;
+        self.machine = machine;
         Ok(())
     }
 }

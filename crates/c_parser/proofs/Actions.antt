@@ -1,5 +1,5 @@
 -- Actions, from expressions.
-use Rattle.std.proofs.Common.{◌≡◌, ◌∙◌, ℕ, suc, ◌<◌, sym, refl, ap, subst, Bool, true, false, List, [], ◌∷◌, ◌++◌, Option, Some, None, append_assoc, arith}
+use Rattle.std.proofs.Common.{◌≡◌, ◌∙◌, ℕ, ◌<◌, sym, refl, ap, subst, Bool, true, false, List, [], ◌∷◌, ◌++◌, Option, Some, None, append_assoc, arith}
 use Rattle.hls_base.specs.declared.place.Place.{Place}
 use Rattle.c_token.specs.declared.punct.Punct.{Punct}
 use Rattle.c_token.specs.declared.punct.Punct.TheVariants as p
@@ -7,7 +7,7 @@ use Rattle.c_token.specs.declared.token.TokenKind.{TokenKind}
 use Rattle.c_token.specs.declared.token.TokenKind.TheVariants as k
 use Rattle.c_tree.specs.Tree as tree
 use Rattle.c_tree.specs.Tree.{Tree, TargetTree, ActionTree}
-use Rattle.c_tree.specs.Terminals.{Terminal, sign, word, assignment_of, bump_of}
+use Rattle.c_tree.specs.Terminals.{Terminal, sign}
 use Rattle.c_tree.specs.Grammar.{Derives, DerivesTarget, DerivesChange, DerivesAction, DerivesActionList, DerivesActions}
 use Rattle.c_tree.specs.Grammar as g
 use Rattle.c_parser.specs.Readings.{Reads, Found, Never, Anywhere, Ends, Sequence, Closed, Sign, Lacks, Listed, joins, is_paren, opens_paren}

@@ -1,25 +1,22 @@
 -- What an expression begins with, and what is a target.
-use Rattle.std.proofs.Common.{◌≡◌, ◌∙◌, ℕ, suc, ◌<◌, sym, refl, ap, subst, Bool, true, false, ◌||◌, List, [], ◌∷◌, ◌++◌, Option, Some, None, append_assoc, codes, arith}
-use Rattle.std.specs.Prelude.{not, is_some, bytes_eq, if◌then◌else◌, ◌&&◌}
+use Rattle.std.proofs.Common.{◌≡◌, ◌∙◌, ℕ, sym, refl, ap, subst, Bool, true, false, ◌||◌, List, [], ◌∷◌, ◌++◌, Option, Some, None, append_assoc, codes}
+use Rattle.std.specs.Prelude.{not, is_some, bytes_eq}
 use Rattle.std.proofs.lemmas.Slice.Eq.{bytes_eq-Decides}
 use Rattle.hls_base.specs.declared.place.Place.{Place}
 use Rattle.c_token.specs.declared.punct.Punct.{Punct}
 use Rattle.c_token.specs.declared.punct.Punct.TheVariants as p
 use Rattle.c_token.specs.declared.token.TokenKind.{TokenKind}
 use Rattle.c_token.specs.declared.token.TokenKind.TheVariants as k
-use Rattle.c_token.specs.Replacement.{find_word}
 use Rattle.c_tree.specs.declared.specifier.Specifier.{Specifier}
 use Rattle.c_tree.specs.Tree as tree
 use Rattle.c_tree.specs.Tree.{Tree, TargetTree, Trees, row}
-use Rattle.c_tree.specs.Terminals.{Terminal, terminal, sign, word, is_keyword, prefix_of, bump_of}
-use Rattle.c_tree.specs.Kinds.{specifier_of, specifier_words}
+use Rattle.c_tree.specs.Terminals.{Terminal, sign, word, is_keyword, prefix_of, bump_of}
+use Rattle.c_tree.specs.Kinds.{specifier_of}
 use Rattle.c_tree.specs.Grammar.{Derives, DerivesTarget, DerivesList}
 use Rattle.c_tree.specs.Grammar as g
-use Rattle.c_parser.specs.Readings.{Reads, Closed, is_paren, opens_paren, Lacks}
-use Rattle.c_parser.specs.declared.types.Kind.{Kind}
-use Rattle.c_parser.specs.declared.types.KindWord.{KindWord}
-use Rattle.c_parser.specs.Types.{SomeKind, AValueKind, kind_word_of, kind_word_of_text, specifier_word, starts_kind}
-use Rattle.c_parser.specs.Expressions.{Expression, Lvalue, Named, bare_target, target_in}
+use Rattle.c_parser.specs.Readings.{is_paren, opens_paren}
+use Rattle.c_parser.specs.Types.{kind_word_of, kind_word_of_text, specifier_word, starts_kind}
+use Rattle.c_parser.specs.Expressions.{Expression, Lvalue, bare_target, target_in}
 use Rattle.c_parser.proofs.ExpressionForms.{Primary, is_number, is_named, is_group, primary_form, Postfix, bumped, plain, postfix_form}
 
 -- ---- the first token of an operand

@@ -1,5 +1,5 @@
--- Operators of one level, from left to right.
-use Rattle.std.proofs.Common.{◌≡◌, ◌≢◌, ℕ, suc, ◌-◌, ◌<◌, ◌∙◌, sym, refl, ap, subst, List, [], ◌∷◌, ◌++◌, length, Option, Some, None, append_assoc, length-append, arith}
+-- Operators of one level, from left to right, and assignments, from right to left.
+use Rattle.std.proofs.Common.{◌≡◌, ◌≢◌, ℕ, suc, ◌-◌, ◌<◌, ◌∙◌, sym, refl, ap, subst, List, [], ◌∷◌, ◌++◌, Option, Some, None, append_assoc, arith}
 use Rattle.hls_base.specs.declared.place.Place.{Place}
 use Rattle.c_token.specs.declared.punct.Punct.{Punct}
 use Rattle.c_token.specs.declared.punct.Punct.TheVariants as p
@@ -9,12 +9,14 @@ use Rattle.c_tree.specs.Tree.{Tree}
 use Rattle.c_tree.specs.Terminals.{Terminal, sign, operator_of}
 use Rattle.c_tree.specs.Grammar.{level_of, Derives}
 use Rattle.c_tree.specs.Grammar as g
-use Rattle.c_parser.specs.Readings.{Reads, Found, Never, Ends, joins}
+use Rattle.c_parser.specs.Readings.{Found, Never, Ends, joins}
 use Rattle.c_parser.specs.Expressions.{Expression, joiner_of, joiner_or, comma_joiner, joiner_level, joined}
+use Rattle.c_parser.specs.Chains.{assigned, all_assigned}
+use Rattle.c_parser.specs.declared.chain.Assigned.{Assigned}
 use Rattle.c_parser.specs.declared.joiner.Joiner.{Joiner}
 use Rattle.c_parser.specs.declared.joiner.Joiner.TheVariants as j
 use Rattle.c_parser.proofs.Readings.{signs}
-use Rattle.c_parser.proofs.Levels.{joiner-level, ends_at, ends_level, Ends-tighter}
+use Rattle.c_parser.proofs.Levels.{joiner-level}
 
 -- the operators of one level behind a first operand, up to the rest
 pub data Chain (n : ℕ) (whole : Tree) (rest : List Terminal) : Tree → List Terminal → Type 0 where
@@ -221,3 +223,9 @@ chain_never n start here inside left punct q at h = runs_never n (n - 1) (level_
 
 pub chain_last : (n : ℕ) (start here new : List Terminal) (left : Tree) → Groups n → new ≡ here → Runs n start left here → ((punct : Punct) (at : Place) (rest : List Terminal) (q : Joiner) → here ≡ sign punct at ∷ rest → joiner_of punct ≡ Some q → joiner_level q ≡ n → ⊥) → Found (Expression n) (Ends n) start left new
 chain_last n start here new left h is r stops = subst (λ y. Found (Expression n) (Ends n) start left y) (sym is) (runs_last n (n - 1) (level_is n h) h start here left r stops)
+
+-- ---- a chain of assignments
+
+pub assigned_last : (chain : List Assigned) (a : Assigned) (value : Tree) → all_assigned (chain ++ a ∷ []) value ≡ all_assigned chain (assigned a value)
+assigned_last [] a value = refl
+assigned_last (first ∷ chain) a value = ap (assigned first) (assigned_last chain a value)

@@ -1,9 +1,8 @@
 -- Objects and declarations.
-use Rattle.std.proofs.Common.{◌≡◌, ◌∙◌, ℕ, ◌<◌, sym, refl, ap, subst, Bool, true, false, List, [], ◌∷◌, ◌++◌, Option, Some, None, append_assoc, arith}
-use Rattle.std.specs.Prelude.{is_some, not}
+use Rattle.std.proofs.Common.{◌≡◌, ◌∙◌, ℕ, sym, refl, ap, subst, Bool, true, false, List, [], ◌∷◌, ◌++◌, Option, append_assoc, arith}
+use Rattle.std.specs.Prelude.{is_some}
 use Rattle.hls_base.specs.declared.place.Place.{Place}
 use Rattle.c_token.specs.declared.ctype.CType.{CType}
-use Rattle.c_token.specs.declared.punct.Punct.{Punct}
 use Rattle.c_token.specs.declared.punct.Punct.TheVariants as p
 use Rattle.c_tree.specs.Tree.{Tree, InitTree, ObjectTree}
 use Rattle.c_tree.specs.Terminals.{Terminal, sign, word, is_keyword}
@@ -13,8 +12,8 @@ use Rattle.c_parser.specs.Readings.{Reads, Found, Never, Anywhere, Ends, Sequenc
 use Rattle.c_parser.specs.Readings as r
 use Rattle.c_parser.specs.declared.types.ValueKind.{ValueKind}
 use Rattle.c_parser.specs.Types.{AValueKind, KindEnds, kind_word_of_text, starts_kind}
-use Rattle.c_parser.specs.Objects.{Name, Lengths, AnInitialiser, AnObject, DerivesObjectOf, ADeclaration}
-use Rattle.c_parser.proofs.Readings.{words, Step, step_never}
+use Rattle.c_parser.specs.Objects.{Name, Lengths, AnInitialiser, AnObject, ADeclaration}
+use Rattle.c_parser.proofs.Readings.{words, Step}
 use Rattle.c_parser.proofs.ExpressionForms.{Opened}
 use Rattle.c_parser.proofs.TypeWords.{value_starts}
 use Rattle.c_parser.proofs.Beginnings.{kind_text_keyword}

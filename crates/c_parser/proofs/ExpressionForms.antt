@@ -1,21 +1,18 @@
 -- What an expression of each level is, and what it begins with.
-use Rattle.std.proofs.Common.{◌≡◌, ◌∙◌, ℕ, suc, ◌<◌, sym, refl, ap, subst, Bool, true, false, ◌||◌, List, [], ◌∷◌, ◌++◌, Option, Some, None, append_assoc, arith}
-use Rattle.std.specs.Prelude.{not, is_some}
+use Rattle.std.proofs.Common.{◌≡◌, ◌∙◌, ℕ, suc, sym, refl, ap, subst, Bool, true, false, List, [], ◌∷◌, ◌++◌, Option, Some, append_assoc, arith}
 use Rattle.hls_base.specs.declared.place.Place.{Place}
 use Rattle.c_token.specs.declared.ctype.CType.{CType}
 use Rattle.c_token.specs.declared.punct.Punct.{Punct}
 use Rattle.c_token.specs.declared.punct.Punct.TheVariants as p
-use Rattle.c_token.specs.declared.token.TokenKind.{TokenKind}
 use Rattle.c_token.specs.declared.token.TokenKind.TheVariants as k
 use Rattle.c_tree.specs.declared.operator.Unary.{Unary}
 use Rattle.c_tree.specs.declared.operator.Binary.{Binary}
 use Rattle.c_tree.specs.Tree as tree
 use Rattle.c_tree.specs.Tree.{Tree, TargetTree, Trees, row}
-use Rattle.c_tree.specs.Terminals.{Terminal, terminal, sign, word, is_keyword, prefix_of, operator_of, assignment_of, bump_of}
+use Rattle.c_tree.specs.Terminals.{Terminal, terminal, sign, word, is_keyword, prefix_of, assignment_of, bump_of}
 use Rattle.c_tree.specs.Grammar.{level_of, Derives, DerivesTarget, DerivesSubscripts, DerivesArguments, DerivesList}
 use Rattle.c_tree.specs.Grammar as g
-use Rattle.c_parser.specs.Readings.{Reads, Sequence, Closed, Sign, fst, is_paren, opens_paren}
-use Rattle.c_parser.specs.Types.{AValueKind}
+use Rattle.c_parser.specs.Readings.{Reads, Closed}
 use Rattle.c_parser.specs.Expressions.{Expression, Lvalue, Subscripts, Arguments, Named, Chosen, Cast, element, bare_target, target_in}
 use Rattle.c_parser.specs.Expressions as x
 use Rattle.c_parser.proofs.Levels.{level-long, level-short}

@@ -1,27 +1,23 @@
 -- Parameters, functions and items.
-use Rattle.std.proofs.Common.{◌≡◌, ◌∙◌, ℕ, ◌<◌, ◌⊎◌, inl, inr, sym, refl, ap, subst, Bool, true, false, List, [], ◌∷◌, ◌++◌, codes, Option, Some, None, append_assoc, append-nil, arith, length, map}
+use Rattle.std.proofs.Common.{◌≡◌, ◌∙◌, ℕ, ◌<◌, ◌⊎◌, inl, inr, sym, refl, ap, subst, Bool, true, false, List, [], ◌∷◌, ◌++◌, codes, Option, Some, None, append_assoc, arith, length, map}
 use Rattle.std.specs.Prelude.{bytes_eq, MatchBool}
 use Rattle.std.specs.Option.{option_map}
 use Rattle.hls_base.specs.declared.place.Place.{Place}
 use Rattle.c_token.specs.declared.ctype.CType.{CType}
-use Rattle.c_token.specs.declared.punct.Punct.{Punct}
 use Rattle.c_token.specs.declared.punct.Punct.TheVariants as p
 use Rattle.c_token.specs.declared.token.TokenKind.{TokenKind}
 use Rattle.c_token.specs.declared.token.TokenKind.TheVariants as k
-use Rattle.c_tree.specs.declared.specifier.Specifier.{Specifier}
-use Rattle.c_tree.specs.declared.specifier.Specifier.TheVariants as t
 use Rattle.c_tree.specs.Tree as tree
 use Rattle.c_tree.specs.Tree.{Tree, ObjectTree, StmtTree, StmtTrees, stmt_row, ParamTree, FunctionTree, ItemTree, ProgramTree}
-use Rattle.c_tree.specs.Terminals.{Terminal, sign, word, is_keyword}
-use Rattle.c_tree.specs.Kinds.{type_of_words, DerivesKind}
+use Rattle.c_tree.specs.Terminals.{Terminal, sign, word}
+use Rattle.c_tree.specs.Kinds.{DerivesKind}
 use Rattle.c_tree.specs.Grammar.{DerivesLengths, DerivesParam, DerivesParamList, DerivesParams, DerivesDefinition, DerivesItem, DerivesItems, DerivesProgram}
 use Rattle.c_tree.specs.Grammar as g
 use Rattle.c_parser.specs.Readings.{Reads, Found, Never, Anywhere, Sequence, Closed, Sign, Word, Lacks, LacksWord, Listed, Repeated, joins, opens_paren, snd}
 use Rattle.c_parser.specs.Readings as r
 use Rattle.c_parser.specs.declared.types.Kind.{Kind}
 use Rattle.c_parser.specs.declared.types.ValueKind.{ValueKind}
-use Rattle.c_parser.specs.declared.types.KindWord.TheVariants as w
-use Rattle.c_parser.specs.Types.{SomeKind, AValueKind, KindEnds, starts_kind, type_among, specifiers, names}
+use Rattle.c_parser.specs.Types.{SomeKind, AValueKind, KindEnds, starts_kind}
 use Rattle.c_parser.specs.Objects.{Name, Lengths, AnObject, separates, Separated}
 use Rattle.c_parser.specs.Statements.{Block}
 use Rattle.c_parser.specs.Functions.{AParam, Params, ADefinition, function_with, AFunction, ParamBehind, named, unnamed, AnItem, ItemBehind, some_objects, a_function, opens_call, AtEnd, Items, body_trees}
@@ -32,11 +28,10 @@ use Rattle.c_tree.specs.declared.function.Function.{Function}
 use Rattle.c_tree.specs.View.{param_of, body_of, function_of}
 use Rattle.c_parser.proofs.Readings.{heads, signs, words, sign_no_word, Step, repeated_last}
 use Rattle.c_parser.proofs.ExpressionForms.{shut, Opened, unshut}
-use Rattle.c_parser.proofs.TypeWords.{kind_spelled, KindSpelled, void_first, kind_starts, value_starts}
+use Rattle.c_parser.proofs.TypeWords.{void_first, kind_starts, value_starts}
 use Rattle.c_parser.proofs.Actions.{separated_ends}
-use Rattle.c_parser.proofs.Declarations.{name_no_kind, objects_of_listed, listed_of_objects, object_form, DerivesObjectsOf, ObjectForm}
+use Rattle.c_parser.proofs.Declarations.{name_no_kind, objects_of_listed, listed_of_objects, object_form}
 use Rattle.c_parser.proofs.StatementForms.{unrow_stmts, row-unrow_stmts}
-use Rattle.c_parser.proofs.Optionals.{LengthSigns}
 
 -- ---- a parameter
 

@@ -1,14 +1,13 @@
 -- Initialisers, one by one and in braces.
-use Rattle.std.proofs.Common.{◌≡◌, ◌∙◌, ℕ, ◌<◌, sym, refl, ap, subst, Bool, true, false, ◌||◌, List, [], ◌∷◌, ◌++◌, Option, Some, None, append_assoc, append-nil, arith}
+use Rattle.std.proofs.Common.{◌≡◌, ◌∙◌, ◌<◌, sym, refl, ap, subst, Bool, true, false, List, [], ◌∷◌, ◌++◌, Option, Some, None, append_assoc, arith}
 use Rattle.hls_base.specs.declared.place.Place.{Place}
-use Rattle.c_token.specs.declared.punct.Punct.{Punct}
 use Rattle.c_token.specs.declared.punct.Punct.TheVariants as p
 use Rattle.c_tree.specs.Tree as tree
 use Rattle.c_tree.specs.Tree.{Tree, InitTree, InitTrees, init_row}
 use Rattle.c_tree.specs.Terminals.{Terminal, sign}
 use Rattle.c_tree.specs.Grammar.{Derives, DerivesInit, DerivesInits, DerivesInitialiser}
 use Rattle.c_tree.specs.Grammar as g
-use Rattle.c_parser.specs.Readings.{Reads, Found, Never, Anywhere, Ends, Sequence, Closed, Sign, Lacks, joins}
+use Rattle.c_parser.specs.Readings.{Found, Never, Anywhere, Ends, Lacks, joins}
 use Rattle.c_parser.specs.Expressions.{Expression}
 use Rattle.c_parser.specs.Objects.{AnInit, InitItems, DerivesInitRow, AnInitialiser, Separator}
 use Rattle.c_parser.specs.Objects as o

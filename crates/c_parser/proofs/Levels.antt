@@ -1,5 +1,5 @@
 -- How far an expression goes, by the sign behind it.
-use Rattle.std.proofs.Common.{◌≡◌, ◌∙◌, ℕ, ◌<◌, ◌≤◌, sym, refl, ap, subst, Bool, true, false, List, [], ◌∷◌, ◌++◌, Option, Some, None, arith}
+use Rattle.std.proofs.Common.{◌≡◌, ◌∙◌, ℕ, ◌<◌, ◌≤◌, sym, refl, ap, Bool, false, List, ◌∷◌, Option, Some, None, arith}
 use Rattle.std.specs.Option.{option_map}
 use Rattle.hls_base.specs.declared.place.Place.{Place}
 use Rattle.c_token.specs.declared.punct.Punct.{Punct}
@@ -10,7 +10,7 @@ use Rattle.c_tree.specs.declared.operator.Binary.{Binary}
 use Rattle.c_tree.specs.declared.operator.Binary.TheVariants as b
 use Rattle.c_tree.specs.Terminals.{Terminal, sign, prefix_of, operator_of, assignment_of, bump_of}
 use Rattle.c_tree.specs.Grammar.{level_of}
-use Rattle.c_parser.specs.Readings.{or_level, other_level, sign_level, joins, Ends, Sign, is_paren}
+use Rattle.c_parser.specs.Readings.{or_level, other_level, sign_level, joins, is_paren}
 use Rattle.c_parser.specs.Expressions.{joiner_of, joiner_or, comma_joiner, joiner_level}
 use Rattle.c_parser.specs.declared.joiner.Joiner.{Joiner}
 use Rattle.c_parser.specs.declared.joiner.Joiner.TheVariants as j

@@ -1,5 +1,5 @@
 -- An expression that may be left out, and the lengths of arrays.
-use Rattle.std.proofs.Common.{◌≡◌, ◌∙◌, ℕ, ◌<◌, sym, refl, ap, subst, Bool, true, false, List, [], ◌∷◌, ◌++◌, Option, Some, None, append_assoc, arith}
+use Rattle.std.proofs.Common.{◌≡◌, ◌∙◌, ℕ, ◌<◌, sym, refl, ap, subst, true, false, List, [], ◌∷◌, ◌++◌, Option, Some, None, append_assoc, arith}
 use Rattle.hls_base.specs.declared.place.Place.{Place}
 use Rattle.c_token.specs.declared.punct.Punct.{Punct}
 use Rattle.c_token.specs.declared.punct.Punct.TheVariants as p
@@ -12,7 +12,7 @@ use Rattle.c_parser.specs.Readings as r
 use Rattle.c_parser.specs.Expressions.{Expression}
 use Rattle.c_parser.specs.Objects.{OptionalExpression, closes_optional, Lengths}
 use Rattle.c_parser.proofs.Readings.{signs, Step, repeated_last}
-use Rattle.c_parser.proofs.ExpressionForms.{shut, Opened, unshut}
+use Rattle.c_parser.proofs.ExpressionForms.{unshut}
 use Rattle.c_parser.proofs.Beginnings.{expression_sign, starts_expression, expression_starts}
 use Rattle.c_parser.proofs.Subscripts.{NoBracket}
 

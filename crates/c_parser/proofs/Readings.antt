@@ -1,11 +1,10 @@
 -- How readings of parts make a reading of the whole.
-use Rattle.std.proofs.Common.{◌≡◌, ℕ, ◌<◌, ◌∙◌, sym, refl, ap, subst, List, [], ◌∷◌, ◌++◌, length, Option, Some, None, append_assoc, append-nil, arith, map, Result, Ok, Err}
+use Rattle.std.proofs.Common.{◌≡◌, ℕ, ◌<◌, ◌∙◌, sym, refl, ap, subst, List, [], ◌∷◌, ◌++◌, append_assoc, arith, map, Result, Ok, Err}
 use Rattle.hls_base.specs.declared.place.Place.{Place}
 use Rattle.c_token.specs.declared.punct.Punct.{Punct}
 use Rattle.c_token.specs.declared.punct.Punct.TheVariants as p
-use Rattle.c_token.specs.declared.token.TokenKind.{TokenKind}
 use Rattle.c_token.specs.declared.token.TokenKind.TheVariants as k
-use Rattle.c_tree.specs.Terminals.{Terminal, terminal, sign, word}
+use Rattle.c_tree.specs.Terminals.{Terminal, sign, word}
 use Rattle.c_parser.specs.Readings.{Reads, Found, Never, Anywhere, Sign, Word, Sequence, fst, Closed, Listed, Repeated, Lacks, Ends, sign_level, joins}
 use Rattle.c_parser.specs.Readings as r
 use Rattle.c_parser.specs.declared.stop.Stop.{Stop}
@@ -43,6 +42,23 @@ step_found {R = R} {E} {f = f} tokens here rest b a is s q = subst (λ x. Found 
 
 pub step_never : {A B : Type 0} {R : List Terminal → A → List Terminal → Type 0} {E : A → List Terminal → Type 0} {S : List Terminal → B → List Terminal → Type 0} {F : B → List Terminal → Type 0} {f : B → A} (tokens here : List Terminal) → Step R E tokens S F here f → Never S F here → Never R E tokens
 step_never tokens here s q = record { none = λ others x end e r ends. let i = s.into others x end e r ends in q.none here i.0 end refl i.2 i.3 }
+
+-- nothing is read yet
+pub step_none : {A : Type 0} {R : List Terminal → A → List Terminal → Type 0} {E : A → List Terminal → Type 0} {f : A → A} (tokens here : List Terminal) → here ≡ tokens → ((a : A) → f a ≡ a) → Step R E tokens R E here f
+step_none {R = R} tokens here same is = record {
+  into = λ others a end e r ends. (a, sym (is a), subst (λ x. R x a end) (e ∙ sym same) r, ends);
+  back = λ a end r. subst (λ x. R tokens x end) (sym (is a)) (subst (λ x. R x a end) same r);
+}
+
+-- one step, and then another
+pub step_more : {A B C : Type 0} {R : List Terminal → A → List Terminal → Type 0} {E : A → List Terminal → Type 0} {S : List Terminal → B → List Terminal → Type 0} {F : B → List Terminal → Type 0} {T : List Terminal → C → List Terminal → Type 0} {G : C → List Terminal → Type 0} {f : B → A} {g : C → B} {h : C → A} (tokens here next : List Terminal) → ((c : C) → h c ≡ f (g c)) → Step R E tokens S F here f → Step S F here T G next g → Step R E tokens T G next h
+step_more {R = R} {f = f} {g} tokens here next is s u = record {
+  into = λ others a end e r ends.
+      let i = s.into others a end e r ends in
+      let j = u.into here i.0 end refl i.2 i.3 in
+      (j.0, i.1 ∙ ap f j.1 ∙ sym (is j.0), j.2, j.3);
+  back = λ c end t. subst (λ x. R tokens x end) (sym (is c)) (s.back (g c) end (u.back c end t));
+}
 
 -- ---- signs
 

@@ -1,9 +1,8 @@
 -- What a statement is, by its keyword or its first sign.
-use Rattle.std.proofs.Common.{◌≡◌, ◌∙◌, ℕ, ◌<◌, sym, refl, ap, subst, Bool, true, false, List, [], ◌∷◌, ◌++◌, codes, Option, Some, None, append_assoc, arith}
+use Rattle.std.proofs.Common.{◌≡◌, ◌∙◌, ℕ, sym, refl, ap, subst, Bool, true, false, List, [], ◌∷◌, ◌++◌, codes, Some, None, append_assoc}
 use Rattle.std.specs.Prelude.{is_some, not, bytes_eq}
 use Rattle.std.proofs.lemmas.Slice.Eq.{bytes_eq-Decides}
 use Rattle.hls_base.specs.declared.place.Place.{Place}
-use Rattle.c_token.specs.declared.punct.Punct.{Punct}
 use Rattle.c_token.specs.declared.punct.Punct.TheVariants as p
 use Rattle.c_token.specs.declared.token.TokenKind.{TokenKind}
 use Rattle.c_token.specs.declared.token.TokenKind.TheVariants as k
@@ -15,18 +14,17 @@ use Rattle.c_tree.specs.Grammar as g
 use Rattle.c_parser.specs.Readings.{Reads, Found, Never, Anywhere, Ends, Sequence, Closed, Sign, Word, Lacks, LacksWord, Listed, Repeated}
 use Rattle.c_parser.specs.Readings as r
 use Rattle.c_parser.specs.Types.{starts_kind, kind_word_of_text}
-use Rattle.c_parser.specs.Expressions.{Expression}
-use Rattle.c_parser.specs.Objects.{OptionalExpression, ADeclaration, AnAction, ActionsUpTo}
-use Rattle.c_parser.specs.Keywords.{keyword_text, keyword_of, lead}
+use Rattle.c_parser.specs.Objects.{ActionsUpTo}
+use Rattle.c_parser.specs.Keywords.{keyword_text, keyword_of}
 use Rattle.c_parser.specs.declared.keyword.Keyword.{Keyword}
 use Rattle.c_parser.specs.declared.keyword.Keyword.TheVariants as w
 use Rattle.c_parser.specs.Statements.{Statement, begins_else, ElseFits, DerivesBlockRow, Block, Local, ClosesBlock, BodyUpTo, First, Condition, Branches, DoTail, Behind}
 use Rattle.c_parser.specs.Statements as s
-use Rattle.c_parser.proofs.Readings.{signs, words, sign_no_word}
-use Rattle.c_parser.proofs.ExpressionForms.{shut, Opened, unshut}
+use Rattle.c_parser.proofs.Readings.{signs, sign_no_word}
+use Rattle.c_parser.proofs.ExpressionForms.{shut, unshut}
 use Rattle.c_parser.proofs.Beginnings.{starts_expression, kind_no_expression}
 use Rattle.c_parser.proofs.Declarations.{declaration_starts}
-use Rattle.c_parser.proofs.Actions.{ActionsForm, no_actions, some_actions, actions_form, listed_starts, listed_of_opened, list_of_listed, actions_back}
+use Rattle.c_parser.proofs.Actions.{ActionsForm, no_actions, some_actions, actions_form, listed_starts}
 
 abbrev pub unrow_stmts : StmtTrees → List StmtTree
 unrow_stmts tree.no_stmt = []

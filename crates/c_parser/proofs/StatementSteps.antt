@@ -1,7 +1,6 @@
 -- What the parser finds of a statement, part by part.
-use Rattle.std.proofs.Common.{◌≡◌, ◌∙◌, ℕ, sym, refl, ap, subst, Bool, true, false, List, [], ◌∷◌, ◌++◌, codes, Option, Some, None, Result, append_assoc}
+use Rattle.std.proofs.Common.{◌≡◌, ◌∙◌, ℕ, sym, refl, ap, subst, true, false, List, [], ◌∷◌, ◌++◌, codes, Some, None, Result}
 use Rattle.hls_base.specs.declared.place.Place.{Place}
-use Rattle.c_token.specs.declared.punct.Punct.{Punct}
 use Rattle.c_token.specs.declared.punct.Punct.TheVariants as p
 use Rattle.std.specs.Prelude.{bytes_eq, IfOk}
 use Rattle.c_tree.specs.declared.statement.Stmt.{Stmt}
@@ -16,7 +15,7 @@ use Rattle.c_tree.specs.Tree.{Tree, ActionTree, ObjectTree, StmtTree, FirstTree,
 use Rattle.c_tree.specs.Terminals.{Terminal, sign, word}
 use Rattle.c_tree.specs.Grammar.{DerivesFirst, ends_open}
 use Rattle.c_tree.specs.Grammar as g
-use Rattle.c_parser.specs.Readings.{Reads, Found, Never, Anywhere, Sequence, Closed, Sign, Word, Lacks, LacksWord, Listed, snd}
+use Rattle.c_parser.specs.Readings.{Found, Never, Anywhere, Sequence, Closed, Sign, Lacks, LacksWord, Listed, snd}
 use Rattle.c_parser.specs.Types.{starts_kind}
 use Rattle.c_parser.specs.Objects.{OptionalExpression, ADeclaration, AnAction, ActionsUpTo}
 use Rattle.c_parser.specs.Keywords.{keyword_text, keyword_of, lead}
@@ -24,11 +23,10 @@ use Rattle.c_parser.specs.declared.keyword.Keyword.{Keyword}
 use Rattle.c_parser.specs.Statements.{Statement, begins_else, ElseFits, Block, Local, ClosesBlock, BodyUpTo, First, Branches, DoTail, Ended, Returned, Behind}
 use Rattle.c_parser.specs.Statements as s
 use Rattle.c_parser.proofs.Readings.{signs, words, sign_no_word, Step, repeated_last}
-use Rattle.c_parser.proofs.ExpressionForms.{Opened, unshut}
 use Rattle.c_parser.proofs.Declarations.{declaration_starts}
 use Rattle.c_parser.proofs.Beginnings.{starts_expression, kind_no_expression}
 use Rattle.c_parser.proofs.Actions.{ActionsForm, no_actions, some_actions, actions_form, listed_starts, list_of_listed, listed_of_opened}
-use Rattle.c_parser.proofs.StatementForms.{StatementForm, by_keyword, is_block, is_act, statement_form, keyword_text_of, keyword_back, block_statement, act_statement, keyword_leads, keyword_of_keyword, act_no_word, brace_no_act, statement_no_kind, Braced, block_form, block_back}
+use Rattle.c_parser.proofs.StatementForms.{StatementForm, by_keyword, is_block, is_act, statement_form, keyword_text_of, keyword_back, block_statement, act_statement, keyword_leads, keyword_of_keyword, act_no_word, brace_no_act, statement_no_kind, block_form, block_back}
 
 -- ---- where anything may follow
 

@@ -1,5 +1,5 @@
 -- Lists of expressions: arguments and subscripts.
-use Rattle.std.proofs.Common.{◌≡◌, ◌∙◌, ℕ, ◌<◌, sym, refl, ap, subst, Bool, true, false, ◌||◌, List, [], ◌∷◌, ◌++◌, Option, Some, None, append_assoc, arith}
+use Rattle.std.proofs.Common.{◌≡◌, ◌∙◌, ◌<◌, sym, refl, ap, subst, true, false, List, [], ◌∷◌, ◌++◌, append_assoc, arith}
 use Rattle.hls_base.specs.declared.place.Place.{Place}
 use Rattle.c_token.specs.declared.punct.Punct.{Punct}
 use Rattle.c_token.specs.declared.punct.Punct.TheVariants as p
@@ -10,11 +10,10 @@ use Rattle.c_tree.specs.Grammar.{Derives, DerivesSubscripts, DerivesArguments, D
 use Rattle.c_tree.specs.Grammar as g
 use Rattle.c_parser.specs.Readings.{Reads, Found, Never, Anywhere, Ends, Sequence, Closed, Sign, Lacks, Listed, Repeated, joins, snd}
 use Rattle.c_parser.specs.Readings as r
-use Rattle.c_parser.specs.Expressions.{Expression, Subscripts, Arguments, DerivesSubscriptList, DerivesArgumentList}
-use Rattle.c_parser.proofs.Readings.{signs, Step, step_found, step_never, sign_found, then_found, then_never, then_stuck, repeated_last}
-use Rattle.c_parser.proofs.ExpressionForms.{unrow, row-unrow, shut, Opened, unshut}
+use Rattle.c_parser.specs.Expressions.{Expression, Subscripts, Arguments, DerivesArgumentList}
+use Rattle.c_parser.proofs.Readings.{signs, Step, repeated_last}
+use Rattle.c_parser.proofs.ExpressionForms.{unrow, shut, Opened, unshut}
 use Rattle.c_parser.proofs.Beginnings.{starts_expression, expression_starts}
-use Rattle.c_parser.proofs.Operands.{subscripts_bare}
 
 -- ---- arguments
 

@@ -1,10 +1,9 @@
 -- Types, from the words that come next.
 use Rattle.std.proofs.Common.{◌≡◌, ◌∙◌, ℕ, sym, refl, ap, subst, Bool, true, false, ◌||◌, List, [], ◌∷◌, ◌++◌, codes, Option, Some, None, append_assoc}
-use Rattle.std.specs.Prelude.{is_some, bytes_eq, if◌then◌else◌}
+use Rattle.std.specs.Prelude.{is_some, bytes_eq}
 use Rattle.std.proofs.lemmas.Slice.Eq.{bytes_eq-Decides}
 use Rattle.hls_base.specs.declared.place.Place.{Place}
 use Rattle.c_token.specs.declared.ctype.CType.{CType}
-use Rattle.c_token.specs.declared.punct.Punct.{Punct}
 use Rattle.c_token.specs.declared.token.TokenKind.{TokenKind}
 use Rattle.c_token.specs.declared.token.TokenKind.TheVariants as k
 use Rattle.c_tree.specs.declared.specifier.Specifier.{Specifier}
@@ -19,7 +18,7 @@ use Rattle.c_parser.specs.declared.types.Kind.{Kind}
 use Rattle.c_parser.specs.declared.types.ValueKind.{ValueKind}
 use Rattle.c_parser.specs.declared.types.KindWord.{KindWord}
 use Rattle.c_parser.specs.declared.types.KindWord.TheVariants as w
-use Rattle.c_parser.specs.Types.{specifier_word, kind_word_of_text, kind_word_of, starts_kind, KindEnds, KindSign, NoKindWord, KindWords, specifiers, names, has_const, type_among, DerivesSomeKind, SomeKind, DerivesValueKind, AValueKind}
+use Rattle.c_parser.specs.Types.{specifier_word, kind_word_of_text, kind_word_of, starts_kind, KindEnds, KindSign, NoKindWord, KindWords, specifiers, names, has_const, type_among, SomeKind, AValueKind}
 use Rattle.c_parser.proofs.Readings.{repeated_last}
 
 -- ---- tokens and their words

@@ -1,11 +1,11 @@
 -- Lists of the words of types.
-use Rattle.std.proofs.Common.{◌≡◌, ◌∙◌, ℕ, sym, refl, ap, Bool, true, false, ◌&&◌, List, [], ◌∷◌, ◌++◌, Option, Some, None, append_assoc}
+use Rattle.std.proofs.Common.{◌≡◌, sym, refl, ap, true, false, ◌&&◌, List, [], ◌∷◌, ◌++◌, Option, Some, None, append_assoc}
 use Rattle.c_token.specs.declared.punct.Punct.{Punct}
 use Rattle.c_token.specs.declared.punct.Punct.TheVariants as p
 use Rattle.c_token.specs.declared.token.TokenKind.{TokenKind}
 use Rattle.c_token.specs.declared.token.TokenKind.TheVariants as k
 use Rattle.c_tree.specs.declared.specifier.Specifier.{Specifier}
-use Rattle.c_tree.specs.Terminals.{Terminal, sign}
+use Rattle.c_tree.specs.Terminals.{Terminal}
 use Rattle.c_tree.specs.Kinds.{same_specifier, put_back, without_one}
 use Rattle.c_parser.specs.Readings.{Lacks, is_paren}
 use Rattle.c_parser.specs.Types.{starts_kind, opens_cast}

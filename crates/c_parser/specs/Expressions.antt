@@ -1,12 +1,12 @@
 -- The pieces of an expression, as the parser reads them.
-use Rattle.std.specs.Prelude.{◌≡◌, ℕ, Bool, true, false, List, [], ◌∷◌, ◌++◌, Option, Some, None}
+use Rattle.std.specs.Prelude.{◌≡◌, ℕ, Bool, true, false, List, [], ◌∷◌, Option, Some, None}
 use Rattle.hls_base.specs.declared.place.Place.{Place}
 use Rattle.c_token.specs.declared.punct.Punct.{Punct}
 use Rattle.c_token.specs.declared.punct.Punct.TheVariants as p
 use Rattle.c_tree.specs.declared.operator.Binary.{Binary}
 use Rattle.c_tree.specs.Tree as tree
 use Rattle.c_tree.specs.Tree.{Tree, TargetTree, Trees, row}
-use Rattle.c_tree.specs.Terminals.{Terminal, sign, word, operator_of}
+use Rattle.c_tree.specs.Terminals.{Terminal, sign, operator_of}
 use Rattle.c_tree.specs.Grammar.{level_of, comma_level, choice_level, unary_level, Derives, DerivesTarget, DerivesSubscripts, DerivesArguments}
 use Rattle.c_parser.specs.Readings.{Reads, Sequence, Closed, Sign, snd}
 use Rattle.c_parser.specs.Types.{AValueKind}

@@ -1,5 +1,5 @@
 -- The pieces of functions and programs, as the parser reads them.
-use Rattle.std.specs.Prelude.{◌≡◌, ℕ, Bool, true, false, List, [], ◌∷◌, ◌++◌, codes, Option, Some, None, map}
+use Rattle.std.specs.Prelude.{◌≡◌, ℕ, Bool, true, false, List, [], ◌∷◌, Option, Some, None, map}
 use Rattle.std.specs.Option.{option_map}
 use Rattle.std.specs.declared.alloc.Global.{Global}
 use Rattle.std.specs.declared.vec.Vec.{Vec}
@@ -10,12 +10,11 @@ use Rattle.c_token.specs.declared.ctype.CType.{CType}
 use Rattle.c_token.specs.declared.punct.Punct.TheVariants as p
 use Rattle.c_tree.specs.Tree as tree
 use Rattle.c_tree.specs.Tree.{Tree, ObjectTree, StmtTree, stmt_row, ParamTree, FunctionTree, ItemTree, ProgramTree}
-use Rattle.c_tree.specs.Terminals.{Terminal, sign, word}
+use Rattle.c_tree.specs.Terminals.{Terminal}
 use Rattle.c_tree.specs.Grammar.{DerivesParam, DerivesParams, DerivesDefinition, DerivesItem}
 use Rattle.c_parser.specs.Readings.{Reads, Sequence, Closed, Sign, Listed, Repeated, opens_paren, snd}
 use Rattle.c_parser.specs.declared.types.Kind.{Kind}
 use Rattle.c_parser.specs.declared.types.ValueKind.{ValueKind}
-use Rattle.c_parser.specs.Types.{SomeKind}
 use Rattle.c_parser.specs.Objects.{Name, Lengths, AnObject}
 
 abbrev pub AParam : List Terminal → ParamTree → List Terminal → Type 0

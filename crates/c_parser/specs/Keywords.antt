@@ -1,5 +1,5 @@
 -- The keywords that begin a statement, C11 6.8.
-use Rattle.std.specs.Prelude.{◌≡◌, ℕ, List, [], ◌∷◌, codes, Option, Some, None}
+use Rattle.std.specs.Prelude.{ℕ, List, [], ◌∷◌, codes, Option, None}
 use Rattle.std.specs.Borrow.{Bor}
 use Rattle.c_token.specs.declared.token.TokenKind.{TokenKind}
 use Rattle.c_token.specs.declared.token.TokenKind.TheVariants as k

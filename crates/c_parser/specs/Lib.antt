@@ -1,5 +1,6 @@
 pub mod Readings
 pub mod Expressions
+pub mod Chains
 pub mod Stops
 pub mod Types
 pub mod Objects

@@ -1,5 +1,5 @@
 -- The pieces of declarations and actions, as the parser reads them.
-use Rattle.std.specs.Prelude.{◌≡◌, ℕ, Bool, true, false, List, [], ◌∷◌, ◌++◌, Option, Some, None}
+use Rattle.std.specs.Prelude.{◌≡◌, ℕ, Bool, true, false, List, [], ◌∷◌, Option, Some, None}
 use Rattle.hls_base.specs.declared.place.Place.{Place}
 use Rattle.c_token.specs.declared.punct.Punct.{Punct}
 use Rattle.c_token.specs.declared.punct.Punct.TheVariants as p
@@ -9,9 +9,8 @@ use Rattle.c_tree.specs.Tree as tree
 use Rattle.c_tree.specs.Tree.{Tree, ActionTree, InitTree, init_row, ObjectTree}
 use Rattle.c_tree.specs.Terminals.{Terminal, sign, word, is_keyword}
 use Rattle.c_tree.specs.Grammar.{DerivesOptional, DerivesAction, DerivesActions, DerivesInit, DerivesInits, DerivesInitialiser, DerivesLengths, DerivesObject, DerivesDeclaration}
-use Rattle.c_parser.specs.Readings.{Reads, Sequence, Closed, Listed, snd}
+use Rattle.c_parser.specs.Readings.{Reads, Closed}
 use Rattle.c_parser.specs.declared.types.ValueKind.{ValueKind}
-use Rattle.c_parser.specs.Types.{AValueKind}
 
 -- an identifier and its place
 abbrev pub Name : List Terminal → List ℕ × Place → List Terminal → Type 0

@@ -6,8 +6,7 @@ use Rattle.c_token.specs.declared.punct.Punct.{Punct}
 use Rattle.c_token.specs.declared.punct.Punct.TheVariants as p
 use Rattle.c_token.specs.declared.token.TokenKind.{TokenKind}
 use Rattle.c_token.specs.declared.token.TokenKind.TheVariants as k
-use Rattle.c_tree.specs.declared.operator.Binary.{Binary}
-use Rattle.c_tree.specs.Terminals.{Terminal, sign, word, operator_of, assignment_of, bump_of}
+use Rattle.c_tree.specs.Terminals.{Terminal, sign, word, operator_of, assignment_of}
 use Rattle.c_tree.specs.Grammar.{level_of, primary_level, postfix_level, choice_level, assign_level, comma_level}
 
 -- the tokens that are taken are an `a` of the grammar

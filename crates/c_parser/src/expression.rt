@@ -6,6 +6,7 @@ ghost use Rattle.c_parser.specs.Readings.{Found, Never, Anywhere, Closed, Listed
 ghost use Rattle.c_parser.specs.Expressions.{Expression, Lvalue, joined, element, bare_target, Cast, Chosen, Named, Arguments, Subscripts};
 ghost use Rattle.c_parser.specs.Stops.{IfAbsent};
 
+use crate::chain::{Assigned, assign_all};
 use crate::cursor::Cursor;
 use crate::joiner::Joiner;
 use crate::stop::Stop;
@@ -122,21 +123,23 @@ fn chosen(alloc: Global, cursor: &mut Cursor<'_>, test: Expr, at: Place) -> Resu
     Ok(Expr::choice(alloc, test, yes, no, at, colon)?)
 }
 
-/// Reads an expression in which an assignment may stand outside parentheses.
+/// Reads an expression in which an assignment may stand outside parentheses. Assignments of one chain are read in a loop, so that the depth of the recursion is bounded by how deep the source nests.
 #[cycle(expression)]
 fn assignment(alloc: Global, cursor: &mut Cursor<'_>) -> Result<Expr, Stop>
     ensures found { IfOk result (λ e. Found (Expression 14) (Ends 14) cursor.old (tree_of e) cursor.new) }
     ensures absent { IfAbsent result (Never (Expression 14) (Ends 14) cursor.old) }
     ensures shorter { OnOk result (length cursor.new < length cursor.old) }
 {
-    let grouped = cursor.opens_paren();
-    let left = choice(alloc, cursor)?;
-    let Some((op, at)) = cursor.assignment() else {
-        return Ok(left);
-    };
-    let target = bare_target(alloc, grouped, left)?;
-    let value = assignment(alloc, cursor)?;
-    Ok(Expr::assign(alloc, target, op, value, at)?)
+    let mut chain = Vec::new(alloc);
+    'chain: loop {
+        let grouped = cursor.opens_paren();
+        let left = choice(alloc, cursor)?;
+        let Some((op, at)) = cursor.assignment() else {
+            return Ok(assign_all(alloc, chain, left)?);
+        };
+        let target = bare_target(alloc, grouped, left)?;
+        chain.push(Assigned { target, op, at })?;
+    }
 }
 
 /// The target that an expression is, if it stood in no parentheses.

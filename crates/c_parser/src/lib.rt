@@ -10,6 +10,7 @@ ghost use Rattle.c_tree.specs.Grammar.{DerivesProgram};
 ghost use Rattle.c_tree.specs.Refusal.{IsFaultOf, IsProgram};
 
 mod action;
+mod chain;
 mod cursor;
 mod expression;
 mod function;

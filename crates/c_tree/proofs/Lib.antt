@@ -12,6 +12,7 @@ pub mod Numbers
 pub mod Again
 pub mod KindsAgain
 pub mod Productions
+pub mod BehindRows
 pub mod Operations
 pub mod Expressions
 pub mod Lists

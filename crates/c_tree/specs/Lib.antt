@@ -9,5 +9,6 @@ pub mod Places
 pub mod ProgramText
 pub mod Rows
 pub mod StatementRows
+pub mod Behind
 pub mod RowText
 pub mod PrintedExample

@@ -5,6 +5,7 @@ ghost use Rattle.c_tree.specs.ProgramText.{HasTokens, IsTextOf};
 ghost use Rattle.c_tree.specs.RowText.{row_text};
 ghost use Rattle.c_tree.specs.StatementRows.{program_row};
 
+mod behind;
 mod expression;
 mod item;
 mod kind;

@@ -7,5 +7,6 @@ pub mod Noted
 pub mod Operands
 pub mod Rounds
 pub mod StatementTrees
+pub mod Calling
 pub mod Chains
 pub mod Trees

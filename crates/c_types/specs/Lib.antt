@@ -7,3 +7,4 @@ pub mod Extended
 pub mod Linked
 pub mod Noted
 pub mod Chains
+pub mod Called

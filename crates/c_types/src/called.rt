@@ -3,6 +3,7 @@ ghost use Rattle.std.specs.Prelude.{◌≡◌, ◌++◌, map, OnOk, IfOk};
 ghost use Rattle.std.specs.Option.{option_map};
 ghost use Rattle.c_tree.specs.View.{tree_of, trees_of, target_of, action_of, init_of, inits_of, object_of, stmt_of, stmts_of, param_of, item_of};
 ghost use Rattle.c_checked.specs.Calls as spec;
+ghost use Rattle.c_types.specs.Called.{backwards};
 
 use c_tree::action::Action;
 use c_tree::expression::{Expr, Target};
@@ -47,41 +48,71 @@ impl Model for Caller {
     ghost view = { λ c. caller_view c.name c.calls.items };
 }
 
-/// Adds the calls in an expression.
+/// Adds these lists of calls, of which the last comes first.
+fn add_backwards(found: Vec<Vec<Called>>, calls: &mut Vec<Called>) -> Result<(), AllocError>
+    ensures { OnOk result (calls.new.items ≡ calls.old.items ++ backwards found.items) }
+{
+    let mut found = found;
+    while let Some(mut last) = found.pop() {
+        calls.append(&mut last)?;
+    }
+    Ok(())
+}
+
+/// The calls in an expression.
+#[cycle(calls)]
+fn calls_in(alloc: Global, e: &Expr) -> Result<Vec<Called>, AllocError>
+    ensures { IfOk result (λ calls. calls.items ≡ spec.calls (tree_of e.now)) }
+{
+    let mut calls = Vec::new(alloc);
+    add_calls(alloc, e, &mut calls)?;
+    Ok(calls)
+}
+
+/// Adds the calls in an expression. Operators of one chain are gone along in a loop, and the calls at their right are added behind it.
 #[cycle(calls)]
 fn add_calls(alloc: Global, e: &Expr, calls: &mut Vec<Called>) -> Result<(), AllocError>
     ensures { OnOk result (calls.new.items ≡ calls.old.items ++ spec.calls (tree_of e.now)) }
 {
-    match e {
-        Expr::Number { .. } | Expr::Name { .. } => {}
-        Expr::Index { subscripts, .. } => add_all_calls(alloc, subscripts, calls)?,
-        Expr::Call { callee, args, at } => {
-            let name = callee.copy(alloc)?;
-            calls.push(Called { name, at: *at })?;
-            add_all_calls(alloc, args, calls)?;
-        }
-        Expr::Unary { arg, .. } => add_calls(alloc, arg, calls)?,
-        Expr::Binary { left, right, .. } => {
-            add_calls(alloc, left, calls)?;
-            add_calls(alloc, right, calls)?;
-        }
-        Expr::Choice { test, yes, no, .. } => {
-            add_calls(alloc, test, calls)?;
-            add_calls(alloc, yes, calls)?;
-            add_calls(alloc, no, calls)?;
-        }
-        Expr::Cast { arg, .. } => add_calls(alloc, arg, calls)?,
-        Expr::Assign { target, value, .. } => {
-            add_target_calls(alloc, target, calls)?;
-            add_calls(alloc, value, calls)?;
-        }
-        Expr::Bump { target, .. } => add_target_calls(alloc, target, calls)?,
-        Expr::Comma { left, right, .. } => {
-            add_calls(alloc, left, calls)?;
-            add_calls(alloc, right, calls)?;
+    let mut later = Vec::new(alloc);
+    let mut part = e;
+    'chain: loop {
+        match part {
+            Expr::Binary { left, right, .. } => {
+                later.push(calls_in(alloc, right)?)?;
+                part = left;
+            }
+            Expr::Comma { left, right, .. } => {
+                later.push(calls_in(alloc, right)?)?;
+                part = left;
+            }
+            Expr::Assign { target, value, .. } => {
+                add_target_calls(alloc, target, calls)?;
+                part = value;
+            }
+            Expr::Unary { arg, .. } | Expr::Cast { arg, .. } => part = arg,
+            Expr::Choice { test, yes, no, .. } => {
+                add_calls(alloc, test, calls)?;
+                add_calls(alloc, yes, calls)?;
+                part = no;
+            }
+            Expr::Number { .. } | Expr::Name { .. } => return add_backwards(later, calls),
+            Expr::Index { subscripts, .. } => {
+                add_all_calls(alloc, subscripts, calls)?;
+                return add_backwards(later, calls);
+            }
+            Expr::Call { callee, args, at } => {
+                let name = callee.copy(alloc)?;
+                calls.push(Called { name, at: *at })?;
+                add_all_calls(alloc, args, calls)?;
+                return add_backwards(later, calls);
+            }
+            Expr::Bump { target, .. } => {
+                add_target_calls(alloc, target, calls)?;
+                return add_backwards(later, calls);
+            }
         }
     }
-    Ok(())
 }
 
 #[cycle(calls)]

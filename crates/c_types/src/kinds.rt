@@ -7,6 +7,7 @@ ghost use Rattle.c_checked.specs.Names as spec;
 use crate::names::{Scopes, Sense};
 use c_token::ctype::CType;
 use c_tree::expression::Expr;
+use c_value::chain::{chain_length, part_at};
 use c_value::kind::{INT, common};
 use c_value::operate::{binary_kind, unary_kind};
 use hls_base::text::Text;
@@ -36,8 +37,9 @@ fn result_kind(names: &Scopes, name: &Text) -> CType
     }
 }
 
-/// The type of an expression, C11 6.5; int where a fault leaves it open.
-pub fn kind_of(names: &Scopes, e: &Expr) -> CType
+/// The type of an expression, by its own variant.
+#[cycle(kinds)]
+fn kind_of_part(names: &Scopes, e: &Expr) -> CType
     ensures { result ≡ spec.kind_of names.now (tree_of e.now) }
 {
     match e {
@@ -58,4 +60,20 @@ pub fn kind_of(names: &Scopes, e: &Expr) -> CType
         Expr::Bump { target, .. } => object_kind(names, &target.name),
         Expr::Comma { right, .. } => kind_of(names, right),
     }
+}
+
+/// The type of an expression, C11 6.5; int where a fault leaves it open. Operators in a row are gone through from the innermost outwards.
+#[cycle(kinds)]
+pub fn kind_of(names: &Scopes, e: &Expr) -> CType
+    ensures { result ≡ spec.kind_of names.now (tree_of e.now) }
+{
+    let mut depth = chain_length(e);
+    let mut kind = kind_of_part(names, part_at(e, depth));
+    'outwards: while depth > 0 {
+        depth -= 1;
+        if let Expr::Binary { op, right, .. } = part_at(e, depth) {
+            kind = binary_kind(*op, kind, kind_of(names, right));
+        }
+    }
+    kind
 }

@@ -1,12 +1,11 @@
 -- The number of a choice between two expressions.
-use Rattle.std.proofs.Common.{◌≡◌, ◌∙◌, sym, ap, Box, Global, ℤ, if◌then◌else◌}
+use Rattle.std.proofs.Common.{◌≡◌, ◌∙◌, sym, ap, Box, Global, if◌then◌else◌}
 use Rattle.hls_base.specs.declared.place.Place.{Place}
 use Rattle.c_token.specs.declared.ctype.CType.{CType}
 use Rattle.c_tree.specs.declared.expression.Expr.{Expr}
 use Rattle.c_tree.specs.declared.expression.Expr.TheVariants as e
 use Rattle.c_tree.specs.declared.expression.Expr.TheOpen.{Expr-F}
 use Rattle.c_tree.specs.declared.expression.Expr.TheFolds.{fold-roll-Expr}
-use Rattle.c_tree.specs.Tree as tree
 use Rattle.c_tree.specs.Tree.{Tree, TargetTree}
 use Rattle.c_tree.specs.View.{tree_of, tree_step, target_step}
 use Rattle.c_value.specs.Values.{convert, common}

@@ -1,3 +1,4 @@
 mod Examples
+pub mod Chaining
 pub mod Choosing
 pub mod Operating

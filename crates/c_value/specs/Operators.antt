@@ -79,13 +79,13 @@ unary_value u.Minus kind n = in_range (promoted kind) (neg_ℤ (convert (promote
 unary_value u.Not kind n = defined (complement (promoted kind) n)
 unary_value u.LogNot kind n = defined (truth (not (is_true n)))
 
--- The quotient is rounded toward zero, and the remainder is what is left of the dividend, C11 6.5.5 paragraphs 5 and 6.
+-- The quotient is rounded toward zero, and the remainder is what is left of the dividend. Neither is defined where the divisor is 0 or the type does not have the quotient. C11 6.5.5 paragraphs 5 and 6.
 abbrev pub divided : (ℤ → ℤ → ℤ) → CType → ℤ → ℤ → Computed
 divided f kind x y =
     if int_eq y (pos 0) then undefined ub.DivideByZero
     else (if is_of kind (int_div x y) then defined (f x y) else undefined ub.QuotientRange)
 
--- C11 6.5.7 paragraph 4: a number of an unsigned type is shifted modulo 2^width
+-- C11 6.5.7 paragraph 4: a number of an unsigned type is shifted modulo 2^width, and one of a signed type only where it is not negative and the type has the result
 abbrev pub shifted_left : CType → ℤ → ℕ → Computed
 shifted_left kind n count =
     if is_signed kind

@@ -7,6 +7,7 @@ ghost use Rattle.c_value.specs.Values as values;
 ghost use Rattle.c_value.specs.Constant.{then_compute, is_constant, constant_kind, constant_number, constant_value, as_truth, operated};
 ghost use Rattle.c_value.specs.Inside.{value_of};
 
+use crate::chain::{chain_length, part_at};
 use crate::convert::convert;
 use crate::kind::{INT, common};
 use crate::operate::{binary_kind, binary_value, unary_kind, unary_value};
@@ -27,33 +28,22 @@ pub enum Constant {
 pub fn is_constant(e: &Expr) -> bool
     ensures { result ≡ is_constant (tree_of e.now) }
 {
-    match e {
-        Expr::Number { .. } => true,
-        Expr::Unary { arg, .. } | Expr::Cast { arg, .. } => is_constant(arg),
-        Expr::Binary { left, right, .. } => is_constant(left) && is_constant(right),
-        Expr::Choice { test, yes, no, .. } => {
-            is_constant(test) && is_constant(yes) && is_constant(no)
+    let mut part = e;
+    'chain: loop {
+        match part {
+            Expr::Number { .. } => return true,
+            Expr::Unary { arg, .. } | Expr::Cast { arg, .. } => part = arg,
+            Expr::Binary { left, right, .. } => {
+                if !is_constant(right) {
+                    return false;
+                }
+                part = left;
+            }
+            Expr::Choice { test, yes, no, .. } => {
+                return is_constant(test) && is_constant(yes) && is_constant(no);
+            }
+            _ => return false,
         }
-        _ => false,
-    }
-}
-
-/// The type of a constant expression.
-pub fn constant_kind(e: &Expr) -> CType
-    ensures { result ≡ constant_kind (tree_of e.now) }
-{
-    match e {
-        Expr::Number { kind, .. } => *kind,
-        Expr::Unary { op, arg, .. } => unary_kind(*op, constant_kind(arg)),
-        Expr::Binary {
-            op,
-            left,
-            right,
-            ..
-        } => binary_kind(*op, constant_kind(left), constant_kind(right)),
-        Expr::Choice { yes, no, .. } => common(constant_kind(yes), constant_kind(no)),
-        Expr::Cast { to, .. } => *to,
-        _ => INT,
     }
 }
 
@@ -137,7 +127,9 @@ fn of_choice(test: Valued, yes: Valued, no: Valued) -> Valued
     Valued { kind, number }
 }
 
-fn evaluate(e: &Expr) -> Valued
+/// What an expression of the form comes to, by its own variant.
+#[cycle(evaluate)]
+fn evaluate_part(e: &Expr) -> Valued
     ensures kind { result.kind ≡ constant_kind (tree_of e.now) }
     ensures number { computed_of result.number ≡ constant_number (tree_of e.now) }
 {
@@ -167,6 +159,30 @@ fn evaluate(e: &Expr) -> Valued
             number: Ok(0),
         },
     }
+}
+
+/// What an expression of the form comes to. Operators in a row are gone through from the innermost outwards.
+#[cycle(evaluate)]
+fn evaluate(e: &Expr) -> Valued
+    ensures kind { result.kind ≡ constant_kind (tree_of e.now) }
+    ensures number { computed_of result.number ≡ constant_number (tree_of e.now) }
+{
+    let mut depth = chain_length(e);
+    let mut whole = evaluate_part(part_at(e, depth));
+    'outwards: while depth > 0 {
+        depth -= 1;
+        if let Expr::Binary { op, right, .. } = part_at(e, depth) {
+            whole = of_binary(*op, whole, evaluate(right));
+        }
+    }
+    whole
+}
+
+/// The type of a constant expression.
+pub fn constant_kind(e: &Expr) -> CType
+    ensures { result ≡ constant_kind (tree_of e.now) }
+{
+    evaluate(e).kind
 }
 
 /// The number of a constant expression.

@@ -2,6 +2,7 @@
 #![tactic(auto)]
 
 mod arithmetic;
+pub mod chain;
 pub mod constant;
 pub mod convert;
 pub mod kind;

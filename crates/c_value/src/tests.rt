@@ -1,4 +1,5 @@
 //! Each public call once.
+use crate::chain::{chain_length, part_at};
 use crate::constant::{Constant, constant_kind, constant_number, constant_value, is_constant};
 use crate::convert::{convert, number_of, ones, pattern, wrap};
 use crate::kind::{
@@ -93,5 +94,25 @@ fn constants(rt: HostRuntime) -> Result<(), AllocError> {
         number: 2,
     };
     assert_eq!(rt; constant_value(&chosen), wanted);
+    Ok(())
+}
+
+/// `1000 - 1 - 1 ..`, longer than what is counted at once.
+#[test]
+fn long_rows(rt: HostRuntime) -> Result<(), AllocError> {
+    let alloc = rt.alloc();
+    let at = Place {
+        line: 1,
+        column: 1,
+        part: 0,
+    };
+    let mut row = number(1000);
+    for _ in 0..300 {
+        row = Expr::binary(alloc, Binary::Sub, row, number(1), at)?;
+    }
+    assert_eq!(rt; chain_length(&row), 256);
+    assert_eq!(rt; constant_number(part_at(&row, 256)), Ok(956));
+    assert!(rt; is_constant(&row));
+    assert_eq!(rt; constant_number(&row), Ok(700));
     Ok(())
 }

@@ -1,5 +1,6 @@
 mod Words
 mod Outcomes
+mod SumRun
 mod SumMade
 mod Grammar
 pub mod Faults

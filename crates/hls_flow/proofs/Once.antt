@@ -51,8 +51,8 @@ one_program source p q a b = b.only p a.is
 
 not_compiled_once : (program : ProgramTree) (top : List ℕ) (r q : Refusal) → program_faults program top ≡ [] → IsNotCompiled program top r → IsNotCompiled program top q → q ≡ r
 not_compiled_once program top r q faultless a b =
-    let one : HasBody program.items top a.index a.function = record { item = a.item; body = a.has_body; named = a.named } in
-    let other : HasBody program.items top b.index b.function = record { item = b.item; body = b.has_body; named = b.named } in
+    let one : HasBody program.items top a.index a.function = record { item = a.is.item; body = a.is.has_body; named = a.is.named } in
+    let other : HasBody program.items top b.index b.function = record { item = b.is.item; body = b.is.has_body; named = b.is.named } in
     let same : a.function ≡ b.function = one_body program top top a.index b.index a.function b.function faultless one other in
     b.fault_is ∙ (ap (λ (g : FunctionTree). fault 37 g.at) (sym same) ∙ sym a.fault_is)
 

@@ -54,13 +54,17 @@ pub data IsFaultBefore (source : List ℕ) (fault : Refusal) : Type 0 where
   of_replacement : (tokens : List Token) → Spells source tokens → FirstReplacementFault tokens fault → IsFaultBefore source fault
   of_grammar : (tokens : List Token) → IsReplaced source tokens → IsFaultOf (terminals tokens) (end_of source) fault → IsFaultBefore source fault
 
+-- the item of this number is the function with a body that has the name of the top function
+pub record IsTopFunction (program : ProgramTree) (top : List ℕ) (index : ℕ) (function : FunctionTree) : Type 0 where
+  pub item : slice_get program.items index ≡ Some (tree.function function)
+  pub has_body : is_some function.body ≡ true
+  pub named : function.name ≡ top
+
 -- Rule 37 stands where the body of the top function does, at the function's name.
 pub record IsNotCompiled (program : ProgramTree) (top : List ℕ) (fault : Refusal) : Type 0 where
   pub index : ℕ
   pub function : FunctionTree
-  pub item : slice_get program.items index ≡ Some (tree.function function)
-  pub has_body : is_some function.body ≡ true
-  pub named : function.name ≡ top
+  pub is : IsTopFunction program top index function
   pub fault_is : fault ≡ record { rule = 37; place = function.at }
 
 -- The first fault of a source: it is no program within the limits; or a program that breaks a rule of C, of which the earliest place counts, and at one place the smallest rule; or a program of a form that is not compiled yet, under rule 37.
@@ -73,5 +77,6 @@ pub data IsFirstFault (source top : List ℕ) (fault : Refusal) : Type 0 where
 -- what holds of the sum that was found: it is the source's, and its function's name is that of a module
 pub record IsFound (source top : List ℕ) (sum : Sum) : Type 0 where
   pub is : IsSumSource source top sum
+  pub only : IsTheProgramOf source is.program
   pub word : IsWord sum.name
   pub short : length sum.name ≤ 64

@@ -1,3 +1,4 @@
 pub mod FirstFault
+pub mod CBox
 pub mod Synthesis
 pub mod SumReport

@@ -3,6 +3,7 @@ ghost use Rattle.hls_flow.specs.Synthesis.{AreInRange};
 
 mod limits;
 mod round_trip;
+mod runs;
 
 use crate::synth::synth;
 use hls_base::refusal::{Fail, Refusal};
@@ -67,13 +68,21 @@ fn takes_any_spelling_of_a_sum(rt: HostRuntime) -> Result<(), TestFail> {
 
 #[test]
 fn refuses_by_the_first_fault(rt: HostRuntime) -> Result<(), TestFail> {
-    let cases: [(&[u8], u8, u32, u32); 11] = [
+    let cases: [(&[u8], u8, u32, u32); 14] = [
         (b"int f(void){return 1;} /*", 2, 1, 24),
         (b"int f(void){return 08;}", 3, 1, 20),
         (b"#if 1\n", 5, 1, 2),
         (b"int f(void){return 1", 6, 1, 21),
         (b"enum e;", 20, 1, 1),
         (b"int f(int a){return 1=a;}", 23, 1, 22),
+        (b"int f(int i){return i++ + i;}", 24, 1, 22),
+        (b"int f(int i){i = i++; return i;}", 24, 1, 16),
+        (
+            b"int g(int);int f(int a){return g(a);}int g(int a){return f(a);}",
+            18,
+            1,
+            58,
+        ),
         (b"unsigned f(unsigned a,unsigned b){return a-b;}", 37, 1, 10),
         (
             b"int f(int a);\nint g(int a){return a;}\nint f(int a){return g(a);}",

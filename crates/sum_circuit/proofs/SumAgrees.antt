@@ -1,4 +1,4 @@
--- The circuit of a sum agrees with the box.
+-- The circuit of a sum agrees with each box that answers a start with the sum.
 use Rattle.std.proofs.Common.{◌≡◌, ◌≢◌, ℕ, zero, suc, ◌+◌, ◌%◌, ◌^◌, ◌<◌, List, [], ◌∷◌, ◌++◌, refl, sym, subst, ap, arith, Option, Some, None, map, Bool, true, false, ◌∙◌}
 use Rattle.std.specs.Prelude.{if◌then◌else◌}
 use Rattle.std.specs.List.{All}
@@ -14,7 +14,7 @@ use Rattle.sum_program.specs.declared.program.Operand.{Operand}
 use Rattle.sum_program.specs.declared.program.Operand.TheVariants.{First, Second}
 use Rattle.sum_program.specs.declared.program.Sum.{Sum}
 use Rattle.sum_program.specs.SumMeaning.{argument, sum_result}
-use Rattle.sum_circuit.specs.SumCircuit.{sum_interface, sum_answers, netlist_with, sum_netlist}
+use Rattle.sum_circuit.specs.SumCircuit.{sum_interface, sum_answers, AnswersWithSum, netlist_with, sum_netlist}
 
 -- the values of the pins in a cycle
 record Pins : Type 0 where
@@ -83,39 +83,45 @@ sum_is_shown_at_start name left right a b r p = refl
 abbrev box : Phase → FileScope → Box
 box phase file_scope = record { phase = phase; arrays = []; file_scope = file_scope; shown = None }
 
-data Matches (left right : Operand) : State → Box → Type 0 where
-  is_idle : (a b r : ℕ) (file_scope : FileScope) → Matches left right (contents 0 a b r) (box Idle file_scope)
-  is_adding : (a b r : ℕ) (file_scope : FileScope) → Matches left right (contents 1 a b r) (box (Busy 2 (Some (added left right a b)) [] file_scope) file_scope)
-  is_ending : (a b r : ℕ) (file_scope : FileScope) → Matches left right (contents 2 a b r) (box (Busy 1 (Some r) [] file_scope) file_scope)
-  is_done : (a b r : ℕ) (file_scope : FileScope) → Matches left right (contents 3 a b r) (box (Done (Some r)) file_scope)
+data Matches (left right : Operand) (file_scope : FileScope) : State → Box → Type 0 where
+  is_idle : (a b r : ℕ) → Matches left right file_scope (contents 0 a b r) (box Idle file_scope)
+  is_adding : (a b r : ℕ) → Matches left right file_scope (contents 1 a b r) (box (Busy 2 (Some (added left right a b)) [] file_scope) file_scope)
+  is_ending : (a b r : ℕ) → Matches left right file_scope (contents 2 a b r) (box (Busy 1 (Some r) [] file_scope) file_scope)
+  is_done : (a b r : ℕ) → Matches left right file_scope (contents 3 a b r) (box (Done (Some r)) file_scope)
 
-shows : (name : List ℕ) (left right : Operand) (s : State) (b : Box) (pins : List ℕ) → Matches left right s b → Shows b (outputs (netlist_with name left right) s pins)
-shows name left right s b pins (is_idle x y r file_scope) = record { phase = (refl, refl); result = tt; element = tt }
-shows name left right s b pins (is_adding x y r file_scope) = record { phase = (refl, refl); result = tt; element = tt }
-shows name left right s b pins (is_ending x y r file_scope) = record { phase = (refl, refl); result = tt; element = tt }
-shows name left right s b pins (is_done x y r file_scope) = record { phase = (refl, refl); result = refl; element = tt }
+shows : (name : List ℕ) (left right : Operand) (file_scope : FileScope) (s : State) (b : Box) (pins : List ℕ) → Matches left right file_scope s b
+    → Shows b (outputs (netlist_with name left right) s pins)
+shows name left right file_scope s b pins (is_idle x y r) = record { phase = (refl, refl); result = tt; element = tt }
+shows name left right file_scope s b pins (is_adding x y r) = record { phase = (refl, refl); result = tt; element = tt }
+shows name left right file_scope s b pins (is_ending x y r) = record { phase = (refl, refl); result = tt; element = tt }
+shows name left right file_scope s b pins (is_done x y r) = record { phase = (refl, refl); result = refl; element = tt }
 
 -- ---- the pins of a cycle
 
+-- the arguments are numbers of 32 bits
+record AreWords (p : Pins) : Type 0 where
+  first : p.first < 2 ^ 32
+  second : p.second < 2 ^ 32
+
 data Cycle : List ℕ → Type 0 where
   waits : (p : Pins) → Cycle (pins_of 0 0 p)
-  starts : (p : Pins) → Cycle (pins_of 0 1 p)
+  starts : (p : Pins) → AreWords p → Cycle (pins_of 0 1 p)
 
-cycle_of_start : (start : ℕ) (p : Pins) → start < 2 → Cycle (pins_of 0 start p)
-cycle_of_start zero p lt = waits p
-cycle_of_start (suc zero) p lt = starts p
-cycle_of_start (suc (suc n)) p lt = absurd (omega arith)
+cycle_of_start : (start : ℕ) (p : Pins) → start < 2 → AreWords p → Cycle (pins_of 0 start p)
+cycle_of_start zero p lt words = waits p
+cycle_of_start (suc zero) p lt words = starts p words
+cycle_of_start (suc (suc n)) p lt words = absurd (omega arith)
 
 data Shape : List ℕ → Type 0 where
-  shape : (reset start : ℕ) (p : Pins) → start < 2 → Shape (pins_of reset start p)
+  shape : (reset start : ℕ) (p : Pins) → start < 2 → AreWords p → Shape (pins_of reset start p)
 
 shape_of : (name : List ℕ) (left right : Operand) (pins : List ℕ) → ArePins (netlist_with name left right) pins → Shape pins
 shape_of name left right pins
-    (fit_one _ reset _ _ _ (fit_one _ start _ _ lt (fit_one _ en _ _ _ (fit_one _ we _ _ _ (fit_one _ sel _ _ _ (fit_one _ addr _ _ _ (fit_one _ sent _ _ _ (fit_one _ x _ _ _ (fit_one _ y _ _ _ fit_none))))))))) =
-    shape reset start (record { start = start; enable = en; write = we; select = sel; address = addr; sent = sent; first = x; second = y }) lt
+    (fit_one _ reset _ _ _ (fit_one _ start _ _ lt (fit_one _ en _ _ _ (fit_one _ we _ _ _ (fit_one _ sel _ _ _ (fit_one _ addr _ _ _ (fit_one _ sent _ _ _ (fit_one _ x _ _ small (fit_one _ y _ _ low fit_none))))))))) =
+    shape reset start (record { start = start; enable = en; write = we; select = sel; address = addr; sent = sent; first = x; second = y }) lt (record { first = small; second = low })
 
 cycle_of : (pins : List ℕ) → Shape pins → reset_of pins ≡ 0 → Cycle pins
-cycle_of pins (shape reset start p lt) low = subst (λ r. Cycle (pins_of r start p)) (sym low) (cycle_of_start start p lt)
+cycle_of pins (shape reset start p lt words) low = subst (λ r. Cycle (pins_of r start p)) (sym low) (cycle_of_start start p lt words)
 
 -- ---- one cycle
 
@@ -123,53 +129,63 @@ either_way : {A : Type 0} (b : Bool) (x : A) → (if b then x else x) ≡ x
 either_way true x = refl
 either_way false x = refl
 
-moves : (s : Sum) (st : State) (b next : Box) (pins : List ℕ) → Matches s.left s.right st b → Cycle pins → BoxStep sum_interface (sum_answers s) b pins next
-    → Matches s.left s.right (stepped (sum_netlist s) st pins) next
-moves s st b next pins (is_idle x y r file_scope) (waits p) step =
-    let e = step.kept (λ (h : 0 ≡ 1). omega arith) in
-    subst (Matches s.left s.right (contents 0 x y r)) (sym (e ∙ either_way _ _)) (is_idle x y r file_scope)
-moves s st b next pins (is_idle x y r file_scope) (starts p) step =
-    let t = step.taken refl in
-    subst (Matches s.left s.right (contents 1 p.first p.second r)) (sym (t.2 ∙ ap (entered (box Idle file_scope)) t.1)) (is_adding p.first p.second r file_scope)
-moves s st b next pins (is_adding x y r file_scope) (waits p) step =
-    subst (Matches s.left s.right _) (sym step) (subst (λ z. Matches s.left s.right z (box (Busy 1 (Some (added s.left s.right x y)) [] file_scope) file_scope)) (sym (sum_is_made s.name s.left s.right x y r p)) (is_ending x y (added s.left s.right x y) file_scope))
-moves s st b next pins (is_adding x y r file_scope) (starts p) step =
-    subst (Matches s.left s.right _) (sym step) (subst (λ z. Matches s.left s.right z (box (Busy 1 (Some (added s.left s.right x y)) [] file_scope) file_scope)) (sym (sum_is_made_at_start s.name s.left s.right x y r p)) (is_ending x y (added s.left s.right x y) file_scope))
-moves s st b next pins (is_ending x y r file_scope) (waits p) step = subst (Matches s.left s.right (contents 3 x y r)) (sym step) (is_done x y r file_scope)
-moves s st b next pins (is_ending x y r file_scope) (starts p) step = subst (Matches s.left s.right (contents 3 x y r)) (sym step) (is_done x y r file_scope)
-moves s st b next pins (is_done x y r file_scope) (waits p) step =
-    let e = step.kept (λ (h : 0 ≡ 1). omega arith) in
-    subst (Matches s.left s.right (contents 3 x y r)) (sym (e ∙ either_way _ _)) (is_done x y r file_scope)
-moves s st b next pins (is_done x y r file_scope) (starts p) step =
-    let t = step.taken refl in
-    subst (Matches s.left s.right (contents 1 p.first p.second r)) (sym (t.2 ∙ ap (entered (box (Done (Some r)) file_scope)) t.1)) (is_adding p.first p.second r file_scope)
+module _ (s : Sum) (file_scope : FileScope) (answers : Answers) (asks : AnswersWithSum s file_scope answers) where
+  abbrev Match : State → Box → Type 0
+  Match = Matches s.left s.right file_scope
 
--- ---- whole lists of pins
+  abbrev busy : ℕ → ℕ → Box
+  busy cycles r = box (Busy cycles (Some r) [] file_scope) file_scope
 
-abbrev Low : Sum → List ℕ → Type 0
-Low s pins = ArePins (sum_netlist s) pins × (reset_of pins ≡ 0)
+  moves : (st : State) (b next : Box) (pins : List ℕ) → Match st b → Cycle pins → BoxStep sum_interface answers b pins next → Match (stepped (sum_netlist s) st pins) next
+  moves st b next pins (is_idle x y r) (waits p) step =
+      let e = step.kept (λ (h : 0 ≡ 1). omega arith) in
+      subst (Match (contents 0 x y r)) (sym (e ∙ either_way _ _)) (is_idle x y r)
+  moves st b next pins (is_idle x y r) (starts p words) step =
+      let t = step.taken refl in
+      subst (Match (contents 1 p.first p.second r)) (sym (t.2 ∙ ap (entered (box Idle file_scope)) (asks p.first p.second t.0 words.first words.second t.1))) (is_adding p.first p.second r)
+  moves st b next pins (is_adding x y r) (waits p) step =
+      let sum = added s.left s.right x y in
+      subst (Match _) (sym step) (subst (λ z. Match z (busy 1 sum)) (sym (sum_is_made s.name s.left s.right x y r p)) (is_ending x y sum))
+  moves st b next pins (is_adding x y r) (starts p words) step =
+      let sum = added s.left s.right x y in
+      subst (Match _) (sym step) (subst (λ z. Match z (busy 1 sum)) (sym (sum_is_made_at_start s.name s.left s.right x y r p)) (is_ending x y sum))
+  moves st b next pins (is_ending x y r) (waits p) step = subst (Match (contents 3 x y r)) (sym step) (is_done x y r)
+  moves st b next pins (is_ending x y r) (starts p words) step = subst (Match (contents 3 x y r)) (sym step) (is_done x y r)
+  moves st b next pins (is_done x y r) (waits p) step =
+      let e = step.kept (λ (h : 0 ≡ 1). omega arith) in
+      subst (Match (contents 3 x y r)) (sym (e ∙ either_way _ _)) (is_done x y r)
+  moves st b next pins (is_done x y r) (starts p words) step =
+      let t = step.taken refl in
+      subst (Match (contents 1 p.first p.second r)) (sym (t.2 ∙ ap (entered (box (Done (Some r)) file_scope)) (asks p.first p.second t.0 words.first words.second t.1))) (is_adding p.first p.second r)
 
-follows : (s : Sum) (rest : List (List ℕ)) (st : State) (b : Box) → Matches s.left s.right st b → All (Low s) rest → Follows (sum_netlist s) sum_interface (sum_answers s) st b rest
-follows s [] st b m low = tt
-follows s (pins ∷ rest) st b m low = λ not_broken.
-    let now : Low s pins = All-head (Low s) pins rest low in (
-      shows s.name s.left s.right st b pins m,
-      λ next step. follows s rest _ next (moves s st b next pins m (cycle_of pins (shape_of s.name s.left s.right pins now.0) now.1) step) (All-tail (Low s) pins rest low),
-    )
+  -- whole lists of pins
+  abbrev Low : List ℕ → Type 0
+  Low pins = ArePins (sum_netlist s) pins × (reset_of pins ≡ 0)
 
-after_first : (s : Sum) (file_scope : FileScope) (regs : List ℕ) (mems : List (List ℕ)) (first : List ℕ) → Fit (2 ∷ 32 ∷ 32 ∷ 32 ∷ []) regs → AreMemories [] mems → Shape first → reset_of first ≡ 1
-    → Matches s.left s.right (stepped (sum_netlist s) (record { regs = regs; mems = mems }) first) (box Idle file_scope)
-after_first s file_scope regs mems first (fit_one _ phase _ _ _ (fit_one _ a _ _ _ (fit_one _ b _ _ _ (fit_one _ r _ _ _ fit_none)))) no_memory (shape reset start p lt) high =
-    let e = after_reset_is_idle s.name s.left s.right phase a b r start p in
-    subst (λ x. Matches s.left s.right (stepped (sum_netlist s) (contents phase a b r) (pins_of x start p)) (box Idle file_scope)) (sym high)
-    (subst (λ z. Matches s.left s.right z (box Idle file_scope)) (sym e.3) (is_idle e.0 e.1 e.2 file_scope))
+  follows : (rest : List (List ℕ)) (st : State) (b : Box) → Match st b → All Low rest → Follows (sum_netlist s) sum_interface answers st b rest
+  follows [] st b m low = tt
+  follows (pins ∷ rest) st b m low = λ not_broken.
+      let now : Low pins = All-head Low pins rest low in (
+        shows s.name s.left s.right file_scope st b pins m,
+        λ next step. follows rest _ next (moves st b next pins m (cycle_of pins (shape_of s.name s.left s.right pins now.0) now.1) step) (All-tail Low pins rest low),
+      )
+
+  after_first : (regs : List ℕ) (mems : List (List ℕ)) (first : List ℕ) → Fit (2 ∷ 32 ∷ 32 ∷ 32 ∷ []) regs → AreMemories [] mems → Shape first → reset_of first ≡ 1
+      → Match (stepped (sum_netlist s) (record { regs = regs; mems = mems }) first) (box Idle file_scope)
+  after_first regs mems first (fit_one _ phase _ _ _ (fit_one _ a _ _ _ (fit_one _ b _ _ _ (fit_one _ r _ _ _ fit_none)))) no_memory (shape reset start p lt words) high =
+      let e = after_reset_is_idle s.name s.left s.right phase a b r start p in
+      subst (λ x. Match (stepped (sum_netlist s) (contents phase a b r) (pins_of x start p)) (box Idle file_scope)) (sym high)
+      (subst (λ z. Match z (box Idle file_scope)) (sym e.3) (is_idle e.0 e.1 e.2))
+
+  pub sum_agrees_with : Agrees (sum_netlist s) sum_interface 0 file_scope answers
+  unfolding digits
+  sum_agrees_with = record {
+    inputs = refl;
+    outputs = refl;
+    arrays = tt;
+    follows = λ power_up first rest state pins high low.
+        follows rest _ _ (after_first power_up.regs power_up.mems first state.regs state.mems (shape_of s.name s.left s.right first pins) high) low;
+  }
 
 pub sum_agrees : (s : Sum) (file_scope : FileScope) → Agrees (sum_netlist s) sum_interface 0 file_scope (sum_answers s)
-unfolding digits
-sum_agrees s file_scope = record {
-  inputs = refl;
-  outputs = refl;
-  arrays = tt;
-  follows = λ power_up first rest state pins high low.
-      follows s rest _ _ (after_first s file_scope power_up.regs power_up.mems first state.regs state.mems (shape_of s.name s.left s.right first pins) high) low;
-}
+sum_agrees s file_scope = sum_agrees_with s file_scope (sum_answers s) (λ a b answer small low e. e)

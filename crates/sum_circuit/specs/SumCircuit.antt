@@ -1,5 +1,5 @@
 -- The circuit of a sum: its phase, the two arguments, and the result.
-use Rattle.std.specs.Prelude.{◌≡◌, ℕ, List, [], ◌∷◌, ◌++◌, codes, Option, Some, None}
+use Rattle.std.specs.Prelude.{◌≡◌, ◌<◌, ◌^◌, ℕ, List, [], ◌∷◌, ◌++◌, codes, Option, Some, None}
 use Rattle.hls_base.specs.FileScope.{FileScope}
 use Rattle.rtl_core.specs.declared.design.Pin.{Pin}
 use Rattle.rtl_core.specs.declared.design.OutPin.{OutPin}
@@ -24,6 +24,11 @@ sum_interface = record { scalars = 32 ∷ 32 ∷ []; arrays = []; result = Some 
 -- a run takes three cycles, and keeps the file-scope contents
 abbrev pub sum_answers : Sum → Answers
 sum_answers s file_scope arguments arrays answer = answer ≡ Ended 3 (Some (sum_result s arguments)) arrays file_scope
+
+-- Such answers to a start from these file-scope contents: with any two arguments of 32 bits the run takes three cycles, gives the sum, and keeps the contents.
+abbrev pub AnswersWithSum : Sum → FileScope → Answers → Type 0
+AnswersWithSum s file_scope answers =
+    (a b : ℕ) (answer : Answer) → a < 2 ^ 32 → b < 2 ^ 32 → answers file_scope (a ∷ b ∷ []) [] answer → answer ≡ Ended 3 (Some (sum_result s (a ∷ b ∷ []))) [] file_scope
 
 -- the pins of the interface
 abbrev pub sum_inputs : List Pin

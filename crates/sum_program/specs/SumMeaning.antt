@@ -17,7 +17,3 @@ sum_result s arguments = (argument arguments s.left + argument arguments s.right
 -- the body begins, and the call returns
 abbrev pub sum_trace : Sum → List Point
 sum_trace s = record { path = []; at = s.at; kind = Begin } ∷ record { path = []; at = s.at; kind = End } ∷ []
-
--- how often the run passes each point
-abbrev pub sum_tally : Sum → List (Point × ℕ)
-sum_tally s = (record { path = []; at = s.at; kind = Begin }, 1) ∷ (record { path = []; at = s.at; kind = End }, 1) ∷ []

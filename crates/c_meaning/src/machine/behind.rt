@@ -42,7 +42,7 @@ impl<'p> Machine<'p> {
                 second,
                 at,
                 colon,
-            } => self.pick_operand(first, second, at, colon, x),
+            } => self.pick_operand(alloc, first, second, at, colon, x)?,
             ValueFrame::Chosen { fork, at, kind } => {
                 let number = convert(kind, x.number);
                 self.leave_operand(fork, at, Value { kind, number });

@@ -1,5 +1,6 @@
 //! Operators behind an operand.
 use crate::machine::Machine;
+use crate::machine::chain::{Operator, around};
 use crate::machine::frame::{Frame, Step, ValueFrame};
 use crate::machine::operator::assigned;
 use crate::machine::tree::{acts, result_kind};
@@ -10,13 +11,14 @@ use c_tree::expression::Expr;
 use c_tree::operator::Binary;
 use c_value::convert::convert;
 use c_value::kind::{INT, common};
-use c_value::operate::{binary_kind, unary_kind};
+use c_value::operate::unary_kind;
 use hls_base::place::Place;
 use hls_base::point::PointKind;
 use hls_base::text::Text;
+use std::alloc::{AllocError, Global};
 
 impl<'p> Machine<'p> {
-    ghost use Rattle.std.specs.Prelude.{◌≡◌, ◌<◌, ◌||◌, length};
+    ghost use Rattle.std.specs.Prelude.{◌≡◌, ◌<◌, ◌||◌, length, IfOk, OnOk, OnErr};
     ghost use Rattle.c_tree.specs.View.{tree_of};
     ghost use Rattle.c_meaning.specs.Expression as e;
     ghost use Rattle.c_meaning.specs.Frames as f;
@@ -69,22 +71,28 @@ impl<'p> Machine<'p> {
     /// The operand of `?:` that its test chooses is evaluated.
     pub fn pick_operand(
         &mut self,
+        alloc: Global,
         first: &'p Expr,
         second: &'p Expr,
         at: Place,
         colon: Place,
         x: Value,
-    )
+    ) -> Result<(), AllocError>
         requires { 0 < length (stack_of self.old.stack) }
-        ensures { configuration_of self.new ≡ picked (tree_of first.now) (tree_of second.now) at colon x (popped (configuration_of self.old)) }
+        ensures ok { OnOk result (configuration_of self.new ≡ picked (tree_of first.now) (tree_of second.now) at colon x (popped (configuration_of self.old))) }
+        ensures err { OnErr result (configuration_of self.new ≡ configuration_of self.old) }
     {
-        let kind = common(self.kind_here(first), self.kind_here(second));
+        let kind = common(
+            self.kind_here(alloc, first)?,
+            self.kind_here(alloc, second)?,
+        );
         let fork = acts(first) || acts(second);
         if x.number != 0 {
             self.choose_operand(fork, at, at, kind, first);
         } else {
             self.choose_operand(fork, colon, at, kind, second);
         }
+        Ok(())
     }
 
     fn choose_operand(&mut self, fork: bool, arm: Place, at: Place, kind: CType, operand: &'p Expr)
@@ -109,27 +117,44 @@ impl<'p> Machine<'p> {
     }
 
     /// The type of an expression.
-    fn kind_here(&self, e: &Expr) -> CType
-        ensures { result ≡ kind_here (configuration_of self.now) (tree_of e.now) }
+    ///
+    /// Operators of one chain are gone through in a loop, so that the depth of the recursion is bounded by how deep the source nests.
+    fn kind_here(&self, alloc: Global, e: &Expr) -> Result<CType, AllocError>
+        ensures { IfOk result (λ kind. kind ≡ kind_here (configuration_of self.now) (tree_of e.now)) }
     {
-        match e {
-            Expr::Number { kind, .. } => *kind,
-            Expr::Name { name, .. } => self.kind_of_name(name),
-            Expr::Index { array, .. } => self.kind_of_name(array),
-            Expr::Call { callee, .. } => result_kind(self.items, callee.items()),
-            Expr::Unary { op, arg, .. } => unary_kind(*op, self.kind_here(arg)),
-            Expr::Binary {
-                op,
-                left,
-                right,
-                ..
-            } => binary_kind(*op, self.kind_here(left), self.kind_here(right)),
-            Expr::Choice { yes, no, .. } => common(self.kind_here(yes), self.kind_here(no)),
-            Expr::Cast { to, .. } => *to,
-            Expr::Assign { target, .. } | Expr::Bump { target, .. } => {
-                self.kind_of_name(&target.name)
-            }
-            Expr::Comma { right, .. } => self.kind_here(right),
+        let mut operators = Vec::new(alloc);
+        let mut part = e;
+        'chain: loop {
+            let kind = match part {
+                Expr::Binary {
+                    op,
+                    left,
+                    right,
+                    ..
+                } => {
+                    let right = self.kind_here(alloc, right)?;
+                    operators.push(Operator { op: *op, right })?;
+                    part = left;
+                    continue 'chain;
+                }
+                Expr::Comma { right, .. } => {
+                    part = right;
+                    continue 'chain;
+                }
+                Expr::Number { kind, .. } => *kind,
+                Expr::Name { name, .. } => self.kind_of_name(name),
+                Expr::Index { array, .. } => self.kind_of_name(array),
+                Expr::Call { callee, .. } => result_kind(self.items, callee.items()),
+                Expr::Unary { op, arg, .. } => unary_kind(*op, self.kind_here(alloc, arg)?),
+                Expr::Choice { yes, no, .. } => {
+                    common(self.kind_here(alloc, yes)?, self.kind_here(alloc, no)?)
+                }
+                Expr::Cast { to, .. } => *to,
+                Expr::Assign { target, .. } | Expr::Bump { target, .. } => {
+                    self.kind_of_name(&target.name)
+                }
+            };
+            return Ok(around(operators, kind));
         }
     }
 

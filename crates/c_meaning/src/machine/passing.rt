@@ -15,11 +15,12 @@ use hls_base::point::PointKind;
 use std::alloc::{AllocError, Global};
 
 impl<'p> Machine<'p> {
-    ghost use Rattle.std.specs.Prelude.{◌≡◌, ◌+◌, ◌<◌, ℕ, IfOk, OnOk, OnErr, map, length};
+    ghost use Rattle.std.specs.Prelude.{◌≡◌, ◌+◌, ◌<◌, ◌≤◌, ℕ, IfOk, OnOk, OnErr, map, length};
     ghost use Rattle.c_tree.specs.View.{function_of, item_of};
     ghost use Rattle.c_meaning.specs.Moves.{point_passed, top_begun};
     ghost use Rattle.c_meaning.specs.Frames as f;
     ghost use Rattle.c_meaning.specs.Sound.{Sound};
+    ghost use Rattle.c_meaning.specs.Shape.{Shaped};
     ghost use Rattle.c_meaning.specs.Following.{keeps_following, is_done};
     ghost use Rattle.c_meaning.specs.Points.{count_point};
     ghost use Rattle.c_meaning.specs.Shown.{step_of};
@@ -75,10 +76,13 @@ impl<'p> Machine<'p> {
         requires left { 0 < self.old.meter.left }
         requires before { (configuration_of self.old).control ≡ f.before spot.kind spot.at (step_of step) }
         requires sound { Sound (configuration_of self.old) }
+        requires shaped { Shaped (configuration_of self.old) }
         ensures left { OnOk result (self.new.meter.left + 1 ≡ self.old.meter.left) }
         ensures total { self.new.meter.left + self.new.meter.passed ≡ self.old.meter.left + self.old.meter.passed }
+        ensures more { self.old.meter.passed ≤ self.new.meter.passed }
         ensures follows { keeps_following (configuration_of self.old) (configuration_of self.new) }
         ensures sound { Sound (configuration_of self.new) }
+        ensures shaped { Shaped (configuration_of self.new) }
     {
         self.count(alloc, spot, step)
     }
@@ -100,10 +104,13 @@ impl<'p> Machine<'p> {
     #[tactic(auto, using(crate::proofs::Keeping::keeping))]
     /// Goes on until no more points may be passed, or to the end of the run.
     pub fn run(&mut self, alloc: Global) -> Result<(), AllocError>
-        requires { Sound (configuration_of self.old) }
+        requires sound { Sound (configuration_of self.old) }
+        requires shaped { Shaped (configuration_of self.old) }
         ensures total { self.new.meter.left + self.new.meter.passed ≡ self.old.meter.left + self.old.meter.passed }
+        ensures more { self.old.meter.passed ≤ self.new.meter.passed }
         ensures follows { keeps_following (configuration_of self.old) (configuration_of self.new) }
         ensures sound { Sound (configuration_of self.new) }
+        ensures shaped { Shaped (configuration_of self.new) }
         ensures done { OnOk result (is_done (configuration_of self.new).control self.new.meter.left) }
     {
         self.run_on(alloc)?;

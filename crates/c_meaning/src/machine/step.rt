@@ -11,6 +11,7 @@ impl<'p> Machine<'p> {
     ghost use Rattle.c_meaning.specs.Moves.{stepped, given_value, given_end};
     ghost use Rattle.c_meaning.specs.Rest.{rest_of};
     ghost use Rattle.c_meaning.specs.Sound.{within, Sound};
+    ghost use Rattle.c_meaning.specs.Shape.{Shaped};
     ghost use Rattle.c_meaning.specs.Shown.{step_of, is_resting};
     ghost use Rattle.c_meaning.specs.Stacks.{stack_of};
     ghost use Rattle.c_meaning.specs.Machines.{configuration_of};
@@ -80,9 +81,11 @@ impl<'p> Machine<'p> {
     #[tactic(auto, using(crate::proofs::Running::running))]
     /// Goes on up to the next point, or to the end of the run.
     pub fn run_on(&mut self, alloc: Global) -> Result<(), AllocError>
-        requires { Sound (configuration_of self.old) }
+        requires sound { Sound (configuration_of self.old) }
+        requires shaped { Shaped (configuration_of self.old) }
         ensures rest { (left : ℕ) → rest_of left (configuration_of self.new) ≡ rest_of left (configuration_of self.old) }
         ensures sound { Sound (configuration_of self.new) }
+        ensures shaped { Shaped (configuration_of self.new) }
         ensures meter { self.new.meter ≡ self.old.meter }
         ensures done { OnOk result (is_resting (configuration_of self.new).control) }
     {

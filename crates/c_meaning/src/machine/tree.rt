@@ -1,8 +1,8 @@
 //! What is seen of an expression without evaluating it.
 ghost use Rattle.std.specs.Prelude.{◌≡◌, map};
 ghost use Rattle.std.specs.Option.{option_map, option_copied};
-ghost use Rattle.c_tree.specs.View.{tree_of, item_of, function_of};
-ghost use Rattle.c_meaning.specs.Expression.{acts};
+ghost use Rattle.c_tree.specs.View.{tree_of, trees_of, item_of, function_of};
+ghost use Rattle.c_meaning.specs.Expression.{acts, any_acts};
 ghost use Rattle.c_meaning.specs.Run.{definition_in, function_named, result_kind};
 
 use c_token::ctype::CType;
@@ -11,26 +11,45 @@ use c_tree::function::Function;
 use c_tree::program::Item;
 use c_value::kind::INT;
 
-#[tactic(auto, using(crate::proofs::Functions::acting))]
 /// Whether an expression has a call, an assignment, `++`, `--` or a comma.
+///
+/// Operators of one chain are gone through in a loop, so that the depth of the recursion is bounded by how deep the source nests.
+#[cycle(acts)]
+#[tactic(auto, using(crate::proofs::Functions::acting))]
 pub fn acts(e: &Expr) -> bool
     ensures { result ≡ acts (tree_of e.now) }
 {
-    match e {
-        Expr::Number { .. } | Expr::Name { .. } => false,
-        Expr::Index { subscripts, .. } => {
-            for subscript in subscripts {
-                if acts(subscript) {
+    let mut part = e;
+    'chain: loop {
+        match part {
+            Expr::Number { .. } | Expr::Name { .. } => return false,
+            Expr::Index { subscripts, .. } => return any_acts(subscripts),
+            Expr::Unary { arg, .. } | Expr::Cast { arg, .. } => part = arg,
+            Expr::Binary { left, right, .. } => {
+                if acts(right) {
                     return true;
                 }
+                part = left;
             }
-            false
+            Expr::Choice { test, yes, no, .. } => return acts(test) || acts(yes) || acts(no),
+            Expr::Call { .. } | Expr::Assign { .. } | Expr::Bump { .. } | Expr::Comma { .. } => {
+                return true;
+            }
         }
-        Expr::Unary { arg, .. } | Expr::Cast { arg, .. } => acts(arg),
-        Expr::Binary { left, right, .. } => acts(left) || acts(right),
-        Expr::Choice { test, yes, no, .. } => acts(test) || acts(yes) || acts(no),
-        Expr::Call { .. } | Expr::Assign { .. } | Expr::Bump { .. } | Expr::Comma { .. } => true,
     }
+}
+
+#[cycle(acts)]
+#[tactic(auto, using(crate::proofs::Functions::acting))]
+fn any_acts(es: &[Expr]) -> bool
+    ensures { result ≡ any_acts (trees_of es.now) }
+{
+    for e in es {
+        if acts(e) {
+            return true;
+        }
+    }
+    false
 }
 
 fn definition_in<'a>(item: &'a Item, name: &[u8]) -> Option<&'a Function>

@@ -1,4 +1,3 @@
-use Rattle.std.proofs.Common.{◌≡◌}
 use Rattle.c_tree.specs.Terminals.{terminals}
 use Rattle.c_tree.specs.Refusal.{IsFaultOf}
 use Rattle.c_parser.proofs.Passed.{passed_on}

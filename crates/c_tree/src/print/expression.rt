@@ -2,16 +2,19 @@ ghost use Rattle.std.specs.Prelude.{◌≡◌, ◌∷◌, [], ◌++◌, OnOk, tr
 ghost use Rattle.c_tree.specs.View.{tree_of, target_of, trees_of};
 ghost use Rattle.c_tree.specs.Grammar as grammar;
 ghost use Rattle.c_tree.specs.Rows as rows;
+ghost use Rattle.c_tree.specs.Behind.{behind_row, branch_row, cast_row, bump_row, call_row};
 ghost use Rattle.c_tree.specs.declared.print.row.Written.TheVariants as w;
 ghost use Rattle.c_token.specs.declared.token.TokenKind.TheVariants as k;
 
 use crate::expression::{Expr, Target};
 use crate::operator::{Binary, Unary};
+use crate::print::behind::{Behind, push_opening};
 use crate::print::kind::push_kind;
 use crate::print::row::{Written, push_comma, push_sign, push_word};
 use c_token::ctype::CType;
 use c_token::punct::Punct;
 use c_token::token::TokenKind;
+use hls_base::text::Text;
 use std::alloc::{AllocError, Global};
 
 pub const UNARY_LEVEL: u8 = 2;
@@ -131,6 +134,8 @@ pub fn push_infix(row: &mut Vec<Written>, punct: Punct) -> Result<(), AllocError
 }
 
 /// Appends an expression where one of this level may stand, in parentheses if its own is looser.
+///
+/// Operators of one chain are gone through in a loop, so that the depth of the recursion is bounded by how deep the source nests.
 #[cycle(expression)]
 pub fn push_expression(
     alloc: Global,
@@ -140,101 +145,175 @@ pub fn push_expression(
 ) -> Result<(), AllocError>
     ensures { OnOk result (row.new.items ≡ row.old.items ++ rows.expression_row level (tree_of e.now)) }
 {
-    if own_level(e) <= level {
-        return push_own(alloc, row, e);
+    let mut behind = Vec::new(alloc);
+    let mut level = level;
+    let mut part = e;
+    'chain: loop {
+        push_opening(row, &mut behind, own_level(part) <= level)?;
+        match part {
+            Expr::Binary {
+                op,
+                left,
+                right,
+                ..
+            } => {
+                behind.push(Behind::Operator(*op, right))?;
+                level = level_of(*op);
+                part = left;
+            }
+            Expr::Comma { left, right, .. } => {
+                behind.push(Behind::Comma(right))?;
+                level = COMMA_LEVEL;
+                part = left;
+            }
+            Expr::Assign {
+                target,
+                op,
+                value,
+                ..
+            } => {
+                push_target(alloc, row, target)?;
+                push_infix(row, assignment_sign(*op))?;
+                level = ASSIGN_LEVEL;
+                part = value;
+            }
+            Expr::Choice { test, yes, no, .. } => {
+                push_branch(alloc, row, test, yes)?;
+                level = CHOICE_LEVEL;
+                part = no;
+            }
+            Expr::Cast { to, arg, .. } => {
+                push_cast(alloc, row, *to)?;
+                level = UNARY_LEVEL;
+                part = arg;
+            }
+            Expr::Unary { op, arg, .. } => {
+                push_sign(row, prefix_sign(*op))?;
+                level = UNARY_LEVEL;
+                part = arg;
+            }
+            Expr::Bump {
+                target,
+                up,
+                post,
+                ..
+            } => break push_bump(alloc, row, target, *up, *post)?,
+            Expr::Call { callee, args, .. } => break push_call(alloc, row, callee, args)?,
+            Expr::Index {
+                array,
+                subscripts,
+                ..
+            } => break push_element(alloc, row, array, subscripts)?,
+            Expr::Name { name, .. } => break push_word(alloc, row, name.items())?,
+            Expr::Number { value, kind, .. } => break push_number(row, *value, *kind)?,
+        }
     }
+    push_behind(alloc, row, behind)
+}
+
+/// Appends what stands behind an operand, from the last part on.
+#[cycle(expression)]
+fn push_behind(
+    alloc: Global,
+    row: &mut Vec<Written>,
+    behind: Vec<Behind<'_>>,
+) -> Result<(), AllocError>
+    ensures { OnOk result (row.new.items ≡ row.old.items ++ behind_row behind.entry.items) }
+{
+    let mut behind = behind;
+    while let Some(part) = behind.pop() {
+        match part {
+            Behind::Closing => push_sign(row, Punct::RightParen)?,
+            Behind::Operator(op, right) => {
+                push_infix(row, operator_sign(op))?;
+                push_expression(alloc, row, level_of(op).saturating_sub(1), right)?;
+            }
+            Behind::Comma(right) => {
+                push_comma(row)?;
+                push_expression(alloc, row, ASSIGN_LEVEL, right)?;
+            }
+        }
+    }
+    Ok(())
+}
+
+/// Appends the first two operands of `?:`, with its signs.
+#[cycle(expression)]
+fn push_branch(
+    alloc: Global,
+    row: &mut Vec<Written>,
+    test: &Expr,
+    yes: &Expr,
+) -> Result<(), AllocError>
+    ensures { OnOk result (row.new.items ≡ row.old.items ++ branch_row (tree_of test.now) (tree_of yes.now)) }
+{
+    push_expression(alloc, row, BINARY_LEVEL, test)?;
+    push_infix(row, Punct::Question)?;
+    push_expression(alloc, row, COMMA_LEVEL, yes)?;
+    push_infix(row, Punct::Colon)
+}
+
+/// Appends a type in parentheses.
+fn push_cast(alloc: Global, row: &mut Vec<Written>, to: CType) -> Result<(), AllocError>
+    ensures { OnOk result (row.new.items ≡ row.old.items ++ cast_row to) }
+{
     push_sign(row, Punct::LeftParen)?;
-    push_own(alloc, row, e)?;
+    push_kind(alloc, row, false, to)?;
     push_sign(row, Punct::RightParen)
 }
 
 #[cycle(expression)]
-pub fn push_own(alloc: Global, row: &mut Vec<Written>, e: &Expr) -> Result<(), AllocError>
-    ensures { OnOk result (row.new.items ≡ row.old.items ++ rows.own_row (tree_of e.now)) }
+fn push_bump(
+    alloc: Global,
+    row: &mut Vec<Written>,
+    target: &Target,
+    up: bool,
+    post: bool,
+) -> Result<(), AllocError>
+    ensures { OnOk result (row.new.items ≡ row.old.items ++ bump_row (target_of target.now) up post) }
 {
-    match e {
-        Expr::Number { value, kind, .. } => push_number(row, *value, *kind),
-        Expr::Name { name, .. } => push_word(alloc, row, name.items()),
-        Expr::Index {
-            array,
-            subscripts,
-            ..
-        } => {
-            push_word(alloc, row, array.items())?;
-            push_subscripts(alloc, row, subscripts)
-        }
-        Expr::Call { callee, args, .. } => {
-            push_word(alloc, row, callee.items())?;
-            push_sign(row, Punct::LeftParen)?;
-            push_list(alloc, row, args)?;
-            push_sign(row, Punct::RightParen)
-        }
-        Expr::Unary { op, arg, .. } => {
-            push_sign(row, prefix_sign(*op))?;
-            push_expression(alloc, row, UNARY_LEVEL, arg)
-        }
-        Expr::Binary {
-            op,
-            left,
-            right,
-            ..
-        } => {
-            let level = level_of(*op);
-            push_expression(alloc, row, level, left)?;
-            push_infix(row, operator_sign(*op))?;
-            push_expression(alloc, row, level.saturating_sub(1), right)
-        }
-        Expr::Choice { test, yes, no, .. } => {
-            push_expression(alloc, row, BINARY_LEVEL, test)?;
-            push_infix(row, Punct::Question)?;
-            push_expression(alloc, row, COMMA_LEVEL, yes)?;
-            push_infix(row, Punct::Colon)?;
-            push_expression(alloc, row, CHOICE_LEVEL, no)
-        }
-        Expr::Cast { to, arg, .. } => {
-            push_sign(row, Punct::LeftParen)?;
-            push_kind(alloc, row, false, *to)?;
-            push_sign(row, Punct::RightParen)?;
-            push_expression(alloc, row, UNARY_LEVEL, arg)
-        }
-        Expr::Assign {
-            target,
-            op,
-            value,
-            ..
-        } => {
-            push_target(alloc, row, target)?;
-            push_infix(row, assignment_sign(*op))?;
-            push_expression(alloc, row, ASSIGN_LEVEL, value)
-        }
-        Expr::Bump {
-            target,
-            up,
-            post,
-            ..
-        } => {
-            if *post {
-                push_target(alloc, row, target)?;
-                push_sign(row, bump_sign(*up))
-            } else {
-                push_sign(row, bump_sign(*up))?;
-                push_target(alloc, row, target)
-            }
-        }
-        Expr::Comma { left, right, .. } => {
-            push_expression(alloc, row, COMMA_LEVEL, left)?;
-            push_comma(row)?;
-            push_expression(alloc, row, ASSIGN_LEVEL, right)
-        }
+    if post {
+        push_target(alloc, row, target)?;
+        push_sign(row, bump_sign(up))
+    } else {
+        push_sign(row, bump_sign(up))?;
+        push_target(alloc, row, target)
     }
+}
+
+#[cycle(expression)]
+fn push_call(
+    alloc: Global,
+    row: &mut Vec<Written>,
+    callee: &Text,
+    args: &[Expr],
+) -> Result<(), AllocError>
+    ensures { OnOk result (row.new.items ≡ row.old.items ++ call_row callee.now (trees_of args.now)) }
+{
+    push_word(alloc, row, callee.items())?;
+    push_sign(row, Punct::LeftParen)?;
+    push_list(alloc, row, args)?;
+    push_sign(row, Punct::RightParen)
+}
+
+#[cycle(expression)]
+fn push_element(
+    alloc: Global,
+    row: &mut Vec<Written>,
+    array: &Text,
+    subscripts: &[Expr],
+) -> Result<(), AllocError>
+    ensures { OnOk result (row.new.items ≡ row.old.items ++ rows.word array.now ∷ rows.subscripts_row (trees_of subscripts.now)) }
+{
+    push_word(alloc, row, array.items())?;
+    push_subscripts(alloc, row, subscripts)
 }
 
 #[cycle(expression)]
 pub fn push_target(alloc: Global, row: &mut Vec<Written>, target: &Target) -> Result<(), AllocError>
     ensures { OnOk result (row.new.items ≡ row.old.items ++ rows.target_row (target_of target.now)) }
 {
-    push_word(alloc, row, target.name.items())?;
-    push_subscripts(alloc, row, &target.subscripts)
+    push_element(alloc, row, &target.name, &target.subscripts)
 }
 
 #[cycle(expression)]

@@ -7,8 +7,8 @@ use crate::action::Action;
 use crate::expression::Expr;
 use crate::object::{Init, Object};
 use crate::print::expression::{
-    ASSIGN_LEVEL, CHOICE_LEVEL, assignment_sign, bump_sign, push_expression, push_infix, push_own,
-    push_target,
+    ASSIGN_LEVEL, CHOICE_LEVEL, COMMA_LEVEL, assignment_sign, bump_sign, push_expression,
+    push_infix, push_target,
 };
 use crate::print::kind::push_kind;
 use crate::print::row::{Written, push_comma, push_sign, push_word};
@@ -26,14 +26,15 @@ fn is_plain(value: &Expr) -> bool
 }
 
 /// Appends an expression whose value is not used, in parentheses where it could be read as a change.
+#[tactic(auto, using(crate::proofs::BehindRows::loosest))]
 fn push_value(alloc: Global, row: &mut Vec<Written>, value: &Expr) -> Result<(), AllocError>
     ensures { OnOk result (row.new.items ≡ row.old.items ++ rows.value_row (tree_of value.now)) }
 {
     if is_plain(value) {
-        return push_own(alloc, row, value);
+        return push_expression(alloc, row, COMMA_LEVEL, value);
     }
     push_sign(row, Punct::LeftParen)?;
-    push_own(alloc, row, value)?;
+    push_expression(alloc, row, COMMA_LEVEL, value)?;
     push_sign(row, Punct::RightParen)
 }
 

@@ -1,4 +1,4 @@
-use Rattle.std.proofs.Common.{◌≡◌, ap}
+use Rattle.std.proofs.Common.{ap}
 use Rattle.std.specs.Option.{option_map}
 use Rattle.c_tree.specs.View.{init_of}
 use Rattle.c_meaning.proofs.Initialising.{zeros_alone}

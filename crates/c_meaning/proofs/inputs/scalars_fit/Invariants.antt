@@ -1,6 +1,6 @@
 use Rattle.std.proofs.Common.{◌≡◌, map, drop}
 use Rattle.c_tree.specs.View.{param_of}
-use Rattle.c_meaning.specs.FittingInputs.{scalars_fit, arrays_fit}
+use Rattle.c_meaning.specs.FittingInputs.{scalars_fit}
 use Rattle.c_meaning.proofs.inputs.scalars_fit.Given as goal
 
 abbrev pub invariant-loop-param : goal.invariant-loop-param

@@ -1,6 +1,4 @@
-use Rattle.std.proofs.Common.{◌≡◌, List, ℕ, ◌∷◌, ◌∙◌, sym, ap, rules, arith}
-use Rattle.std.specs.Prelude.{nat_le, Some, None, if◌then◌else◌}
-use Rattle.hls_base.specs.ArrayAddress.{element_count}
+use Rattle.std.proofs.Common.{rules, arith}
 use Rattle.c_meaning.proofs.DimensionLengths.{many_inside, many_together, many_wide}
 use Rattle.c_meaning.proofs.lengths.+limited_count.Goals as goal
 use Rattle.c_meaning.proofs.lengths.+limited_count.Goals.{else-len-le65536-via-then-len-le65536+else-len-count-le65536, else-len-le65536-via-else-len-le65536}

@@ -1,4 +1,4 @@
-use Rattle.std.proofs.Common.{◌≡◌, ◌<◌, map, drop, length}
+use Rattle.std.proofs.Common.{◌≡◌, ◌<◌, map, drop}
 use Rattle.std.specs.List.{All}
 use Rattle.std.specs.Option.{option_map}
 use Rattle.c_tree.specs.View.{object_of, tree_of}

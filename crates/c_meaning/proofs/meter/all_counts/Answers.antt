@@ -1,4 +1,4 @@
-use Rattle.std.proofs.Common.{◌≡◌, ap, sym, arith, ℕ}
+use Rattle.std.proofs.Common.{ap, sym, arith, ℕ}
 use Rattle.c_meaning.specs.declared.meter.NumberedPoint.{NumberedPoint}
 use Rattle.std.proofs.lemmas.Option.{get_or_from_slice_get}
 use Rattle.c_meaning.specs.Metering.{point_of}

@@ -1,4 +1,4 @@
-use Rattle.std.proofs.Common.{◌∙◌, ap, rules}
+use Rattle.std.proofs.Common.{ap}
 use Rattle.std.proofs.lemmas.Option.{slice_get_within}
 use Rattle.c_meaning.specs.PassedPaths.{path_in}
 use Rattle.c_meaning.proofs.PathNumbers.{extends-both}

@@ -1,4 +1,4 @@
-use Rattle.std.proofs.Common.{◌≡◌, ◌∙◌, ℕ, ◌+◌, ◌-◌, sym, ap, arith}
+use Rattle.std.proofs.Common.{◌∙◌}
 use Rattle.c_meaning.proofs.Zeros.{zeros-next}
 use Rattle.c_meaning.proofs.store.write_zeros.Goals as goal
 

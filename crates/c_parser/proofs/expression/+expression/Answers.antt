@@ -1,12 +1,14 @@
-use Rattle.std.proofs.Common.{◌≡◌, ◌≢◌, ◌∙◌, sym, ap, subst, refl, rules, arith, length, map, append-nil}
+use Rattle.std.proofs.Common.{◌≡◌, ◌≢◌, ◌∙◌, sym, ap, refl, rules, arith, length, map, append-nil, ◌++◌, ◌∷◌, []}
 use Rattle.std.proofs.lemmas.Result.{IfOk-weaker}
 use Rattle.c_token.specs.declared.punct.Punct.TheVariants as p
 use Rattle.c_tree.specs.Terminals.{is_keyword}
 use Rattle.c_tree.specs.View.{tree_of}
 use Rattle.c_parser.specs.Types.{opens_cast}
+use Rattle.c_parser.specs.Chains.{all_assigned}
+use Rattle.c_parser.specs.declared.chain.Assigned.{Assigned}
 use Rattle.c_parser.proofs.Exits.{IfAbsent-weaker, through}
-use Rattle.c_parser.proofs.Readings.{step_found, step_never, tail_found, tail_absent, then_found, then_stuck, then_never, apart_found, apart_stuck, apart_never, grows_more, grows_last, grows_never, listed_more, listed_never, listed_closed, listed_unclosed, pushed, sign_apart, repeated_more, repeated_never, sign_found}
-use Rattle.c_parser.proofs.Chains.{Groups, chain_first, chain_first_never, chain_more, chain_never, chain_last}
+use Rattle.c_parser.proofs.Readings.{step_none, step_more, step_found, step_never, tail_found, tail_absent, then_found, then_stuck, then_never, apart_found, apart_stuck, apart_never, grows_more, grows_last, grows_never, listed_more, listed_never, listed_closed, listed_unclosed, pushed, sign_apart, repeated_more, repeated_never, sign_found}
+use Rattle.c_parser.proofs.Chains.{Groups, chain_first, chain_first_never, chain_more, chain_never, chain_last, assigned_last}
 use Rattle.c_parser.proofs.Operands.{number_found, keyword_never, sign_never_here, named_step, group_step, call_step, alone_step, target_found, target_absent, target_never, bump_found, bump_absent, bump_none, postfix_never, prefix_step, bump_step, cast_step, bare_step, chosen_step, unchosen_found, either_never, set_step, set_absent, unset_found, setting_never, closes_apart}
 use Rattle.c_parser.proofs.Subscripts.{arguments_step, no_arguments, signs_step, no_stop, subscripts_end, subscripts_apart, comma_ends, paren_ends, paren_no_comma}
 use Rattle.c_parser.proofs.expression.+expression.Goals as goal
@@ -45,25 +47,34 @@ arguments-returns-clause-absent t c = let x = c.if-eat.ensures in
     tail_absent _ _ _ (arguments_step _ _ x.0 x.1) c.argument_list.ensures.absent
 
 -- ---- assignment
+pub assignment-chain-init : goal.assignment-chain-init
+assignment-chain-init t c = record {
+  shorter = omega arith;
+  step = step_none _ _ refl (λ value. ap (λ chain. all_assigned chain value) c.new-chain.ensures.items);
+}
+
 pub assignment-returns-in_err-left-clause-absent : goal.assignment-returns-in_err-left-clause-absent
-assignment-returns-in_err-left-clause-absent t c = through _ c.in_err-left.field-0.0 _ _ c.from_residual.ensures.1 (λ y e. e) c.in_err-left.ensures.absent (λ n. setting_never _ n)
+assignment-returns-in_err-left-clause-absent t c =
+    through _ c.in_err-left.field-0.0 _ _ c.from_residual.ensures.1 (λ y e. e) c.in_err-left.ensures.absent (λ n. step_never _ _ c.chain.invariant.step (setting_never _ n))
 
 pub assignment-returns-in_default-clause-found : goal.assignment-returns-in_default-clause-found
-assignment-returns-in_default-clause-found t c = let o = c.in_default.ensures in unset_found _ _ _ _ o.0 c.in_ok-left.ensures.found o.1
+assignment-returns-in_default-clause-found t c = let o = c.in_default.ensures in
+    step_found _ _ _ _ _ c.in_ok-assign_all.ensures c.chain.invariant.step (unset_found _ _ _ _ o.0 c.in_ok-left.ensures.found o.1)
 
 pub assignment-returns-in_err-target-clause-absent : goal.assignment-returns-in_err-target-clause-absent
 assignment-returns-in_err-target-clause-absent t c = let o = c.in-Some.ensures in
     through _ c.in_err-target.field-0.0 _ _ c.from_residual-in_err-target.ensures.1 (λ y e. e) c.in_err-target.ensures.absent
-    (λ n. set_absent _ _ _ _ _ o.0 _ _ c.opens_paren-grouped.ensures c.in_ok-left.ensures.found o.1 o.2 n)
+    (λ n. step_never _ _ c.chain.invariant.step (set_absent _ _ _ _ _ o.0 _ _ c.opens_paren-grouped.ensures c.in_ok-left.ensures.found o.1 o.2 n))
 
-pub assignment-returns-in_err-value-clause-absent : goal.assignment-returns-in_err-value-clause-absent
-assignment-returns-in_err-value-clause-absent t c = let o = c.in-Some.ensures in
-    through _ c.in_err-value.field-0.0 _ _ c.from_residual-in_err-value.ensures.1 (λ y e. e) c.in_err-value.ensures.absent
-    (λ n. step_never _ _ (set_step _ _ _ _ _ o.0 _ _ _ c.opens_paren-grouped.ensures c.in_ok-left.ensures.found o.1 o.2 c.in_ok-target.ensures.found) n)
-
-pub assignment-returns-clause-found : goal.assignment-returns-clause-found
-assignment-returns-clause-found t c = let o = c.in-Some.ensures in
-    step_found _ _ _ _ _ c.in_ok-assign.ensures (set_step _ _ _ _ _ o.0 _ _ _ c.opens_paren-grouped.ensures c.in_ok-left.ensures.found o.1 o.2 c.in_ok-target.ensures.found) c.in_ok-value.ensures.found
+pub assignment-chain-preserved : goal.assignment-chain-preserved
+assignment-chain-preserved t c = let o = c.in-Some.ensures in
+    let one : Assigned = record { target = c.in_ok-target.target; op = c.in-Some.op; at = c.in-Some.at } in
+    let grown : c.push.new.self.items ≡ c.chain.chain.items ++ one ∷ [] = grind arith in
+    record {
+      shorter = omega (arith, c.chain.invariant.shorter, c.in_ok-left.ensures.shorter, ap length o.1);
+      step = step_more _ _ _ (λ value. ap (λ chain. all_assigned chain value) grown ∙ assigned_last c.chain.chain.items one value) c.chain.invariant.step
+          (set_step _ _ _ _ _ o.0 _ _ _ c.opens_paren-grouped.ensures c.in_ok-left.ensures.found o.1 o.2 c.in_ok-target.ensures.found);
+    }
 
 -- ---- cast
 pub cast-returns-in_err-to-clause-absent : goal.cast-returns-in_err-to-clause-absent

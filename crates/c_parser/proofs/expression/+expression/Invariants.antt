@@ -1,9 +1,10 @@
 use Rattle.std.proofs.Common.{◌+◌, ◌*◌, ◌<◌, ◌≤◌, length, map}
 use Rattle.c_token.specs.declared.punct.Punct.TheVariants as p
 use Rattle.c_tree.specs.View.{tree_of}
-use Rattle.c_parser.specs.Readings.{Closed, Listed}
+use Rattle.c_parser.specs.Chains.{all_assigned}
+use Rattle.c_parser.specs.Readings.{Listed, Ends}
 use Rattle.c_parser.specs.Expressions.{Expression}
-use Rattle.c_parser.proofs.Readings.{Grows}
+use Rattle.c_parser.proofs.Readings.{Grows, Step}
 use Rattle.c_parser.proofs.Chains.{Runs}
 use Rattle.c_parser.proofs.Subscripts.{SubscriptSigns}
 use Rattle.c_parser.proofs.expression.+expression.Given as goal
@@ -50,6 +51,15 @@ decreases-argument_list l = 1000 * length l.cursor.now + 60
 
 abbrev pub decreases-subscripts : goal.decreases-subscripts
 decreases-subscripts l = 1000 * length l.cursor.now + 60
+
+abbrev pub invariant-assignment-chain : goal.invariant-assignment-chain
+invariant-assignment-chain l = record {
+  shorter : length l.cursor ≤ length l.fn.cursor;
+  step : Step (Expression 14) (Ends 14) l.fn.cursor (Expression 14) (Ends 14) l.cursor (all_assigned l.chain.items);
+}
+
+abbrev pub decreases-assignment-chain : goal.decreases-assignment-chain
+decreases-assignment-chain l = length l.cursor
 
 abbrev pub invariant-argument_list-loop-args : goal.invariant-argument_list-loop-args
 invariant-argument_list-loop-args l = record {

@@ -1,4 +1,4 @@
-use Rattle.std.proofs.Common.{◌∙◌, ap, sym, arith, length, map, append-nil}
+use Rattle.std.proofs.Common.{◌∙◌, ap, sym, map, append-nil}
 use Rattle.c_tree.specs.View.{item_of}
 use Rattle.c_parser.proofs.Exits.{through}
 use Rattle.c_parser.proofs.Readings.{grows_more, grows_last, grows_never, repeated_more, repeated_never, pushed}

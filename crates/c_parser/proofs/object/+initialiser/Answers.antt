@@ -1,4 +1,4 @@
-use Rattle.std.proofs.Common.{◌∙◌, sym, ap, refl, arith, length, map}
+use Rattle.std.proofs.Common.{◌∙◌, ap, refl, arith, map}
 use Rattle.c_tree.specs.View.{init_of}
 use Rattle.c_parser.proofs.Exits.{through}
 use Rattle.c_parser.proofs.Readings.{step_found, step_never, grows_more, grows_last, grows_never, pushed}

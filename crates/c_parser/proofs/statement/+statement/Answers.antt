@@ -1,4 +1,4 @@
-use Rattle.std.proofs.Common.{◌≡◌, ◌∙◌, [], ◌∷◌, sym, ap, subst, refl, arith, length, map, append-nil}
+use Rattle.std.proofs.Common.{◌∙◌, [], ◌∷◌, sym, ap, subst, refl, arith, length, map, append-nil}
 use Rattle.c_tree.specs.Grammar.{ends_open}
 use Rattle.c_tree.specs.View.{stmt_of}
 use Rattle.c_parser.specs.Readings.{Never, Anywhere}

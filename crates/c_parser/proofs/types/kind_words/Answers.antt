@@ -1,5 +1,5 @@
-use Rattle.std.proofs.Common.{◌∙◌, arith, ap, sym, length, append-nil}
-use Rattle.c_parser.proofs.Readings.{grows_more, grows_last, repeated_more, repeated_last}
+use Rattle.std.proofs.Common.{arith, ap, sym, length, append-nil}
+use Rattle.c_parser.proofs.Readings.{grows_more, grows_last, repeated_more}
 use Rattle.c_parser.proofs.TypeWords.{sign_found_here, no_words_here, word_goes_on, word_apart}
 use Rattle.c_parser.proofs.types.kind_words.Goals as goal
 

@@ -1,7 +1,7 @@
-use Rattle.std.proofs.Common.{◌∙◌, sym, arith, ap, take, drop}
-use Rattle.std.proofs.Math.Seq.{drop-cons, take-suc}
+use Rattle.std.proofs.Common.{◌∙◌, sym, arith, ap, take}
+use Rattle.std.proofs.Math.Seq.{drop-cons}
 use Rattle.c_tree.specs.Kinds.{without_one}
-use Rattle.c_parser.proofs.WordLists.{prefixed, same_word, other_word}
+use Rattle.c_parser.proofs.WordLists.{prefixed, same_word}
 use Rattle.c_parser.proofs.types.position_of.Goals as goal
 
 pub returns-then-is_same : goal.returns-then-is_same

@@ -1,4 +1,4 @@
-use Rattle.std.proofs.Common.{◌≡◌, refl, ap, sym, ◌∙◌, rules, Some, None}
+use Rattle.std.proofs.Common.{◌≡◌, refl, rules, Some, None}
 use Rattle.c_parser.specs.Types.{type_among, names, specifiers, has_const}
 use Rattle.c_parser.proofs.TypeWords.{kind_found, kind_never}
 use Rattle.c_parser.proofs.types.some_kind.Goals as goal

@@ -1,4 +1,3 @@
-use Rattle.std.proofs.Common.{◌≡◌, ◌<◌, ℕ, length}
 use Rattle.c_types.specs.Linked.{HasSources}
 use Rattle.c_types.proofs.recursion.all_sources.Given as goal
 

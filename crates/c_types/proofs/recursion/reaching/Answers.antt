@@ -1,4 +1,4 @@
-use Rattle.std.proofs.Common.{◌≡◌, ◌<◌, ◌≤◌, ◌+◌, ◌∙◌, [], length, subst, arith}
+use Rattle.std.proofs.Common.{◌≡◌, ◌∙◌, length, subst, arith}
 use Rattle.c_types.specs.Linked.{AreBelow, Marks}
 use Rattle.c_types.proofs.Rounds.{Reached, Reached-more, Reached-all, empty_if}
 use Rattle.c_types.proofs.recursion.reaching.Goals as goal

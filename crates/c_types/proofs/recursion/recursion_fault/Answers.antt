@@ -1,4 +1,4 @@
-use Rattle.std.proofs.Common.{◌≡◌, ℕ, ◌+◌, List, length, drop, refl, subst, sym, ap, ◌∙◌}
+use Rattle.std.proofs.Common.{◌≡◌, ◌+◌, length, drop, refl, subst, sym, ap, ◌∙◌}
 use Rattle.c_checked.specs.Faults.{least}
 use Rattle.c_checked.specs.Calls.{number_of, links, round_faults, recursion_faults}
 use Rattle.c_types.proofs.Least.{least_more}

@@ -1,4 +1,4 @@
-use Rattle.std.proofs.Common.{◌≡◌, ◌<◌, ◌||◌, take, length, get_or, sym, ap, ◌∙◌, arith}
+use Rattle.std.proofs.Common.{◌<◌, ◌||◌, take, length, get_or, sym, ap, ◌∙◌, arith}
 use Rattle.c_types.specs.Linked.{is_among, calls_one}
 use Rattle.c_types.proofs.Rounds.{spreads_more, calls_taken, row_is}
 use Rattle.c_types.proofs.recursion.spread.Goals as goal

@@ -1,15 +1,12 @@
 -- What is made of the program that was found.
 use Rattle.std.proofs.Common.{◌≡◌, List, ℕ, ◌≤◌, length, sym, subst}
-use Rattle.rtl_core.specs.Netlist.{Netlist}
 use Rattle.rtl_core.specs.ModuleText.{IsModuleText}
-use Rattle.rtl_core.specs.Agreement.{Agrees}
 use Rattle.verilog_print.specs.PrintableNames.{HasPrintableNames}
 use Rattle.cycle_report.specs.ReportForm.{HasForm, IsReport}
 use Rattle.sum_program.specs.SumForm.{IsWord}
 use Rattle.hls_base.specs.declared.refusal.Refusal.{Refusal}
 use Rattle.sum_program.specs.declared.program.Sum.{Sum}
 use Rattle.hls_flow.specs.FirstFault.{IsFirstFault}
-use Rattle.sum_circuit.specs.SumCircuit.{sum_interface, sum_answers}
 use Rattle.hls_flow.proofs.Words.{identifier_of}
 use Rattle.hls_flow.proofs.SumMade.{names_printable, has_form, correct}
 use Rattle.hls_flow.proofs.Outcomes.{passed_on}
@@ -36,7 +33,6 @@ returns-clause-made c =
     correct c.args.source.now c.args.settings.now program c.in_ok-module.module c.in_ok-report-2.report found
     (subst (IsModuleText c.in_ok-module.module) c.in_ok-design.ensures.exact c.in_ok-module.ensures.circuit)
     (subst (IsReport c.in_ok-report-2.report) c.in_ok-report.ensures c.in_ok-report-2.ensures.related)
-    (λ file_scope. let P : Netlist → Type 0 = λ d. Agrees d sum_interface 0 file_scope (sum_answers program) in subst P c.in_ok-design.ensures.exact (c.in_ok-design.ensures.agrees file_scope))
 
 pub returns-in_err-program-clause-once : goal.returns-in_err-program-clause-once
 returns-in_err-program-clause-once c =

@@ -1,11 +1,10 @@
-use Rattle.std.proofs.Common.{◌≡◌, ◌∙◌, ap, length, map, rules, arith}
+use Rattle.std.proofs.Common.{◌≡◌, ◌∙◌, ap, rules, arith}
 use Rattle.std.proofs.lemmas.Grind.{common_steps}
 use Rattle.std.specs.Option.{option_map}
 use Rattle.c_tree.specs.View.{stmts_of}
 use Rattle.c_value.specs.Values.{promoted, convert}
-use Rattle.c_meaning.specs.Store.{unwritten, declared_in}
 use Rattle.c_meaning.specs.Statement.{target_label}
-use Rattle.c_meaning.specs.Moves.{landing, jumped, landed}
+use Rattle.c_meaning.specs.Moves.{landing}
 use Rattle.c_meaning.specs.Labels.{landing_of}
 use Rattle.c_meaning.specs.Machines.{configuration_of}
 use Rattle.c_meaning.proofs.Jumping.{on_ok, jumped-is}

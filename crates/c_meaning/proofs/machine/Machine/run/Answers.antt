@@ -1,4 +1,4 @@
-use Rattle.std.proofs.Common.{◌≡◌, ap, ℕ, ◌+◌, arith}
+use Rattle.std.proofs.Common.{ap, ◌+◌, arith}
 use Rattle.c_meaning.specs.Reading.{Reading}
 use Rattle.c_meaning.specs.Machines.{configuration_of}
 use Rattle.c_meaning.proofs.Keeping.{keeps-same, keeps-both}
@@ -11,12 +11,15 @@ returns-in_err-pass-clause-follows c =
 pub loop-alloc-preserved : goal.loop-alloc-preserved
 loop-alloc-preserved c =
     let total = ap (λ (r : Reading). r.left + r.passed) c.run_on-in-loop-alloc.ensures.meter in
+    let same = ap (λ (r : Reading). r.passed) c.run_on-in-loop-alloc.ensures.meter in
     record {
       total = omega (arith, total, c.pass.ensures.total, c.loop-alloc.invariant.total);
+      more = omega (arith, same, c.pass.ensures.more, c.loop-alloc.invariant.more);
       follows = keeps-both (configuration_of c.args.self.now) (configuration_of c.pass.new.self) (configuration_of c.run_on-in-loop-alloc.new.self)
           (keeps-both (configuration_of c.args.self.now) (configuration_of c.loop-alloc.self) (configuration_of c.pass.new.self) c.loop-alloc.invariant.follows c.pass.ensures.follows)
           (keeps-same (configuration_of c.pass.new.self) (configuration_of c.run_on-in-loop-alloc.new.self) c.run_on-in-loop-alloc.ensures.meter c.run_on-in-loop-alloc.ensures.rest);
       sound = c.run_on-in-loop-alloc.ensures.sound;
+      shaped = c.run_on-in-loop-alloc.ensures.shaped;
       resting = c.in_ok-run_on-2.ensures.done;
     }
 

@@ -1,8 +1,8 @@
-use Rattle.std.proofs.Common.{◌≡◌, ◌∙◌, ap, rules}
+use Rattle.std.proofs.Common.{◌≡◌, ◌∙◌, rules}
 use Rattle.c_meaning.specs.Frames as f
-use Rattle.c_meaning.specs.Shown.{step_of, control_of, going_of}
+use Rattle.c_meaning.specs.Shown.{step_of}
 use Rattle.c_meaning.specs.Machines.{configuration_of}
-use Rattle.c_meaning.proofs.Running.{moved-rest, moved-sound, moved-meter, moved-less}
+use Rattle.c_meaning.proofs.Running.{moved-rest, moved-sound, moved-shaped, moved-meter, moved-less}
 use Rattle.c_meaning.proofs.machine.Machine.run_on.Goals as goal
 
 pub loop-self-smaller : goal.loop-self-smaller
@@ -19,4 +19,5 @@ loop-self-preserved c =
       λ left. moved-rest left s m m1 now c.loop-self.invariant.1 c.in_ok-step.ensures.ok ∙ c.loop-self.invariant.0 left,
       moved-sound s m m1 now c.loop-self.invariant.1 c.in_ok-step.ensures.ok,
       moved-meter s m m1 c.in_ok-step.ensures.ok ∙ c.loop-self.invariant.2,
+      moved-shaped s m m1 now c.loop-self.invariant.3 c.in_ok-step.ensures.ok,
     )

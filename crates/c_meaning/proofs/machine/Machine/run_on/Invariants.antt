@@ -1,6 +1,7 @@
 use Rattle.std.proofs.Common.{◌≡◌, ℕ}
 use Rattle.c_meaning.specs.Rest.{rest_of}
 use Rattle.c_meaning.specs.Sound.{Sound}
+use Rattle.c_meaning.specs.Shape.{Shaped}
 use Rattle.c_meaning.specs.Machines.{configuration_of}
 use Rattle.c_meaning.proofs.Weights.{weight}
 use Rattle.c_meaning.proofs.machine.Machine.run_on.Given as goal
@@ -10,6 +11,7 @@ invariant-loop-self l =
     ((left : ℕ) → rest_of left (configuration_of l.self) ≡ rest_of left (configuration_of l.initial.self))
     × Sound (configuration_of l.self)
     × (l.self.meter ≡ l.initial.self.meter)
+    × Shaped (configuration_of l.self)
 
 abbrev pub decreases-loop-self : goal.decreases-loop-self
 decreases-loop-self l = weight (configuration_of l.self)

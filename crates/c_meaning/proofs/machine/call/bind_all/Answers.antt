@@ -1,7 +1,6 @@
-use Rattle.std.proofs.Common.{◌≡◌, ◌∙◌, ap, sym, refl, List, [], ◌++◌, map}
+use Rattle.std.proofs.Common.{◌∙◌, ap, sym, ◌++◌, map}
 use Rattle.std.proofs.lemmas.List.{append-nil}
 use Rattle.c_tree.specs.View.{param_of}
-use Rattle.c_meaning.specs.Store.{Object, Environment, State}
 use Rattle.c_meaning.specs.Run.{parameters}
 use Rattle.c_meaning.specs.Objects.{state}
 use Rattle.c_meaning.proofs.machine.call.bind_all.Goals as goal

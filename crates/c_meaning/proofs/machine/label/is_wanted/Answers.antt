@@ -1,4 +1,4 @@
-use Rattle.std.proofs.Common.{◌≡◌, ◌∙◌, sym, refl, ap, Bool, true, false, Option}
+use Rattle.std.proofs.Common.{◌≡◌, ◌∙◌, refl, true, false, Option}
 use Rattle.std.specs.Option.{option_map}
 use Rattle.c_tree.specs.Tree.{Tree}
 use Rattle.c_tree.specs.View.{tree_of}

@@ -1,7 +1,7 @@
-use Rattle.std.proofs.Common.{◌≡◌, ◌∙◌, sym, refl, ap, not, Bool, true, false, ℤ, Option, if◌then◌else◌, rules, arith}
+use Rattle.std.proofs.Common.{◌≡◌, ◌∙◌, refl, ap, not, Bool, true, false, ℤ, if◌then◌else◌, rules, arith}
 use Rattle.std.proofs.lemmas.Int.{ints}
 use Rattle.c_token.specs.declared.ctype.CType.{CType}
-use Rattle.c_tree.specs.Tree.{Tree, StmtTrees}
+use Rattle.c_tree.specs.Tree.{StmtTrees}
 use Rattle.c_tree.specs.View.{stmts_of}
 use Rattle.c_meaning.specs.Statement.{is_label, is_default, any_label, target_label}
 use Rattle.c_meaning.specs.Labels.{wanted_by}

@@ -1,8 +1,8 @@
-use Rattle.std.proofs.Common.{◌≡◌, ◌∙◌, ap, sym, arith, rules, refl, unwrap_or, ◌+◌, ◌-◌}
+use Rattle.std.proofs.Common.{◌∙◌, ap, arith, refl, ◌+◌, ◌-◌}
 use Rattle.c_meaning.specs.Reading.{Reading}
 use Rattle.c_meaning.specs.Points.{count_point}
-use Rattle.c_meaning.specs.Metering.{AreSound, counts_of}
-use Rattle.c_meaning.proofs.Counting.{SameCounts, Counted, more_calls, one_more, same_rows, before-le, count_before, same_view, on_err, less_one}
+use Rattle.c_meaning.specs.Metering.{counts_of}
+use Rattle.c_meaning.proofs.Counting.{Counted, more_calls, one_more, same_rows, before-le, count_before, same_view, on_err, less_one}
 use Rattle.c_meaning.proofs.meter.Meter.count.Goals as goal
 
 pub invariant_of-self : goal.invariant_of-self

@@ -1,4 +1,4 @@
-use Rattle.std.proofs.Common.{◌≡◌, refl, ap, sym, ◌∙◌, false}
+use Rattle.std.proofs.Common.{refl, ap, sym, ◌∙◌}
 use Rattle.c_parser.specs.Types.{opens_cast}
 use Rattle.c_parser.proofs.WordLists.{lacks_paren}
 use Rattle.c_parser.proofs.cursor.Cursor.cast.Goals as goal

@@ -1,8 +1,7 @@
-use Rattle.std.proofs.Common.{◌≡◌, ◌∙◌, ℕ, ◌+◌, ◌^◌, ◌≤◌, ap, sym, List, [], ◌∷◌, ◌++◌, length, take, reverse, arith}
-use Rattle.c_meaning.specs.declared.names.Binding.{Binding}
+use Rattle.std.proofs.Common.{◌∙◌, ◌+◌, ap, [], ◌∷◌, ◌++◌, reverse}
 use Rattle.std.proofs.lemmas.List.{reverse-append}
 use Rattle.c_meaning.specs.declared.machine.scopes.Scope.{Scope}
-use Rattle.c_meaning.specs.Scopes.{Environments, are_nested}
+use Rattle.c_meaning.specs.Scopes.{Environments}
 use Rattle.c_meaning.specs.Names.{begun}
 use Rattle.c_meaning.proofs.Scoping.{shown, call-put, calls-cut, calls-put, anyway}
 use Rattle.c_meaning.proofs.machine.scopes.Scopes.call.Goals as goal

@@ -1,6 +1,6 @@
-use Rattle.std.proofs.Common.{◌≡◌, ◌∙◌, ℕ, ◌+◌, ◌^◌, ◌≤◌, ap, sym, List, [], ◌∷◌, ◌++◌, length, take, reverse, arith}
+use Rattle.std.proofs.Common.{◌∙◌, ◌+◌, ap, reverse, arith}
 use Rattle.c_meaning.specs.declared.names.Binding.{Binding}
-use Rattle.c_meaning.specs.Scopes.{Environments, are_nested}
+use Rattle.c_meaning.specs.Scopes.{Environments}
 use Rattle.c_meaning.specs.Store.{declared}
 use Rattle.c_meaning.proofs.Scoping.{shown, name-put, names-cut, nested-name, anyway}
 use Rattle.c_meaning.proofs.machine.scopes.Scopes.declare.Goals as goal

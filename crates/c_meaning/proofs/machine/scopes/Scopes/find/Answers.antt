@@ -1,5 +1,5 @@
-use Rattle.std.proofs.Common.{◌≡◌, ◌∙◌, ap, arith}
-use Rattle.c_meaning.specs.Store.{object_found, find_name, object_named}
+use Rattle.std.proofs.Common.{ap}
+use Rattle.c_meaning.specs.Store.{object_named}
 use Rattle.c_meaning.specs.Scopes.{Environments}
 use Rattle.c_meaning.proofs.Scoping.{slice-names}
 use Rattle.c_meaning.proofs.machine.scopes.Scopes.find.Goals as goal
