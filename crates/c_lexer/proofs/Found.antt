@@ -13,7 +13,8 @@ use Rattle.c_token.specs.declared.token.TokenKind.TheVariants as k
 use Rattle.c_token.specs.Characters.{Opening, at_line_end, at_space, at_line_comment, at_block_comment, at_token, opening, is_letter, is_digit}
 use Rattle.c_token.specs.Spelling.{in_word, in_number, in_line_comment, IsSign, spelling}
 use Rattle.c_token.specs.Constants.{IsConstant}
-use Rattle.c_token.specs.SourceText.{Line, empty, hash, pragma_line, tokens, is_first, Standing, Piece, gap, line_end, lexeme, pragma, piece_text, is_hash, after, Found, next, ends, fault, given, token_at, is_pragma, word_found, LongestToken, AtToken, At, Finds, place_after, refused}
+use Rattle.c_token.specs.SourceText.{Line, empty, hash, pragma_line, tokens, is_first, Standing, Piece, gap, line_end, lexeme, pragma, piece_text, is_hash, after, Found, next, ends, fault, given, token_at, is_pragma, word_found, LongestToken, AtToken, At, Finds, refused}
+use Rattle.hls_base.specs.TextPlaces.{place_after}
 use Rattle.c_lexer.specs.Runs.{IsRun, IsFirstClose}
 use Rattle.c_lexer.specs.Signs.{IsLongestSign}
 use Rattle.c_lexer.specs.Views.{Fits, put, Steps}

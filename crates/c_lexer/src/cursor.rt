@@ -1,8 +1,9 @@
 ghost use Rattle.std.specs.Prelude.{◌≡◌, ◌+◌, ◌<◌, ◌≤◌, ◌^◌, length, take, drop, slice_index, true};
-ghost use Rattle.c_token.specs.SourceText.{next_place, place_after, start_of, Standing, gap, line_end, after, fault, is_first, source_limit};
+ghost use Rattle.c_token.specs.SourceText.{start_of, Standing, gap, line_end, after, fault, is_first, source_limit};
+ghost use Rattle.hls_base.specs.TextPlaces.{next_place, place_after};
 ghost use Rattle.c_lexer.specs.Views.{line_of};
 
-use hls_base::place::Place;
+use hls_base::place::{Place, TEXT_START, place_after};
 use hls_base::refusal::{Fail, Refusal};
 use std::marker::Model;
 
@@ -13,41 +14,6 @@ pub enum Line {
     Hash,
     Pragma,
     Tokens,
-}
-
-fn next_place(at: Place, byte: u8) -> Place
-    requires line { at.line + 1 < 2 ^ 32 }
-    requires column { at.column + 1 < 2 ^ 32 }
-    ensures { result ≡ next_place at byte }
-{
-    if byte == b'\n' {
-        Place {
-            line: at.line + 1,
-            column: 1,
-            part: 0,
-        }
-    } else {
-        Place {
-            line: at.line,
-            column: at.column + 1,
-            part: 0,
-        }
-    }
-}
-
-/// The place just behind these bytes.
-pub fn place_after(at: Place, bytes: &[u8]) -> Place
-    requires line { at.line + length bytes.now < 2 ^ 32 }
-    requires column { at.column + length bytes.now < 2 ^ 32 }
-    ensures value { result ≡ place_after at bytes.now }
-    ensures line { result.line ≤ at.line + length bytes.now }
-    ensures column { result.column ≤ at.column + length bytes.now }
-{
-    let mut place = at;
-    for byte in bytes {
-        place = next_place(place, *byte);
-    }
-    place
 }
 
 /// The bytes that are left, and what is known of those before.
@@ -78,11 +44,7 @@ impl<'a> Cursor<'a> {
     {
         Cursor {
             left: source,
-            place: Place {
-                line: 1,
-                column: 1,
-                part: 0,
-            },
+            place: TEXT_START,
             line: Line::Empty,
             glued: true,
         }

@@ -2,7 +2,8 @@
 #![tactic(auto)]
 
 ghost use Rattle.std.specs.Prelude.{◌≡◌, ◌≤◌, IfOk, length};
-ghost use Rattle.c_token.specs.SourceText.{Spells, FirstFault, source_start, source_limit, place_after};
+ghost use Rattle.c_token.specs.SourceText.{Spells, FirstFault, source_limit};
+ghost use Rattle.hls_base.specs.TextPlaces.{text_start, place_after};
 ghost use Rattle.hls_base.specs.Refusals.{IfRefused};
 
 mod bytes;
@@ -13,28 +14,22 @@ mod rows;
 mod signs;
 
 use crate::bytes::opening_at;
-use crate::cursor::{Cursor, place_after};
+use crate::cursor::Cursor;
 use crate::pieces::take_piece;
 use c_token::token::Token;
-use hls_base::place::Place;
+use hls_base::place::{Place, TEXT_START, place_after};
 use hls_base::refusal::{Fail, Refusal};
 use std::alloc::Global;
 
 /// The most bytes that a source may have.
 const SOURCE_LIMIT: usize = 65536;
 
-const START: Place = Place {
-    line: 1,
-    column: 1,
-    part: 0,
-};
-
 /// The place just after the last byte of a source.
 pub fn end_of(source: &[u8]) -> Place
     requires { length source.now ≤ source_limit }
-    ensures { result ≡ place_after source_start source.now }
+    ensures { result ≡ place_after text_start source.now }
 {
-    place_after(START, source)
+    place_after(TEXT_START, source)
 }
 
 /// The tokens of a source, or its first fault. No token is a `TypeWord`.

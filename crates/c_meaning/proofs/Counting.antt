@@ -10,12 +10,14 @@ use Rattle.indexmap.specs.IndexMap.{insert_entry}
 use Rattle.hls_base.specs.declared.point.Point.{Point}
 use Rattle.hls_base.specs.Tallies.{HasDistinctPoints}
 use Rattle.c_meaning.specs.declared.meter.NumberedPoint.{NumberedPoint}
-use Rattle.c_meaning.specs.Points.{same_point, count_point}
+use Rattle.hls_base.specs.Tallies.{same_point}
+use Rattle.hls_base.proofs.SamePoints.{same_point-Decides}
+use Rattle.c_meaning.specs.Points.{count_point}
 use Rattle.c_meaning.specs.PassedPaths.{PathTable, IsNumber, IsPathTable, Extends}
 use Rattle.c_meaning.specs.Metering.{point_of, counts_of, HaveNumbers, AreSound}
 use Rattle.c_meaning.proofs.SameKeys.{point_eq, point_eq-Decides}
 use Rattle.c_meaning.proofs.PathNumbers.{number-extends, path_of-extends, same_number}
-use Rattle.c_meaning.proofs.Tallies.{same_point-Decides, distinct-count}
+use Rattle.c_meaning.proofs.Tallies.{distinct-count}
 
 abbrev Row : Type 0
 Row = NumberedPoint × ℕ

@@ -10,66 +10,11 @@ use Rattle.hls_base.specs.declared.place.Place.{Place}
 use Rattle.hls_base.specs.declared.point.Point.{Point}
 use Rattle.hls_base.specs.declared.point.PointKind.{PointKind}
 use Rattle.hls_base.specs.declared.point.PointKind.TheVariants as point
-use Rattle.hls_base.specs.Tallies.{HasDistinctPoints}
+use Rattle.hls_base.specs.Tallies.{HasDistinctPoints, same_point, count_in}
+use Rattle.hls_base.proofs.SamePoints.{same_point-Decides, same_point-self, same_point-other}
 use Rattle.c_meaning.proofs.DistinctPoints.{distinct-push, distinct-same}
-use Rattle.c_meaning.specs.Points.{same_place, same_path, kind_number, same_point, count_point, count_all, tally_of, times, count_in}
+use Rattle.c_meaning.specs.Points.{count_point, count_all, tally_of, times}
 use Rattle.c_meaning.specs.Laws.{TalliesCount}
-
--- ---- points that are the same
-
-place_parts : (p q : Place) → (p.line ≡ q.line) × (p.column ≡ q.column) × (p.part ≡ q.part) → p ≡ q
-place_parts p q h = λ i. record { line = h.0 i; column = h.1 i; part = h.2 i }
-
-all_three : {P Q R : Type 0} (x y z : Bool) → Decides x P → Decides y Q → Decides z R → Decides (x && y && z) (P × Q × R)
-all_three x y z dx dy dz =
-    let d = Decides-and (x && y) z (Decides-and x y dx dy) dz in
-    (λ e. let h = d.0 e in (h.0.0, h.0.1, h.1), λ h. d.1 ((h.0, h.1), h.2))
-
-pub same_place-Decides : (p q : Place) → Decides (same_place p q) (p ≡ q)
-same_place-Decides p q =
-    let d = all_three (p.line == q.line) (p.column == q.column) (p.part == q.part) (Decides-eqb p.line q.line) (Decides-eqb p.column q.column) (Decides-eqb p.part q.part) in
-    (λ e. place_parts p q (d.0 e), λ e. d.1 (ap (λ (r : Place). r.line) e, ap (λ (r : Place). r.column) e, ap (λ (r : Place). r.part) e))
-
-pub same_path-Decides : (ps qs : List Place) → Decides (same_path ps qs) (ps ≡ qs)
-same_path-Decides [] [] = (λ e. refl, λ e. refl)
-same_path-Decides [] (q ∷ qs) = (λ e. absurd cc, λ e. absurd cc)
-same_path-Decides (p ∷ ps) [] = (λ e. absurd cc, λ e. absurd cc)
-same_path-Decides (p ∷ ps) (q ∷ qs) =
-    let d = Decides-and (same_place p q) (same_path ps qs) (same_place-Decides p q) (same_path-Decides ps qs) in
-    (λ e. let h = d.0 e in λ i. h.0 i ∷ h.1 i, λ e. d.1 (cc, cc))
-
-kind_from : ℕ → PointKind
-kind_from n =
-    if n == 0 then point.Begin else (if n == 1 then point.Test else (if n == 2 then point.Body else (if n == 3 then point.Step else (if n == 4 then point.End else point.Arm))))
-
-kind_back : (k : PointKind) → kind_from (kind_number k) ≡ k
-unfolding kind_from
-kind_back point.Begin = refl
-kind_back point.Test = refl
-kind_back point.Body = refl
-kind_back point.Step = refl
-kind_back point.End = refl
-kind_back point.Arm = refl
-
-kind_same : (k l : PointKind) → kind_number k ≡ kind_number l → k ≡ l
-kind_same k l e = sym (kind_back k) ∙ (ap kind_from e ∙ kind_back l)
-
-point_parts : (p q : Point) → (p.kind ≡ q.kind) × (p.at ≡ q.at) × (p.path ≡ q.path) → p ≡ q
-point_parts p q h = λ i. record { path = h.2 i; at = h.1 i; kind = h.0 i }
-
-pub same_point-Decides : (p q : Point) → Decides (same_point p q) (p ≡ q)
-same_point-Decides p q =
-    let d = all_three (kind_number p.kind == kind_number q.kind) (same_place p.at q.at) (same_path p.path q.path)
-    (Decides-eqb (kind_number p.kind) (kind_number q.kind)) (same_place-Decides p.at q.at) (same_path-Decides p.path q.path) in (
-      λ e. let h = d.0 e in point_parts p q (kind_same p.kind q.kind h.0, h.1, h.2),
-      λ e. d.1 (ap (λ (r : Point). kind_number r.kind) e, ap (λ (r : Point). r.at) e, ap (λ (r : Point). r.path) e),
-    )
-
-pub same_point-self : (p : Point) → same_point p p ≡ true
-same_point-self p = (same_point-Decides p p).1 refl
-
-pub same_point-other : (p q : Point) → p ≢ q → same_point p q ≡ false
-same_point-other p q h = elim (cases_Bool (same_point p q)) [ inl t ↦ absurd (h ((same_point-Decides p q).0 t)) | inr f ↦ f ]
 
 -- ---- one point more
 

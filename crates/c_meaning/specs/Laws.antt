@@ -9,7 +9,8 @@ use Rattle.c_tree.specs.Tree.{FunctionTree, ItemTree, ProgramTree}
 use Rattle.c_meaning.specs.declared.names.Binding.{Binding}
 use Rattle.c_meaning.specs.declared.value.Argument.{Argument}
 use Rattle.c_meaning.specs.Store.{State, elements_in, read_element, write_element, element_place}
-use Rattle.c_meaning.specs.Points.{tally_of, times, count_in}
+use Rattle.hls_base.specs.Tallies.{count_in}
+use Rattle.c_meaning.specs.Points.{tally_of, times}
 use Rattle.c_meaning.specs.Steps as steps
 use Rattle.c_meaning.specs.Steps.{Outcome, Ran}
 use Rattle.c_meaning.specs.Run as run

@@ -8,7 +8,7 @@ use Rattle.c_token.specs.declared.token.Token.{Token}
 use Rattle.c_token.specs.declared.token.TokenKind.{TokenKind}
 use Rattle.c_token.specs.declared.token.TokenKind.TheVariants as k
 use Rattle.c_token.specs.Replacement.{Table, StandsFor, nothing, stays, is_replaced, directive, ordinary, Outcome, beginning}
-use Rattle.c_token.specs.SourceText.{source_start, place_after}
+use Rattle.hls_base.specs.TextPlaces.{text_start, place_after}
 
 hexadecimal_unsigned : IsConstant (codes "0x10u") 16 (integer false 32)
 unfolding type_of types suffix_of
@@ -43,7 +43,7 @@ two_returns : opening (92 ∷ 13 ∷ 13 ∷ 10 ∷ []) ≡ at_token
 unfolding opening is_blank
 two_returns = refl
 
-second_line : place_after source_start (codes "ab\ncd") ≡ record { line = 2; column = 3; part = 0 }
+second_line : place_after text_start (codes "ab\ncd") ≡ record { line = 2; column = 3; part = 0 }
 second_line = refl
 
 -- `#define N 16`, and then `N` on a line of its own

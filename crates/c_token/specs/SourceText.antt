@@ -1,7 +1,8 @@
 -- What the text of a source is as a list of tokens, or its first fault: C11 5.1.1.2 and 6.4.
-use Rattle.std.specs.Prelude.{◌≡◌, ℕ, ◌+◌, ◌<◌, ◌≤◌, ◌==◌, ◌&&◌, nat_le, Bool, true, false, List, [], ◌∷◌, length, take, drop, codes, bytes_eq, ◌⊎◌, if◌then◌else◌}
+use Rattle.std.specs.Prelude.{◌≡◌, ℕ, ◌<◌, ◌≤◌, ◌&&◌, nat_le, Bool, true, false, List, [], ◌∷◌, length, take, drop, codes, bytes_eq, ◌⊎◌, if◌then◌else◌}
 use Rattle.hls_base.specs.declared.place.Place.{Place}
 use Rattle.hls_base.specs.declared.refusal.Refusal.{Refusal}
+use Rattle.hls_base.specs.TextPlaces.{place_after, text_start}
 use Rattle.c_token.specs.declared.ctype.CType.{CType}
 use Rattle.c_token.specs.declared.punct.Punct.{Punct}
 use Rattle.c_token.specs.declared.punct.Punct.TheVariants as p
@@ -12,20 +13,6 @@ use Rattle.c_token.specs.Characters.{Opening, at_end, at_line_end, at_space, at_
 use Rattle.c_token.specs.Longest.{IsLongest, IsShortest, NoneBegins}
 use Rattle.c_token.specs.Spelling.{IsLineComment, IsBlockComment, IsWord, IsNumber, spelling, IsToken}
 use Rattle.c_token.specs.Constants.{IsConstant}
-
--- Places: every LF ends a line of the count, and columns count bytes.
-abbrev pub next_place : Place → ℕ → Place
-next_place at byte =
-    if byte == 10 then record { line = at.line + 1; column = 1; part = 0 }
-    else record { line = at.line; column = at.column + 1; part = 0 }
-
--- the place just after these bytes
-abbrev pub place_after : Place → List ℕ → Place
-place_after at [] = at
-place_after at (byte ∷ bytes) = place_after (next_place at byte) bytes
-
-abbrev pub source_start : Place
-source_start = record { line = 1; column = 1; part = 0 }
 
 -- What stands on a line so far: no token, a `#` alone, `#` and `pragma`, or other tokens.
 pub data Line : Type 0 where
@@ -170,7 +157,7 @@ tokens_of (lexeme text token ∷ pieces) =
 tokens_of (_ ∷ pieces) = tokens_of pieces
 
 abbrev pub start_of : List ℕ → Standing
-start_of source = record { left = source; place = source_start; line = empty; glued = true }
+start_of source = record { left = source; place = text_start; line = empty; glued = true }
 
 -- the most bytes that a source may have
 abbrev pub source_limit : ℕ
@@ -185,5 +172,5 @@ Spells source result =
 -- rule 1, no token begins here, rule 2, a comment that is not closed, rule 3, a malformed number, rule 4, a word of more than 64 bytes.
 abbrev pub FirstFault : List ℕ → Refusal → Type 0
 FirstFault source r =
-    ((source_limit < length source) × (r ≡ record { rule = 30; place = place_after source_start (take source_limit source) }))
+    ((source_limit < length source) × (r ≡ record { rule = 30; place = place_after text_start (take source_limit source) }))
     ⊎ ((length source ≤ source_limit) × ((pieces : List Piece) × Reads (start_of source) pieces (refused r)))

@@ -3,7 +3,8 @@ use Rattle.std.proofs.Common.{◌≡◌, ℕ, true, refl, sym, ap, subst, List, 
 use Rattle.std.specs.Prelude.{Result, Ok, Err, IfOk}
 use Rattle.std.specs.List.{All}
 use Rattle.std.proofs.lemmas.List.Elements.{All-nil, All-cons, All-head, All-tail}
-use Rattle.c_token.specs.SourceText.{tokens_of, source_start, empty, place_after}
+use Rattle.c_token.specs.SourceText.{tokens_of, empty}
+use Rattle.hls_base.specs.TextPlaces.{text_start, place_after}
 use Rattle.c_tree.specs.Terminals.{Terminal, terminals}
 use Rattle.c_tree.specs.Tree.{ProgramTree}
 use Rattle.c_tree.specs.Places.{nowhere}
@@ -29,11 +30,11 @@ pub printed_is_text : (program : ProgramTree) → HasTokens program → IsTextOf
 printed_is_text program h =
     let text = row_text (program_row program) in
     let printed = items_again h.derives (all_fit h.tokens h.may_stand) in
-    let r = row_reads (program_row program) printed.spelled source_start empty true tt in
+    let r = row_reads (program_row program) printed.spelled text_start empty true tt in
     let x = printed.again (terminals (tokens_of r.pieces)) r.matches in
     record {
       pieces = r.pieces;
-      derived = record { items = x.found; end = place_after source_start text };
+      derived = record { items = x.found; end = place_after text_start text };
       reads = r.reads;
       no_directives = r.plain;
       derives = (x.derived, refl);

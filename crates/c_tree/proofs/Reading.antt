@@ -14,7 +14,8 @@ use Rattle.c_token.specs.declared.token.TokenKind.TheVariants as k
 use Rattle.c_token.specs.Characters.{opening, at_token, at_space, at_line_end, at_end, is_letter, is_digit, is_blank}
 use Rattle.c_token.specs.Longest.{IsLongest}
 use Rattle.c_token.specs.Spelling.{IsToken, spelling}
-use Rattle.c_token.specs.SourceText.{Line, empty, hash, pragma_line, tokens, is_first, Standing, Piece, gap, line_end, lexeme, is_hash, line_after_token, Found, next, whole, given, is_pragma, word_found, TokenFound, LongestToken, AtToken, At, Reads, pragma_follows, tokens_of, place_after}
+use Rattle.c_token.specs.SourceText.{Line, empty, hash, pragma_line, tokens, is_first, Standing, Piece, gap, line_end, lexeme, is_hash, line_after_token, Found, next, whole, given, is_pragma, word_found, TokenFound, LongestToken, AtToken, At, Reads, pragma_follows, tokens_of}
+use Rattle.hls_base.specs.TextPlaces.{place_after}
 use Rattle.c_tree.specs.declared.print.row.Written.TheVariants as w
 use Rattle.c_tree.specs.Terminals.{Terminal, terminals}
 use Rattle.c_tree.specs.Rows.{Row}

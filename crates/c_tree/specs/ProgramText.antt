@@ -7,7 +7,8 @@ use Rattle.c_token.specs.declared.token.TokenKind.TheVariants as k
 use Rattle.c_token.specs.Spelling.{IsWord}
 use Rattle.c_token.specs.Constants.{IsConstant}
 use Rattle.c_token.specs.Replacement.{exact_types, find_word}
-use Rattle.c_token.specs.SourceText.{Piece, Reads, tokens_of, start_of, source_start, place_after, whole, is_hash}
+use Rattle.c_token.specs.SourceText.{Piece, Reads, tokens_of, start_of, whole, is_hash}
+use Rattle.hls_base.specs.TextPlaces.{text_start, place_after}
 use Rattle.c_tree.specs.Tree.{ProgramTree}
 use Rattle.c_tree.specs.Terminals.{Terminal, terminals}
 use Rattle.c_tree.specs.Grammar.{DerivesItems, DerivesProgram}
@@ -20,7 +21,7 @@ pub record IsTextOf (text : List ℕ) (program : ProgramTree) : Type 0 where
   pub derived : ProgramTree
   pub reads : Reads (start_of text) pieces whole
   pub no_directives : All (λ (t : Token). is_hash t.kind ≡ false) (tokens_of pieces)
-  pub derives : DerivesProgram (terminals (tokens_of pieces)) (place_after source_start text) derived
+  pub derives : DerivesProgram (terminals (tokens_of pieces)) (place_after text_start text) derived
   pub same : without_places derived ≡ without_places program
 
 -- What a token of a program may be: a word of at most 64 bytes, a number that some constant is, a punctuator, or the type of one of the eight names of `stdint.h`.

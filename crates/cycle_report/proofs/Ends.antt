@@ -7,7 +7,8 @@ use Rattle.cycle_report.specs.declared.cursor.Stop.{Stop}
 use Rattle.cycle_report.specs.declared.cursor.Stop.TheVariants.{Refused, Memory}
 use Rattle.cycle_report.specs.declared.report.Report.{Report}
 use Rattle.cycle_report.specs.PlainReport.{PlainReport, plain_of}
-use Rattle.cycle_report.specs.ReportForm.{IsReport, BeginsReport, IsFirstBadByte, IsRefusedAs, place_after, largest_report}
+use Rattle.cycle_report.specs.ReportForm.{IsReport, BeginsReport, IsFirstBadByte, IsRefusedAs, largest_report}
+use Rattle.hls_base.specs.TextPlaces.{place_after, text_start}
 use Rattle.cycle_report.specs.Reading.{Found, Stuck, ReadsAs, SameNext}
 use Rattle.cycle_report.specs.Forms as forms
 use Rattle.cycle_report.specs.Views.{StopsReport, ReadsWhole}
@@ -83,12 +84,12 @@ first_bad front new goes stops = record {
       stops r new i (subst (λ z. SameNext z z) (sym e) tt);
 }
 
-pub refused_place : (bytes new front' : List ℕ) (place : Place) → StopsReport bytes new → front' ≡ take (length bytes - length new) bytes → length bytes ≤ largest_report → place ≡ place_after front' → IsRefusedAs bytes (record { rule = 60; place = place })
+pub refused_place : (bytes new front' : List ℕ) (place : Place) → StopsReport bytes new → front' ≡ take (length bytes - length new) bytes → length bytes ≤ largest_report → place ≡ place_after text_start front' → IsRefusedAs bytes (record { rule = 60; place = place })
 refused_place bytes new front' place s cut small at =
     let k = length s.front in
     let n : length bytes - length new ≡ k = let e = ap length s.cut ∙ length-append s.front new in omega (arith, e) in
     let bad : IsFirstBadByte bytes k = subst (λ z. IsFirstBadByte z k) (sym s.cut) (first_bad s.front new s.goes s.stops) in
-    (refl, inr (small, (k, bad, at ∙ ap place_after (cut ∙ ap (λ m. take m bytes) n))))
+    (refl, inr (small, (k, bad, at ∙ ap (place_after text_start) (cut ∙ ap (λ m. take m bytes) n))))
 
 pub within : (bytes new : List ℕ) → StopsReport bytes new → length new ≤ length bytes
 within bytes new s = let e = ap length s.cut ∙ length-append s.front new in omega (arith, e)

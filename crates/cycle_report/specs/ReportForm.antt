@@ -1,10 +1,11 @@
 -- Which reports have a text, and which bytes are a report's.
-use Rattle.std.specs.Prelude.{ℕ, ◌+◌, ◌^◌, ◌<◌, ◌≤◌, ◌≡◌, Bool, false, ◌&&◌, ◌||◌, ◌==◌, nat_le, if◌then◌else◌, IsTrue, List, [], ◌∷◌, ◌++◌, length, take, reverse, count_by, ◌⊎◌}
+use Rattle.std.specs.Prelude.{ℕ, ◌+◌, ◌^◌, ◌<◌, ◌≤◌, ◌≡◌, Bool, false, ◌&&◌, ◌||◌, ◌==◌, nat_le, if◌then◌else◌, IsTrue, List, [], ◌∷◌, ◌++◌, length, take, ◌⊎◌}
 use Rattle.std.specs.List.{All, list_all}
 use Rattle.hls_base.specs.declared.place.Place.{Place}
 use Rattle.hls_base.specs.declared.point.Point.{Point}
 use Rattle.hls_base.specs.declared.point.PointKind.TheVariants.{Body}
 use Rattle.hls_base.specs.declared.refusal.Refusal.{Refusal}
+use Rattle.hls_base.specs.TextPlaces.{place_after, text_start}
 use Rattle.hls_base.specs.declared.settings.Settings.{Settings}
 use Rattle.cycle_report.specs.declared.report.Cost.{Cost}
 use Rattle.cycle_report.specs.declared.report.Edge4.{Edge4}
@@ -111,20 +112,11 @@ pub record IsFirstBadByte (bytes : List ℕ) (k : ℕ) : Type 0 where
   pub at_byte : k < length bytes → BeginsReport (take (k + 1) bytes) → ⊥
   pub at_end : (r : PlainReport) → k ≡ length bytes → IsReport bytes r → ⊥
 
--- how many bytes stand behind the last end of a line, in a text from its end
-abbrev pub before_line_end : List ℕ → ℕ
-before_line_end [] = 0
-before_line_end (c ∷ cs) = if c == 10 then 0 else (before_line_end cs + 1)
-
--- the line and the column, both from 1, of the byte behind this text
-abbrev pub place_after : List ℕ → Place
-place_after front = record { line = count_by (λ c. c == 10) front + 1; column = before_line_end (reverse front) + 1; part = 0 }
-
 abbrev pub largest_report : ℕ
 largest_report = 16777216
 
 -- why bytes are refused, under rule 60: they are too many, or no report is so written
 abbrev pub IsRefusedAs : List ℕ → Refusal → Type 0
 IsRefusedAs bytes why = (why.rule ≡ 60) × (
-    ((largest_report < length bytes) × (why.place ≡ record { line = 1; column = 1; part = 0 }))
-    ⊎ ((length bytes ≤ largest_report) × ((k : ℕ) × IsFirstBadByte bytes k × (why.place ≡ place_after (take k bytes)))))
+    ((largest_report < length bytes) × (why.place ≡ text_start))
+    ⊎ ((length bytes ≤ largest_report) × ((k : ℕ) × IsFirstBadByte bytes k × (why.place ≡ place_after text_start (take k bytes)))))

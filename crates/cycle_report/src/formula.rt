@@ -2,7 +2,8 @@
 
 ghost use Rattle.std.specs.Prelude.{ℕ, List, ◌≡◌, ◌≤◌, ◌*◌, ◌^◌, length};
 ghost use Rattle.std.specs.List.{All};
-ghost use Rattle.cycle_report.specs.FormulaValue as value;
+ghost use Rattle.hls_base.specs.Tallies.{count_in, same_place, same_path, same_point};
+ghost use Rattle.cycle_report.specs.FormulaValue.{cycles};
 
 use crate::report::Formula;
 use hls_base::place::Place;
@@ -13,7 +14,7 @@ impl Formula {
     pub fn cycles(&self, tally: &Tally) -> u128
         requires rows { length self.now.rows.items ≤ 2 ^ 31 }
         requires counts { All (λ entry. entry.1 ≤ 2 ^ 32) tally.now }
-        ensures { result ≡ value.cycles self.now.base self.now.rows.items tally.now }
+        ensures { result ≡ cycles self.now.base self.now.rows.items tally.now }
     {
         let mut total = u128::from(self.base);
         for row in &self.rows {
@@ -34,7 +35,7 @@ fn spent(cost: u64, count: u64) -> u128
 
 /// How often the point was passed.
 fn count_at(entries: &[(Point, u64)], point: &Point) -> u64
-    ensures { result ≡ value.count_at entries.now point.now }
+    ensures { result ≡ count_in entries.now point.now }
 {
     for (passed, count) in entries {
         if is_same(passed, point) {
@@ -45,19 +46,19 @@ fn count_at(entries: &[(Point, u64)], point: &Point) -> u64
 }
 
 fn is_same(a: &Point, b: &Point) -> bool
-    ensures { result ≡ value.same_point a.now b.now }
+    ensures { result ≡ same_point a.now b.now }
 {
     a.kind == b.kind && is_same_place(a.at, b.at) && is_same_path(a.path.items(), b.path.items())
 }
 
 fn is_same_place(a: Place, b: Place) -> bool
-    ensures { result ≡ value.same_place a b }
+    ensures { result ≡ same_place a b }
 {
     a.line == b.line && a.column == b.column && a.part == b.part
 }
 
 fn is_same_path(a: &[Place], b: &[Place]) -> bool
-    ensures { result ≡ value.same_path a.now b.now }
+    ensures { result ≡ same_path a.now b.now }
 {
     a == b
 }

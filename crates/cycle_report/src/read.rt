@@ -12,7 +12,7 @@ ghost use Rattle.cycle_report.specs.Views.{units_of_counts, ReadsWhole};
 use crate::cursor::{Cursor, Stop};
 use crate::lines::{costs, loops, memories};
 use crate::report::{Formula, Report};
-use hls_base::place::Place;
+use hls_base::place::{Place, TEXT_START, place_after};
 use hls_base::refusal::{Fail, Refusal};
 use hls_base::settings::Settings;
 use std::alloc::Global;
@@ -37,18 +37,14 @@ pub fn read(alloc: Global, bytes: &[u8]) -> Result<Report, Fail>
     ensures refused { IfRefused result (IsRefusedAs bytes.now) }
 {
     if bytes.len() > LARGEST_REPORT {
-        return Err(refusal(Place {
-            line: 1,
-            column: 1,
-            part: 0,
-        }));
+        return Err(refusal(TEXT_START));
     }
     let mut cursor = Cursor::new(bytes);
     match whole(alloc, &mut cursor) {
         Ok(report) => Ok(report),
         Err(Stop::Refused) => {
             let (front, _) = bytes.split_at(bytes.len() - cursor.left().len());
-            Err(refusal(place_after(front)))
+            Err(refusal(place_after(TEXT_START, front)))
         }
         Err(Stop::Memory) => Err(Fail::Memory),
     }
@@ -58,28 +54,6 @@ fn refusal(place: Place) -> Fail
     ensures { result ≡ Fail.Refused (record { rule = 60; place = place }) }
 {
     Fail::Refused(Refusal { rule: 60, place })
-}
-
-/// The place of the byte behind these.
-fn place_after(front: &[u8]) -> Place
-    requires { length front.now ≤ form.largest_report }
-    ensures { result ≡ form.place_after front.now }
-{
-    let mut line = 1;
-    let mut column = 1;
-    for byte in front {
-        if *byte == b'\n' {
-            line += 1;
-            column = 1;
-        } else {
-            column += 1;
-        }
-    }
-    Place {
-        line,
-        column,
-        part: 0,
-    }
 }
 
 /// Takes a report, with nothing behind it.

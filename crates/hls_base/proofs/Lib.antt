@@ -1,2 +1,3 @@
 pub mod FileLists
 pub mod OutsideLemmas
+pub mod SamePoints

@@ -5,3 +5,4 @@ pub mod ArrayAddress
 pub mod Outside
 pub mod Memory
 pub mod Refusals
+pub mod TextPlaces

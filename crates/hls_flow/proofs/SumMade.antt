@@ -3,7 +3,6 @@ use Rattle.std.proofs.Common.{◌≡◌, ℕ, ◌+◌, ◌*◌, ◌^◌, ◌<◌
 use Rattle.std.specs.Prelude.{◌&&◌, nat_le, not, codes, if◌then◌else◌}
 use Rattle.std.specs.Option.{option_map}
 use Rattle.std.proofs.lemmas.List.Elements.{All-nil}
-use Rattle.std.proofs.lemmas.Bool.{eq-eqb}
 use Rattle.std.proofs.lemmas.Bool.Decides.{nat_tests}
 use Rattle.hls_base.specs.FileScope.{FileScope}
 use Rattle.hls_base.specs.declared.place.Place.{Place}
@@ -25,7 +24,8 @@ use Rattle.rtl_core.specs.Box.{Ended}
 use Rattle.rtl_core.specs.Agreement.{Agrees}
 use Rattle.verilog_print.specs.PrintableNames.{IsNumbered, HasPrintableNames}
 use Rattle.cycle_report.specs.ReportForm as form
-use Rattle.cycle_report.specs.FormulaValue.{cycles, same_place}
+use Rattle.hls_base.proofs.SamePoints.{same_place-Decides}
+use Rattle.cycle_report.specs.FormulaValue.{cycles}
 use Rattle.sum_program.specs.declared.program.Sum.{Sum}
 use Rattle.sum_program.specs.SumForm.{IsWord, IsSum, IsSumFunction, scalar}
 use Rattle.sum_program.specs.SumMeaning.{sum_result, sum_trace}
@@ -57,15 +57,8 @@ names_printable s = all_by is_free (λ name. ¬ IsNumbered name) free (pin_names
 
 -- ---- the report
 
-both : (a b : Bool) → a ≡ true → b ≡ true → (a && b) ≡ true
-both true b e f = f
-both false b e f = e
-
-same_place-refl : (p : Place) → same_place p p ≡ true
-same_place-refl p = both _ _ (eq-eqb p.line p.line refl) (both _ _ (eq-eqb p.column p.column refl) (eq-eqb p.part p.part refl))
-
 sum_cycles : (s : Sum) (settings : Settings) → cycles 1 (sum_report s settings).rows (tally_of (sum_trace s)) ≡ 3
-sum_cycles s settings = ap (λ (b : Bool). 1 + (0 + 2 * (if b && true then 1 else 0))) (same_place-refl s.at)
+sum_cycles s settings = ap (λ (b : Bool). 1 + (0 + 2 * (if b && true then 1 else 0))) ((same_place-Decides s.at s.at).1 refl)
 
 pub has_form : (s : Sum) (settings : Settings) → AreInRange settings → IsWord settings.top → length settings.top ≤ 64 → form.HasForm (sum_report s settings)
 has_form s settings range word short = record {

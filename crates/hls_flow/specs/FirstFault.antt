@@ -3,7 +3,8 @@ use Rattle.std.specs.Prelude.{◌≡◌, ◌≤◌, ℕ, true, List, [], length,
 use Rattle.hls_base.specs.declared.place.Place.{Place}
 use Rattle.hls_base.specs.declared.refusal.Refusal.{Refusal}
 use Rattle.c_token.specs.declared.token.Token.{Token}
-use Rattle.c_token.specs.SourceText.{Spells, FirstFault, source_start, place_after}
+use Rattle.c_token.specs.SourceText.{Spells, FirstFault}
+use Rattle.hls_base.specs.TextPlaces.{text_start, place_after}
 use Rattle.c_token.specs.Replacement.{Becomes, FirstReplacementFault}
 use Rattle.c_tree.specs.Terminals.{terminals}
 use Rattle.c_tree.specs.Tree as tree
@@ -16,7 +17,7 @@ use Rattle.sum_program.specs.SumForm.{IsWord, IsSum}
 
 -- the place just after the last byte
 abbrev pub end_of : List ℕ → Place
-end_of source = place_after source_start source
+end_of source = place_after text_start source
 
 -- what the tokens of the source become, by directives and the replacement of words
 pub record IsReplaced (source : List ℕ) (replaced : List Token) : Type 0 where

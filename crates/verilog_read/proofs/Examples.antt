@@ -10,7 +10,7 @@ use Rattle.rtl_core.proofs.Examples.{counter}
 use Rattle.rtl_core.proofs.CounterText.{counter_syntax}
 use Rattle.verilog_read.specs.declared.form.Form.TheVariants as f
 use Rattle.verilog_read.specs.declared.form.Form.{Form}
-use Rattle.verilog_read.specs.TextPlaces.{text_start, place_after}
+use Rattle.hls_base.specs.TextPlaces.{text_start, place_after}
 use Rattle.verilog_read.specs.Numbers.{declared_bits, depth_of}
 use Rattle.verilog_read.specs.Lexemes.{over}
 use Rattle.verilog_read.specs.Forms.{FitsAll, classes_of, IsModule}

@@ -11,7 +11,7 @@ use Rattle.rtl_core.specs.declared.design.Design.{Design}
 use Rattle.rtl_core.specs.Netlist.{Netlist}
 use Rattle.rtl_core.specs.Valid.{IsName}
 use Rattle.rtl_core.specs.ModuleText.{IsModuleText}
-use Rattle.verilog_read.specs.TextPlaces.{text_start}
+use Rattle.hls_base.specs.TextPlaces.{text_start}
 use Rattle.verilog_read.specs.Lexemes.{Lexeme, tokens_of}
 use Rattle.verilog_read.specs.Forms.{IsModule, BeginsModule}
 use Rattle.verilog_read.specs.PlacedSyntax.{PlacedModule}

@@ -9,7 +9,7 @@ use Rattle.hls_base.specs.declared.refusal.Fail.{Fail}
 use Rattle.hls_base.specs.declared.refusal.Fail.TheVariants.{Refused, Memory}
 use Rattle.hls_base.specs.Refusals.{IfRefused}
 use Rattle.rtl_core.specs.declared.design.Design.{Design}
-use Rattle.verilog_read.specs.TextPlaces.{text_start}
+use Rattle.hls_base.specs.TextPlaces.{text_start}
 use Rattle.verilog_read.specs.Lexemes.{Lexeme, tokens_of, Reads, NothingBegins}
 use Rattle.verilog_read.specs.Forms.{IsModule, BeginsModule}
 use Rattle.verilog_read.specs.PlacedSyntax.{PlacedModule}

@@ -6,7 +6,7 @@ use Rattle.std.proofs.lemmas.List.Elements.{All-head, All-tail}
 use Rattle.hls_base.specs.declared.place.Place.{Place}
 use Rattle.rtl_core.specs.ModuleTokens.{Word, Sign}
 use Rattle.rtl_core.specs.ModuleSyntax.{Operand, Expression, Alone, Inverted, Between, Chosen, Joined, Slice, WordOf, Declared, DeclaredMemory, DeclaredWire, Assign, Write, Register, Syntax}
-use Rattle.verilog_read.specs.TextPlaces.{text_start}
+use Rattle.hls_base.specs.TextPlaces.{text_start}
 use Rattle.verilog_read.specs.Lexemes.{Lexeme}
 use Rattle.verilog_read.specs.PlacedSyntax.{PlacedName, PlacedOperand, PlacedNet, alone, inverted, between, chosen, joined, slice, word_of, PlacedDeclared, PlacedMemory, PlacedWire, PlacedAssign, PlacedWrite, Drive, register, first, further, PlacedModule}
 use Rattle.verilog_read.specs.Marks.{Mark, fixed, Stands, Stand, NetStands, declared_marks, memory_marks, net_marks, wire_marks, assign_marks, write_marks, drive_marks, opens, in_blocks, end_marks, is_open_behind, open_marks, all_marks, header_mark, clock_marks, item_marks, module_marks}

@@ -8,7 +8,7 @@ use Rattle.rtl_core.specs.Valid.{IsLetter, IsDigit, IsIdentifier}
 use Rattle.rtl_core.specs.ModuleTokens.{Token, Word, Number, Constant, Sign, signs, IsNumber, number_value, value_behind, IsConstantText, IsToken, IsLongest, IsWhite, IsAtLineEnd, HasNoEnd, Spells}
 use Rattle.rtl_core.specs.ModuleTokens as spelled
 use Rattle.rtl_core.proofs.Tokens.{every_true, digit_is, letter_is, is_digit, is_letter}
-use Rattle.verilog_read.specs.TextPlaces.{place_after}
+use Rattle.hls_base.specs.TextPlaces.{place_after}
 use Rattle.verilog_read.specs.Lexemes.{Lexeme, tokens_of, IsGap, Reads, over, a_gap, a_token, NothingBegins}
 use Rattle.verilog_read.specs.Lexemes as gap
 use Rattle.verilog_read.proofs.Pieces.{Begins, first_of, letter_no_digit}

@@ -7,7 +7,7 @@ use Rattle.hls_base.specs.declared.place.Place.{Place}
 use Rattle.verilog_read.specs.declared.token.Kind.{Kind}
 use Rattle.verilog_read.specs.declared.token.Token.{Token}
 use Rattle.verilog_read.specs.declared.lexer.Piece.TheVariants as piece
-use Rattle.verilog_read.specs.TextPlaces.{place_after, text_start}
+use Rattle.hls_base.specs.TextPlaces.{place_after, text_start}
 use Rattle.verilog_read.specs.Lexemes.{Lexeme, Reads, over, a_gap, a_token, NothingBegins}
 use Rattle.verilog_read.specs.Views.{StandsFirst, token_of, lexeme_of, lexemes_of, IsProper, Lexes}
 

@@ -3,7 +3,7 @@ use Rattle.std.proofs.Common.{◌≡◌, ℕ, ◌≤◌, List, [], length, map, 
 use Rattle.rtl_core.specs.Netlist.{Netlist}
 use Rattle.rtl_core.specs.ModuleSyntax.{Syntax, syntax_tokens}
 use Rattle.rtl_core.specs.ModuleText.{Means, IsModuleText}
-use Rattle.verilog_read.specs.TextPlaces.{text_start}
+use Rattle.hls_base.specs.TextPlaces.{text_start}
 use Rattle.verilog_read.specs.Lexemes.{tokens_of}
 use Rattle.verilog_read.specs.PlacedSyntax.{PlacedModule}
 use Rattle.verilog_read.specs.Marks.{module_marks}

@@ -3,7 +3,7 @@ use Rattle.std.proofs.Common.{◌≡◌, ◌⊎◌, inl, inr, ℕ, List, [], ◌
 use Rattle.std.proofs.lemmas.List.{append_cancel_right}
 use Rattle.hls_base.specs.declared.place.Place.{Place}
 use Rattle.rtl_core.specs.ModuleTokens.{Token, IsToken, IsLongest}
-use Rattle.verilog_read.specs.TextPlaces.{place_after}
+use Rattle.hls_base.specs.TextPlaces.{place_after}
 use Rattle.verilog_read.specs.Lexemes.{Lexeme, IsGap, Reads, over, a_gap, a_token, NothingBegins}
 use Rattle.verilog_read.proofs.SizedConstants.{token_some}
 use Rattle.verilog_read.proofs.OneReading.{same_gap, gap_no_token, same_longest, gap_some, empty_front}

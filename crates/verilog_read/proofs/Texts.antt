@@ -14,7 +14,7 @@ use Rattle.verilog_read.specs.Circuit.{circuit_of}
 use Rattle.verilog_read.specs.declared.token.Token.{Token}
 use Rattle.verilog_read.specs.declared.parser.Stop.{Stop}
 use Rattle.verilog_read.specs.declared.parser.Stop.TheVariants as stop
-use Rattle.verilog_read.specs.TextPlaces.{text_start}
+use Rattle.hls_base.specs.TextPlaces.{text_start}
 use Rattle.verilog_read.specs.Views.{token_of, lexeme_of, lexemes_of, Lexes}
 use Rattle.verilog_read.specs.Lexemes.{tokens_of, Reads}
 use Rattle.verilog_read.specs.Forms.{IsModule, BeginsModule}

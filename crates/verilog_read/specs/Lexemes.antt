@@ -3,7 +3,7 @@ use Rattle.std.specs.Prelude.{◌≡◌, ℕ, ◌<◌, List, [], ◌∷◌, ◌+
 use Rattle.std.specs.List.{All}
 use Rattle.hls_base.specs.declared.place.Place.{Place}
 use Rattle.rtl_core.specs.ModuleTokens.{Token, IsToken, IsLongest, IsWhite, IsAtLineEnd, HasNoEnd}
-use Rattle.verilog_read.specs.TextPlaces.{place_after}
+use Rattle.hls_base.specs.TextPlaces.{place_after}
 
 pub record Lexeme : Type 0 where
   pub token : Token

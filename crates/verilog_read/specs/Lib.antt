@@ -1,6 +1,5 @@
 pub mod Characters
 pub mod Signs
-pub mod TextPlaces
 pub mod Numbers
 pub mod Fronts
 pub mod Lexemes

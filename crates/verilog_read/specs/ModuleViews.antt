@@ -25,7 +25,7 @@ use Rattle.verilog_read.specs.declared.module.Drive.{Drive as CodeDrive}
 use Rattle.verilog_read.specs.declared.module.Drive.TheVariants as drive
 use Rattle.verilog_read.specs.declared.module.Module.{Module}
 use Rattle.verilog_read.specs.Operators.{operator_of}
-use Rattle.verilog_read.specs.TextPlaces.{text_start}
+use Rattle.hls_base.specs.TextPlaces.{text_start}
 use Rattle.verilog_read.specs.PlacedSyntax.{PlacedName, PlacedOperand, PlacedNet, alone, inverted, between, chosen, joined, slice, word_of, PlacedDeclared, PlacedMemory, PlacedWire, PlacedAssign, PlacedWrite, Drive, register, first, further, PlacedModule}
 
 -- ---- views

@@ -9,7 +9,7 @@ use Rattle.verilog_read.specs.declared.token.Token.{Token}
 use Rattle.verilog_read.specs.declared.parser.Stop.{Stop}
 use Rattle.verilog_read.specs.declared.parser.Stop.TheVariants as stop
 use Rattle.verilog_read.specs.ModuleViews.{blank}
-use Rattle.verilog_read.specs.TextPlaces.{text_start}
+use Rattle.hls_base.specs.TextPlaces.{text_start}
 use Rattle.verilog_read.specs.Lexemes.{Lexeme, tokens_of, Reads, NothingBegins}
 use Rattle.verilog_read.specs.Forms.{IsModule, BeginsModule}
 use Rattle.verilog_read.specs.PlacedSyntax.{PlacedWire, PlacedModule}

@@ -10,7 +10,7 @@ use Rattle.verilog_read.specs.declared.token.Kind.TheVariants as kind
 use Rattle.verilog_read.specs.declared.token.Token.{Token}
 use Rattle.verilog_read.specs.declared.lexer.Piece.{Piece}
 use Rattle.verilog_read.specs.declared.lexer.Piece.TheVariants as piece
-use Rattle.verilog_read.specs.TextPlaces.{text_start}
+use Rattle.hls_base.specs.TextPlaces.{text_start}
 use Rattle.verilog_read.specs.Signs.{sign_text, keyword_text}
 use Rattle.verilog_read.specs.Lexemes.{Lexeme, IsGap, Reads, NothingBegins}
 

@@ -8,7 +8,7 @@ ghost use Rattle.verilog_read.specs.Views.{StandsFirst, Lexes};
 
 use crate::characters::{is_digit, is_hex_digit, is_letter, is_white, is_word_byte};
 use crate::number::number_value;
-use crate::place::{START, place_after};
+use hls_base::place::{TEXT_START, place_after};
 use crate::token::{Kind, Sign, Token, keyword_of};
 use hls_base::place::Place;
 use hls_base::refusal::Refusal;
@@ -236,7 +236,7 @@ pub fn lex<'a>(alloc: Global, bytes: &'a [u8]) -> Result<Lexed<'a>, AllocError>
 {
     let mut tokens = Vec::new(alloc);
     let mut left = bytes;
-    let mut place = START;
+    let mut place = TEXT_START;
     while !left.is_empty() {
         let n = match piece_at(left) {
             Piece::Gap(n) => n,

@@ -26,7 +26,6 @@ mod module;
 mod names;
 mod number;
 mod parser;
-mod place;
 #[cfg(test)]
 mod tests;
 mod token;

@@ -2,7 +2,7 @@ use Rattle.std.proofs.Common.{◌≡◌, Bool, List, [], ◌∷◌, ◌&&◌, ap
 use Rattle.hls_base.specs.declared.place.Place.{Place}
 use Rattle.hls_base.specs.contracts.place.PlacePartialEq.TheImpl as impl
 use lib.Pointwise.{pointwise}
-use Rattle.cycle_report.specs.FormulaValue.{same_path, same_place}
+use Rattle.hls_base.specs.Tallies.{same_path, same_place}
 use Rattle.cycle_report.proofs.formula.is_same_path.Goals as goal
 
 abbrev eq : Place → Place → Bool

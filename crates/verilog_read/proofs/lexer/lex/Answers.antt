@@ -1,5 +1,5 @@
 use Rattle.std.proofs.Common.{sym, subst}
-use Rattle.verilog_read.specs.TextPlaces.{text_start}
+use Rattle.hls_base.specs.TextPlaces.{text_start}
 use Rattle.verilog_read.proofs.Progress.{Progress, Moves, begun, gap_moved, token_moved}
 use Rattle.verilog_read.proofs.lexer.lex.Goals as goal
 use Rattle.verilog_read.proofs.lexer.lex.Goals.{in-Gap, in-Lexeme+in_ok-push-in-Lexeme}

@@ -4,7 +4,8 @@ use Rattle.hls_base.specs.declared.place.Place.{Place}
 
 abbrev pub next_place : Place → ℕ → Place
 next_place at byte =
-    if byte == 10 then record { line = at.line + 1; column = 1; part = 0 } else record { line = at.line; column = at.column + 1; part = 0 }
+    if byte == 10 then record { line = at.line + 1; column = 1; part = 0 }
+    else record { line = at.line; column = at.column + 1; part = 0 }
 
 -- the place just behind these bytes
 abbrev pub place_after : Place → List ℕ → Place

@@ -1,6 +1,6 @@
 use Rattle.std.proofs.Common.{◌≡◌, ◌+◌, ◌≤◌, drop}
-use Rattle.c_token.specs.SourceText.{place_after}
-use Rattle.c_lexer.proofs.cursor.place_after.Given as goal
+use Rattle.hls_base.specs.TextPlaces.{place_after}
+use Rattle.hls_base.proofs.place.place_after.Given as goal
 
 abbrev pub invariant-loop-byte : goal.invariant-loop-byte
 invariant-loop-byte l =

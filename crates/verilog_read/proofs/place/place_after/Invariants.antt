@@ -1,8 +1,0 @@
-use Rattle.std.proofs.Common.{◌≡◌, ◌+◌, ◌≤◌, drop}
-use Rattle.verilog_read.specs.TextPlaces.{place_after}
-use Rattle.verilog_read.proofs.place.place_after.Given as goal
-
-abbrev pub invariant-loop-byte : goal.invariant-loop-byte
-invariant-loop-byte l =
-    (place_after l.place (drop l.byte-index l.bytes) ≡ place_after l.fn.at l.bytes)
-    × (l.place.line ≤ l.fn.at.line + l.byte-index) × (l.place.column ≤ l.fn.at.column + l.byte-index)
