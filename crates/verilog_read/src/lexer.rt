@@ -8,9 +8,8 @@ ghost use Rattle.verilog_read.specs.Views.{StandsFirst, Lexes};
 
 use crate::characters::{is_digit, is_hex_digit, is_letter, is_white, is_word_byte};
 use crate::number::number_value;
-use hls_base::place::{TEXT_START, place_after};
 use crate::token::{Kind, Sign, Token, keyword_of};
-use hls_base::place::Place;
+use hls_base::place::{Place, TEXT_START, place_after};
 use hls_base::refusal::Refusal;
 use std::alloc::{AllocError, Global};
 

@@ -39,8 +39,8 @@ use crate::lexer::{Lexed, lex};
 use crate::module::Module;
 use crate::names::Names;
 use crate::parser::{Stop, parse};
-use crate::place::START;
 use crate::widths::addresses_of;
+use hls_base::place::TEXT_START;
 use hls_base::refusal::{Fail, Refusal};
 use rtl_core::design::Design;
 use std::alloc::{AllocError, Global};
@@ -133,7 +133,7 @@ pub fn read(alloc: Global, bytes: &[u8]) -> Result<Design, Fail>
     if bytes.len() > TEXT_LIMIT {
         return Err(Fail::Refused(Refusal {
             rule: 56,
-            place: START,
+            place: TEXT_START,
         }));
     }
     let lexed = lex(alloc, bytes)?;

@@ -14,4 +14,4 @@ returns-in-Err-Refused-clause-refused c =
     let bytes = c.args.bytes.now in
     let stops = subst (λ z. StopsReport z c.whole.new.cursor) c.new-cursor.ensures (rw c.in-Err-Refused.field-0-is at c.in-Err-Refused.ensures) in
     rw c.refusal-in-Err-Refused.ensures
-    (refused_place bytes c.whole.new.cursor c.split_at.result.0.now _ stops (c.split_at.ensures.front ∙ ap (λ z. take (length bytes - length z) bytes) c.left.ensures) c.if-bytes-gt-LARGEST_REPORT.false c.place_after.ensures)
+    (refused_place bytes c.whole.new.cursor c.split_at.result.0.now _ stops (c.split_at.ensures.front ∙ ap (λ z. take (length bytes - length z) bytes) c.left.ensures) c.if-bytes-gt-LARGEST_REPORT.false c.place_after.ensures.value)
