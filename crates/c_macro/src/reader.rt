@@ -73,7 +73,7 @@ impl<'a> Reader<'a> {
         }
     }
 
-    fn take_token(&mut self, alloc: Global, front: &[Token]) -> Result<(), Fail>
+    fn take_token(&mut self, alloc: Global, front: &'a [Token]) -> Result<(), Fail>
         requires one { length front.now ≡ 1 }
         requires within { IsWithin self.old.output }
         ensures token { TakesToken front.now result self.old self.new }

@@ -229,3 +229,19 @@ fn doubling_words_end(rt: HostRuntime) -> Result<(), TestFail> {
     assert_eq!(rt; found.as_str(), "rule 31 at 62:5");
     Ok(())
 }
+
+#[test]
+fn definitions_through_one_another(rt: HostRuntime) -> Result<(), TestFail> {
+    let mut source = String::new(rt.alloc());
+    let mut wanted = String::from_str(rt.alloc(), " 257:1.1~A0")?;
+    for i in 0..256u32 {
+        let line = format!(in rt.alloc(); "#define A{i} A{} {i}\n", (i + 1) % 256)?;
+        source.push_str(line.as_str())?;
+        let token = format!(in rt.alloc(); " 257:1.{}~{}i32", i + 2, 255 - i)?;
+        wanted.push_str(token.as_str())?;
+    }
+    source.push_str("A0")?;
+    let found = shown(rt.alloc(), source.as_str())?;
+    assert_eq!(rt; found.as_str(), wanted.as_str());
+    Ok(())
+}
