@@ -15,7 +15,7 @@ use Rattle.c_tree.specs.Grammar.{DerivesItems, DerivesProgram}
 use Rattle.c_tree.specs.Places.{without_places}
 
 -- The text is a row of white space, comments and tokens, C11 6.4, and these tokens are the program, C11 6.9, wherever they stand. None of them is a `#`, so that no line is a directive
--- and the preprocessor leaves each token as it is, C11 6.10. The text may be longer than a source may be: a program whose source has macros is longer when they are written out.
+-- and the preprocessor leaves each token as it is, C11 6.10. The text may have more bytes and more tokens than a source may have.
 pub record IsTextOf (text : List ℕ) (program : ProgramTree) : Type 0 where
   pub pieces : List Piece
   pub derived : ProgramTree
