@@ -429,62 +429,74 @@ is_close sort = same_close sort sort
 abbrev pub close : Spot → ℕ → ℕ → Sort → Sort → Option Step
 close spot depth count wanted sort = only_if (same_close wanted sort) (take (record spot { count = count }) depth [])
 
+abbrev pub operand_step : Goal → Spot → Sort → Option Step
+operand_step (G.Operand depth) spot sort = operand spot depth sort
+operand_step (G.Target depth) spot sort = target spot depth sort
+operand_step (G.Subscripts depth) spot sort = subscripts spot depth sort
+operand_step (G.AfterOperand named depth) spot sort = after_operand spot named depth sort
+operand_step (G.Group depth) spot sort = group spot depth sort
+operand_step (G.Arguments depth) spot sort = arguments spot depth sort
+operand_step (G.MoreArguments depth) spot sort = more_arguments spot depth sort
+operand_step _ spot sort = None
+
 abbrev pub expression_step : Goal → Spot → Sort → Option Step
-expression_step (G.Operand depth) spot sort = operand spot depth sort
-expression_step (G.Target depth) spot sort = target spot depth sort
-expression_step (G.Subscripts depth) spot sort = subscripts spot depth sort
-expression_step (G.AfterOperand named depth) spot sort = after_operand spot named depth sort
-expression_step (G.Group depth) spot sort = group spot depth sort
-expression_step (G.Arguments depth) spot sort = arguments spot depth sort
-expression_step (G.MoreArguments depth) spot sort = more_arguments spot depth sort
 expression_step (G.Expression depth) spot sort = expression spot depth sort
-expression_step (G.Choice depth) spot sort = choice spot depth sort
 expression_step (G.Assign depth) spot sort = assign spot depth sort
+expression_step (G.Choice depth) spot sort = choice spot depth sort
 expression_step (G.Commas depth) spot sort = commas spot depth sort
 expression_step (G.AfterTarget named action depth first) spot sort = after_target spot named action depth first sort
 expression_step (G.Operators depth first) spot sort = operators spot depth first sort
 expression_step (G.ChoiceColon depth) spot sort = choice_colon spot depth sort
 expression_step (G.OptionalChoice depth) spot sort = choice spot depth sort
 expression_step (G.OptionalExpression depth) spot sort = expression spot depth sort
-expression_step _ spot sort = None
+expression_step goal spot sort = operand_step goal spot sort
+
+abbrev pub declaration_step : Goal → Spot → Sort → Option Step
+declaration_step (G.Kind depth) spot sort = kind spot depth sort
+declaration_step (G.KindWords words depth) spot sort = kind_words spot words depth sort
+declaration_step (G.Object depth) spot sort = object spot depth sort
+declaration_step (G.MoreObjects depth) spot sort = more_objects spot depth sort
+declaration_step (G.Lengths depth) spot sort = lengths spot depth sort
+declaration_step (G.Initialiser depth) spot sort = initialiser spot depth sort
+declaration_step (G.Init depth) spot sort = init spot depth sort
+declaration_step (G.MoreInits depth) spot sort = more_inits spot depth sort
+declaration_step (G.OptionalInit depth) spot sort = optional_init spot depth sort
+declaration_step goal spot sort = expression_step goal spot sort
+
+abbrev pub item_step : Goal → Spot → Sort → Option Step
+item_step G.Params spot sort = params spot sort
+item_step G.MoreParams spot sort = more_params spot sort
+item_step (G.OptionalName depth) spot sort = optional_name spot depth sort
+item_step G.Items spot sort = items spot sort
+item_step (G.Item constant) spot sort = item spot constant sort
+item_step G.FunctionName spot sort = function_name spot sort
+item_step G.Declarator spot sort = declarator spot sort
+item_step G.AfterDeclarator spot sort = after_declarator spot sort
+item_step G.Definition spot sort = definition spot sort
+item_step goal spot sort = declaration_step goal spot sort
+
+abbrev pub statement_step : Goal → Spot → Sort → Option Step
+statement_step (G.Statement depth) spot sort = statement spot depth sort
+statement_step (G.Else depth) spot sort = other_branch spot depth sort
+statement_step (G.Block depth) spot sort = block spot depth sort
+statement_step (G.Body depth) spot sort = body spot depth sort
+statement_step (G.First depth) spot sort = first spot depth sort
+statement_step (G.Action depth) spot sort = action spot depth sort
+statement_step (G.Actions depth) spot sort = actions spot depth sort
+statement_step (G.MoreActions depth) spot sort = more_actions spot depth sort
+statement_step (G.ActionTarget depth first) spot sort = action_target spot depth first sort
+statement_step (G.ActionSubscripts depth first) spot sort = action_subscripts spot depth first sort
+statement_step goal spot sort = item_step goal spot sort
 
 abbrev pub step_of : Goal → Spot → Sort → Option Step
-step_of (G.Action depth) spot sort = action spot depth sort
-step_of (G.Actions depth) spot sort = actions spot depth sort
-step_of (G.MoreActions depth) spot sort = more_actions spot depth sort
-step_of (G.ActionTarget depth first) spot sort = action_target spot depth first sort
-step_of (G.ActionSubscripts depth first) spot sort = action_subscripts spot depth first sort
 step_of (G.CloseParen depth count) spot sort = closing depth (close spot depth count o.RightParen sort)
 step_of (G.CloseBracket depth count) spot sort = closing depth (close spot depth count o.RightBracket sort)
 step_of (G.CloseBrace depth) spot sort = closing depth (close spot depth 0 o.RightBrace sort)
 step_of (G.OpenParen depth) spot sort = close spot depth 0 o.LeftParen sort
 step_of (G.Semicolon depth) spot sort = close spot depth 0 o.Semicolon sort
 step_of (G.LabelColon depth) spot sort = close spot depth 0 o.Colon sort
-step_of (G.Kind depth) spot sort = kind spot depth sort
-step_of (G.KindWords words depth) spot sort = kind_words spot words depth sort
-step_of (G.Object depth) spot sort = object spot depth sort
-step_of (G.MoreObjects depth) spot sort = more_objects spot depth sort
-step_of (G.Lengths depth) spot sort = lengths spot depth sort
-step_of (G.Initialiser depth) spot sort = initialiser spot depth sort
-step_of (G.Init depth) spot sort = init spot depth sort
-step_of (G.MoreInits depth) spot sort = more_inits spot depth sort
-step_of (G.OptionalInit depth) spot sort = optional_init spot depth sort
-step_of (G.Statement depth) spot sort = statement spot depth sort
-step_of (G.Else depth) spot sort = other_branch spot depth sort
 step_of (G.Again depth) spot sort = close spot depth 0 o.While sort
-step_of (G.Block depth) spot sort = block spot depth sort
-step_of (G.Body depth) spot sort = body spot depth sort
-step_of (G.First depth) spot sort = first spot depth sort
-step_of G.Params spot sort = params spot sort
-step_of G.MoreParams spot sort = more_params spot sort
-step_of (G.OptionalName depth) spot sort = optional_name spot depth sort
-step_of G.Items spot sort = items spot sort
-step_of (G.Item constant) spot sort = item spot constant sort
-step_of G.FunctionName spot sort = function_name spot sort
-step_of G.Declarator spot sort = declarator spot sort
-step_of G.AfterDeclarator spot sort = after_declarator spot sort
-step_of G.Definition spot sort = definition spot sort
-step_of goal spot sort = expression_step goal spot sort
+step_of goal spot sort = statement_step goal spot sort
 
 -- nothing need be taken for it
 abbrev pub is_optional : Goal → Bool
