@@ -1,6 +1,7 @@
 -- An expression as its innermost part and the operators around it: what is found of the whole, from what is found of the part.
-use Rattle.std.specs.Prelude.{ℕ, Bool, List, [], ◌∷◌, ◌++◌, Option}
+use Rattle.std.specs.Prelude.{ℕ, Bool, true, false, List, [], ◌∷◌, ◌++◌, Option}
 use Rattle.hls_base.specs.declared.refusal.Refusal.{Refusal}
+use Rattle.c_tree.specs.Tree as tree
 use Rattle.c_tree.specs.Tree.{Tree}
 use Rattle.c_checked.specs.Faults.{lesser, least}
 use Rattle.c_checked.specs.Names.{Declared}
@@ -9,6 +10,15 @@ use Rattle.c_checked.specs.Expressions.{expression_faults}
 use Rattle.c_types.specs.declared.steps.Changed.{Changed}
 use Rattle.c_types.specs.declared.steps.Step.{Step}
 use Rattle.c_types.specs.declared.steps.Step.TheVariants as s
+
+-- no operator of a chain is at the top
+abbrev pub is_innermost : Tree → Bool
+is_innermost (tree.unary op arg at) = false
+is_innermost (tree.binary op left right at) = false
+is_innermost (tree.cast to arg at) = false
+is_innermost (tree.assign changed op value at) = false
+is_innermost (tree.comma left right at) = false
+is_innermost _ = true
 
 -- the least fault of an expression, and its accesses
 pub record Found : Type 0 where

@@ -8,6 +8,7 @@ ghost use Rattle.c_checked.specs.Names.{sense_of, use_faults, target_faults};
 ghost use Rattle.c_checked.specs.Names.{count as spec_count};
 ghost use Rattle.c_checked.specs.Expressions.{expression_faults, changed_faults, operand_faults};
 ghost use Rattle.c_checked.specs.Expressions as spec;
+ghost use Rattle.c_types.specs.Chains.{is_innermost};
 ghost use Rattle.c_tree.specs.Tree as tree;
 
 use crate::calls::{call_fault, count, is_array, name_given_fault, params_of, void_fault};
@@ -38,14 +39,13 @@ pub fn expression(
     alloc: Global,
     bodies: &[Text],
     names: &Scopes,
-    used: bool,
+    mut used: bool,
     e: &Expr,
 ) -> Result<Judged, AllocError>
     ensures fault { IfOk result (λ j. j.fault ≡ least (expression_faults used bodies.now names.now (tree_of e.now))) }
     ensures accesses { IfOk result (λ j. j.accesses.items ≡ accesses names.now (tree_of e.now)) }
 {
     let mut steps = Vec::new(alloc);
-    let mut used = used;
     let mut part = e;
     'chain: loop {
         match part {
@@ -81,29 +81,47 @@ pub fn expression(
                 used = true;
                 part = arg;
             }
-            Expr::Number { .. } => return joined(number(alloc), steps),
-            Expr::Name { name, at } => return joined(named(alloc, names, name, *at)?, steps),
-            Expr::Index {
-                array,
-                subscripts,
-                at,
-            } => return joined(
-                element(alloc, bodies, names, array, subscripts, *at)?,
-                steps,
-            ),
-            Expr::Call { callee, args, at } => {
-                return joined(call(alloc, bodies, names, used, callee, args, *at)?, steps);
-            }
-            Expr::Choice { test, yes, no, .. } => {
-                let test = expression(alloc, bodies, names, true, test)?;
-                let yes = expression(alloc, bodies, names, true, yes)?;
-                let no = expression(alloc, bodies, names, true, no)?;
-                return joined(chosen(test, yes, no)?, steps);
-            }
-            Expr::Bump { target, at, .. } => {
-                return joined(changed(alloc, bodies, names, target, *at, &[])?, steps);
-            }
+            _ => return joined(innermost(alloc, bodies, names, used, part)?, steps),
         }
+    }
+}
+
+/// The part of a chain that none of its operators is at the top of.
+#[inline(never)]
+#[cycle(expression)]
+#[tactic(auto, using(crate::proofs::Trees::choice_faults, crate::proofs::Trees::choice_accesses))]
+fn innermost(
+    alloc: Global,
+    bodies: &[Text],
+    names: &Scopes,
+    used: bool,
+    e: &Expr,
+) -> Result<Judged, AllocError>
+    requires { is_innermost (tree_of e.now) ≡ true }
+    ensures fault { IfOk result (λ j. j.fault ≡ least (expression_faults used bodies.now names.now (tree_of e.now))) }
+    ensures accesses { IfOk result (λ j. j.accesses.items ≡ accesses names.now (tree_of e.now)) }
+{
+    match e {
+        Expr::Number { .. } => Ok(number(alloc)),
+        Expr::Name { name, at } => named(alloc, names, name, *at),
+        Expr::Index {
+            array,
+            subscripts,
+            at,
+        } => element(alloc, bodies, names, array, subscripts, *at),
+        Expr::Call { callee, args, at } => call(alloc, bodies, names, used, callee, args, *at),
+        Expr::Choice { test, yes, no, .. } => {
+            let test = expression(alloc, bodies, names, true, test)?;
+            let yes = expression(alloc, bodies, names, true, yes)?;
+            let no = expression(alloc, bodies, names, true, no)?;
+            chosen(test, yes, no)
+        }
+        Expr::Bump { target, at, .. } => changed(alloc, bodies, names, target, *at, &[]),
+        Expr::Binary { .. }
+        | Expr::Comma { .. }
+        | Expr::Assign { .. }
+        | Expr::Unary { .. }
+        | Expr::Cast { .. } => unreachable!(),
     }
 }
 
