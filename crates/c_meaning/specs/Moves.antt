@@ -94,6 +94,12 @@ evaluated used (tree.bump (tree.target text subscripts place) up post at) m =
     going (f.subscripts subscripts (f.bumping text up post place at)) (holding (numbers_opened m.held) m)
 evaluated used (tree.comma left right at) m = going (f.evaluate false left) (pushed (f.on_value (f.comma right)) m)
 
+-- an expression that changes an object itself
+abbrev pub is_change : Tree → Bool
+is_change (tree.assign target op v at) = true
+is_change (tree.bump target up post at) = true
+is_change t = false
+
 -- ---- subscripts and arguments under way
 
 abbrev pub used_for : Use → Configuration → Configuration

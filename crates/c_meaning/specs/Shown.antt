@@ -42,7 +42,7 @@ loop_of l = loop_with l.rounds (stmt_of l.body.now.value) l.at
 
 abbrev pub use_of : Use → f.Use
 use_of (u.Reading array at) = f.reading array.now at
-use_of (u.Assigning name op value place at) = f.assigning name.now op (tree_of value.now) place at
+use_of (u.Assigning a value) = f.assigning a.name.now a.op (tree_of value.now) a.place a.at
 use_of (u.Bumping name up post place at) = f.bumping name.now up post place at
 
 abbrev pub value_frame_of : ValueFrame → f.ValueFrame
@@ -50,16 +50,16 @@ value_frame_of (v.Unary op at) = f.unary op at
 value_frame_of (v.Left op right at) = f.left op (tree_of right.now) at
 value_frame_of (v.Right op x at) = f.right op x at
 value_frame_of (v.Reached fork at) = f.reached fork at
-value_frame_of (v.Choice first second at colon) = f.choice (tree_of first.now) (tree_of second.now) at colon
+value_frame_of (v.Choice c) = f.choice (tree_of c.first.now) (tree_of c.second.now) c.at c.colon
 value_frame_of (v.Chosen fork at kind) = f.chosen fork at kind
 value_frame_of (v.Cast to) = f.cast to
 value_frame_of (v.Comma right) = f.comma (tree_of right.now)
 value_frame_of (v.Subscript others u) = f.subscript (trees_of others.now) (use_of u)
-value_frame_of (v.AssignedTo name op place at) = f.assigned_to name.now op place at
+value_frame_of (v.AssignedTo a) = f.assigned_to a.name.now a.op a.place a.at
 value_frame_of (v.Argument call) = f.argument (trees_of call.others.now) call.callee.now call.used call.at
 value_frame_of (v.Acting more) = f.acting (map action_of more.now)
 value_frame_of (v.Initial object element) = f.initial object element
-value_frame_of (v.IfTest tail body other at) = f.if_test tail (stmt_of body.now.value) (else_part (option_map else_of (option_copied other))) at
+value_frame_of (v.IfTest b) = f.if_test b.tail (stmt_of b.body.now.value) (else_part (option_map else_of (option_copied b.other))) b.at
 value_frame_of (v.SwitchTest body at) = f.switch_test (stmts_of body.now) at
 value_frame_of (v.LoopTest l spent) = f.loop_test (loop_of l) spent
 value_frame_of (v.Returning tail) = f.returning tail

@@ -1,13 +1,11 @@
 //! The elements of objects as bit patterns.
 ghost use Rattle.std.specs.Prelude.{◌≡◌, ◌++◌, ◌≤◌, map, IfOk, OnOk};
 ghost use Rattle.hls_base.specs.ArrayAddress.{element_count};
-ghost use Rattle.c_value.specs.Values.{number_of};
 ghost use Rattle.c_meaning.specs.Run.{element_pattern, patterns, filled, result_pattern};
 
 use crate::object::Object;
 use c_token::ctype::CType;
-use c_value::convert::pattern;
-use c_value::kind::{count_of, half_of};
+use c_value::convert::{number_of, pattern};
 use hls_base::words::{Arrays, Words};
 use std::alloc::{AllocError, Global};
 
@@ -59,17 +57,6 @@ pub fn result_pattern(kind: Option<CType>, number: Option<i128>) -> Option<u64>
     match (kind, number) {
         (Some(kind), Some(n)) => Some(pattern(kind, n)),
         _ => None,
-    }
-}
-
-/// The number that a word is as bits of a type.
-pub fn number_of(kind: CType, word: u64) -> i128
-    ensures { result ≡ number_of kind word }
-{
-    let number = i128::from(word);
-    match kind {
-        CType::Int { signed: true, bits } if number >= half_of(bits) => number - count_of(bits),
-        _ => number,
     }
 }
 

@@ -2,12 +2,11 @@
 ghost use Rattle.std.specs.Prelude.{◌≡◌, ◌++◌, ◌+◌, ◌<◌, ◌^◌, length, map, drop, not, ◌==◌, IfOk, OnOk};
 ghost use Rattle.c_tree.specs.View.{param_of, object_of};
 ghost use Rattle.c_meaning.specs.Store.{lengths_in};
-ghost use Rattle.c_value.specs.Values.{number_of};
 ghost use Rattle.c_meaning.specs.Run.{is_array_parameter, word_of, top_arguments, host_arrays, file_store, filled, head_or_none};
 ghost use Rattle.c_meaning.specs.Declarations.{objects_of};
 ghost use Rattle.c_meaning.specs.FittingInputs.{words_fit, array_fits, scalars_fit, arrays_fit, inputs_fit};
 
-use crate::contents::{filled, number_of};
+use crate::contents::filled;
 use crate::file_scope::{FileContents, file_store, tail};
 use crate::lengths::lengths;
 use crate::object::{Object, element_count};
@@ -15,7 +14,7 @@ use crate::value::Argument;
 use c_token::ctype::CType;
 use c_tree::function::Param;
 use c_tree::object::Object as Declared;
-use c_value::convert::ones;
+use c_value::convert::{number_of, ones};
 use hls_base::inputs::Inputs;
 use hls_base::words::Words;
 use std::alloc::{AllocError, Global};

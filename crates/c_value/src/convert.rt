@@ -31,9 +31,8 @@ pub fn pattern(kind: CType, n: i128) -> u64
 
 /// The number that has these bits.
 pub fn number_of(kind: CType, word: u64) -> i128
-    requires { word < 2 ^ width kind }
     ensures value { result ≡ number_of kind word }
-    ensures fits { IsTrue (is_of kind result) }
+    ensures fits { word < 2 ^ width kind → IsTrue (is_of kind result) }
 {
     let number = i128::from(word);
     match kind {

@@ -1,19 +1,21 @@
 //! Values and ends for the frames that wait for them.
 use crate::machine::Machine;
-use crate::machine::frame::{EndFrame, Frame, Stage, Step, ValueFrame};
+use crate::machine::frame::{Call, EndFrame, Frame, Stage, Step, Use, ValueFrame};
 use crate::machine::looping::round_of;
-use crate::machine::operator::{operated, unary};
+use crate::machine::operator::{cast, operated, truth, unary};
 use crate::value::{Argument, Completion, Value};
-use c_value::convert::convert;
-use c_value::kind::INT;
+use c_tree::expression::Expr;
+use c_tree::statement::Stmt;
+use hls_base::place::Place;
 use std::alloc::{AllocError, Global};
 
 impl<'p> Machine<'p> {
-    ghost use Rattle.std.specs.Prelude.{◌≡◌, ◌<◌, length, Some, OnOk, OnErr};
+    ghost use Rattle.std.specs.Prelude.{◌≡◌, ◌<◌, length, true, Some, OnOk, OnErr};
+    ghost use Rattle.c_tree.specs.View.{tree_of, trees_of, stmts_of};
     ghost use Rattle.c_meaning.specs.Frames as f;
-    ghost use Rattle.c_meaning.specs.Moves.{resumed, ended, popped};
+    ghost use Rattle.c_meaning.specs.Moves.{resumed, ended, going, popped};
     ghost use Rattle.c_meaning.specs.Sound.{value_fits, end_fits};
-    ghost use Rattle.c_meaning.specs.Shown.{value_frame_of, end_frame_of, first_of};
+    ghost use Rattle.c_meaning.specs.Shown.{value_frame_of, end_frame_of, use_of, first_of};
     ghost use Rattle.c_meaning.specs.Stacks.{stack_of};
     ghost use Rattle.c_meaning.specs.Machines.{configuration_of};
 
@@ -33,63 +35,74 @@ impl<'p> Machine<'p> {
             ValueFrame::Unary { op, at } => self.conclude_top(unary(op, x, at)),
             ValueFrame::Left { op, right, at } => self.join(op, x, right, at),
             ValueFrame::Right { op, x: first, at } => self.conclude_top(operated(op, first, x, at)),
-            ValueFrame::Reached { fork, at } => {
-                let number = i128::from(x.number != 0);
-                self.leave_operand(fork, at, Value { kind: INT, number });
-            }
-            ValueFrame::Choice {
-                first,
-                second,
-                at,
-                colon,
-            } => self.pick_operand(alloc, first, second, at, colon, x)?,
-            ValueFrame::Chosen { fork, at, kind } => {
-                let number = convert(kind, x.number);
-                self.leave_operand(fork, at, Value { kind, number });
-            }
-            ValueFrame::Cast(kind) => {
-                let number = convert(kind, x.number);
-                self.go_on(Step::Give(Value { kind, number }));
-            }
-            ValueFrame::Comma(right) => self.go_on(Step::Evaluate {
-                used: true,
-                e: right,
-            }),
-            ValueFrame::Subscript(others, purpose) => {
-                self.numbers.add(alloc, x.number)?;
-                self.go_on(Step::Subscripts(others, purpose));
-            }
-            ValueFrame::AssignedTo {
-                name,
-                op,
-                place,
-                at,
-            } => self.assign_element(name, op, place, x, at),
-            ValueFrame::Argument(call) => {
-                self.given.add(alloc, Argument::Number(x.number))?;
-                self.go_on(Step::Arguments(call));
-            }
+            ValueFrame::Reached { fork, at } => self.leave_operand(fork, at, truth(x)),
+            ValueFrame::Choice(choice) => self.pick_operand(alloc, choice, x)?,
+            ValueFrame::Chosen { fork, at, kind } => self.leave_operand(fork, at, cast(kind, x)),
+            ValueFrame::Cast(kind) => self.go_on(Step::Give(cast(kind, x))),
+            ValueFrame::Comma(right) => self.evaluate_next(right),
+            ValueFrame::Subscript(others, purpose) => self.add_subscript(
+                alloc, x, others, purpose,
+            )?,
+            ValueFrame::AssignedTo(assignment) => self.assign_element(assignment, x),
+            ValueFrame::Argument(call) => self.add_argument(alloc, x, call)?,
             ValueFrame::Acting(others) => self.go_on(Step::Act(others)),
             ValueFrame::Initial { object, element } => self.initialise_element(object, element, x),
-            ValueFrame::IfTest {
-                tail,
-                body,
-                other,
-                at,
-            } => self.branch(tail, x.number != 0, body, other, at)?,
-            ValueFrame::SwitchTest { body, at } => {
-                self.stack.replace(Frame::OnEnd(EndFrame::BehindSwitch(at)));
-                self.go(Step::Jump(x, body));
-            }
-            ValueFrame::LoopTest(looping, spent) => {
-                self.behind_test(looping, spent, x.number != 0)?;
-            }
-            ValueFrame::Returning { tail } => {
-                let number = Some(self.result_number(x.number));
-                self.go_on(Step::Complete(Completion::Returned { number, tail }));
-            }
+            ValueFrame::IfTest(branches) => self.branch(branches, x.number != 0)?,
+            ValueFrame::SwitchTest { body, at } => self.enter_switch(x, body, at),
+            ValueFrame::LoopTest(looping, spent) => self.behind_test(
+                looping,
+                spent,
+                x.number != 0,
+            )?,
+            ValueFrame::Returning { tail } => self.leave_function(tail, x),
         }
         Ok(())
+    }
+
+    fn evaluate_next(&mut self, e: &'p Expr)
+        ensures { configuration_of self.new ≡ going (f.evaluate true (tree_of e.now)) (popped (configuration_of self.old)) }
+    {
+        self.go_on(Step::Evaluate { used: true, e });
+    }
+
+    fn add_subscript(
+        &mut self,
+        alloc: Global,
+        x: Value,
+        others: &'p [Expr],
+        purpose: Use<'p>,
+    ) -> Result<(), AllocError>
+        ensures ok { OnOk result (configuration_of self.new ≡ resumed (f.subscript (trees_of others.now) (use_of purpose.entry)) x (popped (configuration_of self.old))) }
+        ensures err { OnErr result (configuration_of self.new ≡ configuration_of self.old) }
+    {
+        self.numbers.add(alloc, x.number)?;
+        self.go_on(Step::Subscripts(others, purpose));
+        Ok(())
+    }
+
+    fn add_argument(&mut self, alloc: Global, x: Value, call: Call<'p>) -> Result<(), AllocError>
+        ensures ok { OnOk result (configuration_of self.new ≡ resumed (f.argument (trees_of call.entry.others.now) call.entry.callee.now call.entry.used call.entry.at) x (popped (configuration_of self.old))) }
+        ensures err { OnErr result (configuration_of self.new ≡ configuration_of self.old) }
+    {
+        self.given.add(alloc, Argument::Number(x.number))?;
+        self.go_on(Step::Arguments(call));
+        Ok(())
+    }
+
+    /// Jumps into the body of a switch, whose frame takes the place of the uppermost.
+    fn enter_switch(&mut self, x: Value, body: &'p [Stmt], at: Place)
+        requires { 0 < length (stack_of self.old.stack) }
+        ensures { configuration_of self.new ≡ resumed (f.switch_test (stmts_of body.now) at) x (popped (configuration_of self.old)) }
+    {
+        self.stack.replace(Frame::OnEnd(EndFrame::BehindSwitch(at)));
+        self.go(Step::Jump(x, body));
+    }
+
+    fn leave_function(&mut self, tail: bool, x: Value)
+        ensures { configuration_of self.new ≡ resumed (f.returning tail) x (popped (configuration_of self.old)) }
+    {
+        let number = Some(self.result_number(x.number));
+        self.go_on(Step::Complete(Completion::Returned { number, tail }));
     }
 
     /// Tells the uppermost frame that what it waits for ends so.

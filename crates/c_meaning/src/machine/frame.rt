@@ -37,6 +37,33 @@ pub struct Loop<'p> {
     pub at: Place,
 }
 
+/// The operands of `?:` of which its test chooses one.
+#[derive(Clone, Copy)]
+pub struct Choice<'p> {
+    pub first: &'p Expr,
+    pub second: &'p Expr,
+    pub at: Place,
+    pub colon: Place,
+}
+
+/// The branches of an `if`. The flag says whether they are in a tail position.
+#[derive(Clone, Copy)]
+pub struct Branches<'p> {
+    pub tail: bool,
+    pub body: &'p Box<Stmt>,
+    pub other: Option<&'p Else>,
+    pub at: Place,
+}
+
+/// An assignment: the name of its target, the operator of a compound one, and the places of both.
+#[derive(Clone, Copy)]
+pub struct Assignment<'p> {
+    pub name: &'p Text,
+    pub op: Option<Binary>,
+    pub place: Place,
+    pub at: Place,
+}
+
 /// What subscripts are evaluated for.
 #[derive(Clone, Copy)]
 pub enum Use<'p> {
@@ -44,13 +71,7 @@ pub enum Use<'p> {
         array: &'p Text,
         at: Place,
     },
-    Assigning {
-        name: &'p Text,
-        op: Option<Binary>,
-        value: &'p Expr,
-        place: Place,
-        at: Place,
-    },
+    Assigning(Assignment<'p>, &'p Expr),
     Bumping {
         name: &'p Text,
         up: bool,
@@ -113,12 +134,7 @@ pub enum ValueFrame<'p> {
         fork: bool,
         at: Place,
     },
-    Choice {
-        first: &'p Expr,
-        second: &'p Expr,
-        at: Place,
-        colon: Place,
-    },
+    Choice(Choice<'p>),
     Chosen {
         fork: bool,
         at: Place,
@@ -127,24 +143,14 @@ pub enum ValueFrame<'p> {
     Cast(CType),
     Comma(&'p Expr),
     Subscript(&'p [Expr], Use<'p>),
-    AssignedTo {
-        name: &'p Text,
-        op: Option<Binary>,
-        place: Place,
-        at: Place,
-    },
+    AssignedTo(Assignment<'p>),
     Argument(Call<'p>),
     Acting(&'p [Action]),
     Initial {
         object: usize,
         element: usize,
     },
-    IfTest {
-        tail: bool,
-        body: &'p Box<Stmt>,
-        other: Option<&'p Else>,
-        at: Place,
-    },
+    IfTest(Branches<'p>),
     SwitchTest {
         body: &'p [Stmt],
         at: Place,

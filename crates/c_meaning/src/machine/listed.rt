@@ -1,6 +1,6 @@
 //! Subscripts, arguments and actions, one after another.
 use crate::machine::Machine;
-use crate::machine::frame::{Call, Frame, Step, Use, ValueFrame};
+use crate::machine::frame::{Assignment, Call, Frame, Step, Use, ValueFrame};
 use crate::machine::operator::bumped;
 use crate::store::{is_array, read};
 use crate::value::{Argument, Completion};
@@ -32,20 +32,8 @@ impl<'p> Machine<'p> {
                 self.read_element(array, at);
                 Ok(())
             }
-            Use::Assigning {
-                name,
-                op,
-                value,
-                place,
-                at,
-            } => {
-                let frame = ValueFrame::AssignedTo {
-                    name,
-                    op,
-                    place,
-                    at,
-                };
-                self.evaluate_for(frame, true, value)
+            Use::Assigning(assignment, value) => {
+                self.evaluate_for(ValueFrame::AssignedTo(assignment), true, value)
             }
             Use::Bumping {
                 name,
@@ -189,13 +177,13 @@ impl<'p> Machine<'p> {
         ensures err { OnErr result (configuration_of self.new ≡ configuration_of self.old) }
     {
         self.numbers.open(alloc)?;
-        let purpose = Use::Assigning {
+        let assignment = Assignment {
             name: &target.name,
             op,
-            value,
             place: target.at,
             at,
         };
+        let purpose = Use::Assigning(assignment, value);
         self.go(Step::Subscripts(&target.subscripts, purpose));
         Ok(())
     }

@@ -1,7 +1,7 @@
 //! Operators behind an operand.
 use crate::machine::Machine;
 use crate::machine::chain::{Operator, around};
-use crate::machine::frame::{Frame, Step, ValueFrame};
+use crate::machine::frame::{Assignment, Choice, Frame, Step, ValueFrame};
 use crate::machine::operator::assigned;
 use crate::machine::tree::{acts, result_kind};
 use crate::store::{kind_of, write};
@@ -72,16 +72,19 @@ impl<'p> Machine<'p> {
     pub fn pick_operand(
         &mut self,
         alloc: Global,
-        first: &'p Expr,
-        second: &'p Expr,
-        at: Place,
-        colon: Place,
+        choice: Choice<'p>,
         x: Value,
     ) -> Result<(), AllocError>
         requires { 0 < length (stack_of self.old.stack) }
-        ensures ok { OnOk result (configuration_of self.new ≡ picked (tree_of first.now) (tree_of second.now) at colon x (popped (configuration_of self.old))) }
+        ensures ok { OnOk result (configuration_of self.new ≡ picked (tree_of choice.entry.first.now) (tree_of choice.entry.second.now) choice.entry.at choice.entry.colon x (popped (configuration_of self.old))) }
         ensures err { OnErr result (configuration_of self.new ≡ configuration_of self.old) }
     {
+        let Choice {
+            first,
+            second,
+            at,
+            colon,
+        } = choice;
         let kind = common(
             self.kind_here(alloc, first)?,
             self.kind_here(alloc, second)?,
@@ -165,16 +168,15 @@ impl<'p> Machine<'p> {
     }
 
     /// An assignment, behind its value.
-    pub fn assign_element(
-        &mut self,
-        name: &Text,
-        op: Option<Binary>,
-        place: Place,
-        x: Value,
-        at: Place,
-    )
-        ensures { configuration_of self.new ≡ resumed (f.assigned_to name.now op place at) x (popped (configuration_of self.old)) }
+    pub fn assign_element(&mut self, assignment: Assignment<'p>, x: Value)
+        ensures { configuration_of self.new ≡ resumed (f.assigned_to assignment.entry.name.now assignment.entry.op assignment.entry.place assignment.entry.at) x (popped (configuration_of self.old)) }
     {
+        let Assignment {
+            name,
+            op,
+            place,
+            at,
+        } = assignment;
         let object = self.scopes.find(name.items());
         let subscripts = self.numbers.last();
         let outcome = assigned(&mut self.objects, op, object, subscripts, place, x, at);

@@ -1,10 +1,10 @@
 //! Operators on values, and changes of objects.
 ghost use Rattle.std.specs.Prelude.{◌≡◌, ℕ, pos, OnErr, if◌then◌else◌};
 ghost use Rattle.c_tree.specs.declared.operator.Binary.TheVariants as Binary;
-ghost use Rattle.c_value.specs.Operators.{unary_kind, unary_value, computed_of};
+ghost use Rattle.c_value.specs.Operators.{unary_kind, unary_value, computed_of, truth, is_true};
 ghost use Rattle.c_meaning.specs.Store.{State};
 ghost use Rattle.c_meaning.specs.Expression.{value, computed, operated, store_object, assigned, bumped};
-ghost use Rattle.c_value.specs.Values.{int_type};
+ghost use Rattle.c_value.specs.Values.{int_type, convert};
 ghost use Rattle.c_meaning.specs.Objects.{state, ran_of};
 
 use crate::object::Object;
@@ -12,6 +12,7 @@ use crate::store::{read, store};
 use crate::value::{Undefined, Value};
 use c_token::ctype::CType;
 use c_tree::operator::{Binary, Unary};
+use c_value::convert::convert;
 use c_value::kind::INT;
 use c_value::operate::{binary_kind, binary_value, unary_kind, unary_value};
 use hls_base::place::Place;
@@ -23,6 +24,26 @@ fn computed(kind: CType, number: Result<i128, UbRule>, at: Place) -> Result<Valu
     match number {
         Ok(number) => Ok(Value { kind, number }),
         Err(rule) => Err(Undefined { rule, at }),
+    }
+}
+
+/// Whether a value is not 0, as an int.
+pub fn truth(x: Value) -> Value
+    ensures { result ≡ value int_type (truth (is_true x.number)) }
+{
+    Value {
+        kind: INT,
+        number: i128::from(x.number != 0),
+    }
+}
+
+/// A value as one of this type.
+pub fn cast(kind: CType, x: Value) -> Value
+    ensures { result ≡ value kind (convert kind x.number) }
+{
+    Value {
+        kind,
+        number: convert(kind, x.number),
     }
 }
 

@@ -1,9 +1,10 @@
 //! Statements.
 use crate::machine::Machine;
 use crate::machine::block::first_objects;
-use crate::machine::frame::{EndFrame, Frame, Loop, Rounds, Stage, Step, ValueFrame};
+use crate::machine::frame::{Branches, EndFrame, Frame, Loop, Rounds, Stage, Step, ValueFrame};
 use crate::value::Completion;
 use c_tree::expression::Expr;
+use c_tree::object::Object;
 use c_tree::statement::{Else, Stmt};
 use c_value::convert::convert;
 use hls_base::place::Place;
@@ -11,9 +12,9 @@ use hls_base::point::PointKind;
 use std::alloc::{AllocError, Global};
 
 impl<'p> Machine<'p> {
-    ghost use Rattle.std.specs.Prelude.{◌≡◌, ◌<◌, length, false, OnOk, OnErr};
+    ghost use Rattle.std.specs.Prelude.{◌≡◌, ◌<◌, length, map, false, OnOk, OnErr};
     ghost use Rattle.std.specs.Option.{option_map, option_copied};
-    ghost use Rattle.c_tree.specs.View.{stmt_of, tree_of, else_of, else_part, first_part};
+    ghost use Rattle.c_tree.specs.View.{object_of, stmt_of, stmts_of, tree_of, else_of, else_part, first_part};
     ghost use Rattle.c_tree.specs.Tree as tree;
     ghost use Rattle.c_meaning.specs.Frames as f;
     ghost use Rattle.c_meaning.specs.Store.{declared_first};
@@ -31,42 +32,13 @@ impl<'p> Machine<'p> {
     {
         match stmt {
             Stmt::Block(body) => self.go(Step::Block { tail, body }),
-            Stmt::Declare(objects) => {
-                self.stack.push(Frame::OnEnd(EndFrame::Declaring(objects)))?;
-                self.go(Step::Complete(Completion::Normal));
-            }
+            Stmt::Declare(objects) => self.begin_declaration(objects)?,
             Stmt::Act(actions) => self.go(Step::Act(actions)),
-            Stmt::If { test, yes, no, at } => {
-                let frame = ValueFrame::IfTest {
-                    tail,
-                    body: yes,
-                    other: no.as_ref(),
-                    at: *at,
-                };
-                self.evaluate_for(frame, true, test)?;
-            }
-            Stmt::Switch { test, body, at } => {
-                let frame = ValueFrame::SwitchTest { body, at: *at };
-                self.evaluate_for(frame, true, test)?;
-            }
-            Stmt::Case { body, at, .. } => {
-                self.open_scope(EndFrame::Leaving)?;
-                let step = Step::Execute {
-                    tail: false,
-                    stmt: body,
-                };
-                self.go_behind(PointKind::Arm, *at, step);
-            }
-            Stmt::While { test, body, at } => {
-                let rounds = Rounds::TestFirst {
-                    test: Some(test),
-                    step: &[],
-                };
-                self.begin_loop(rounds, body, *at)?;
-            }
-            Stmt::Do { body, test, at } => {
-                self.begin_loop(Rounds::TestLast { test }, body, *at)?;
-            }
+            Stmt::If { test, yes, no, at } => self.begin_if(tail, test, yes, no.as_ref(), *at)?,
+            Stmt::Switch { test, body, at } => self.begin_switch(test, body, *at)?,
+            Stmt::Case { body, at, .. } => self.begin_case(body, *at)?,
+            Stmt::While { test, body, at } => self.begin_while(test, body, *at)?,
+            Stmt::Do { body, test, at } => self.begin_loop(Rounds::TestLast { test }, body, *at)?,
             Stmt::For {
                 init,
                 test,
@@ -74,26 +46,90 @@ impl<'p> Machine<'p> {
                 body,
                 at,
             } => {
-                let rounds = Rounds::TestFirst {
-                    test: test.as_ref(),
-                    step,
-                };
-                let looping = Loop {
-                    rounds,
-                    body,
-                    at: *at,
-                };
                 let init = match init {
                     Some(part) => Some(&**part),
                     None => None,
                 };
-                self.begin_for(alloc, init, looping)?;
+                let test = test.as_ref();
+                let rounds = Rounds::TestFirst { test, step };
+                self.begin_for(alloc, init, rounds, body, *at)?;
             }
             Stmt::Break(_) => self.go(Step::Complete(Completion::Broke)),
             Stmt::Continue(_) => self.go(Step::Complete(Completion::Continued)),
             Stmt::Return { value, .. } => self.begin_return(tail, value.as_ref())?,
         }
         Ok(())
+    }
+
+    fn begin_declaration(&mut self, objects: &'p [Object]) -> Result<(), AllocError>
+        ensures ok { OnOk result (configuration_of self.new ≡ executed false (tree.declare (map object_of objects.now)) (configuration_of self.old)) }
+        ensures err { OnErr result (configuration_of self.new ≡ configuration_of self.old) }
+    {
+        self.stack.push(Frame::OnEnd(EndFrame::Declaring(objects)))?;
+        self.go(Step::Complete(Completion::Normal));
+        Ok(())
+    }
+
+    fn begin_if(
+        &mut self,
+        tail: bool,
+        test: &'p Expr,
+        body: &'p Box<Stmt>,
+        other: Option<&'p Else>,
+        at: Place,
+    ) -> Result<(), AllocError>
+        ensures ok { OnOk result (configuration_of self.new ≡ executed tail (tree.if_ (tree_of test.now) (stmt_of body.now.value) (else_part (option_map else_of (option_copied other.entry))) at) (configuration_of self.old)) }
+        ensures err { OnErr result (configuration_of self.new ≡ configuration_of self.old) }
+    {
+        let branches = Branches {
+            tail,
+            body,
+            other,
+            at,
+        };
+        self.evaluate_for(ValueFrame::IfTest(branches), true, test)
+    }
+
+    fn begin_switch(
+        &mut self,
+        test: &'p Expr,
+        body: &'p [Stmt],
+        at: Place,
+    ) -> Result<(), AllocError>
+        ensures ok { OnOk result (configuration_of self.new ≡ executed false (tree.switch_ (tree_of test.now) (stmts_of body.now) at) (configuration_of self.old)) }
+        ensures err { OnErr result (configuration_of self.new ≡ configuration_of self.old) }
+    {
+        self.evaluate_for(ValueFrame::SwitchTest { body, at }, true, test)
+    }
+
+    /// Control comes to a label.
+    fn begin_case(&mut self, body: &'p Stmt, at: Place) -> Result<(), AllocError>
+        ensures ok { OnOk result (configuration_of self.new ≡ at_point point.Arm at (f.execute false (stmt_of body.now)) (scoped f.leaving (configuration_of self.old))) }
+        ensures err { OnErr result (configuration_of self.new ≡ configuration_of self.old) }
+    {
+        self.open_scope(EndFrame::Leaving)?;
+        let step = Step::Execute {
+            tail: false,
+            stmt: body,
+        };
+        self.go_behind(PointKind::Arm, at, step);
+        Ok(())
+    }
+
+    fn begin_while(
+        &mut self,
+        test: &'p Expr,
+        body: &'p Box<Stmt>,
+        at: Place,
+    ) -> Result<(), AllocError>
+        ensures ok { OnOk result (configuration_of self.new ≡ executed false (tree.while_ (tree_of test.now) (stmt_of body.now.value) at) (configuration_of self.old)) }
+        ensures err { OnErr result (configuration_of self.new ≡ configuration_of self.old) }
+    {
+        let rounds = Rounds::TestFirst {
+            test: Some(test),
+            step: &[],
+        };
+        self.begin_loop(rounds, body, at)
     }
 
     fn begin_loop(
@@ -113,9 +149,11 @@ impl<'p> Machine<'p> {
         &mut self,
         alloc: Global,
         init: Option<&'p Stmt>,
-        looping: Loop<'p>,
+        rounds: Rounds<'p>,
+        body: &'p Box<Stmt>,
+        at: Place,
     ) -> Result<(), AllocError>
-        ensures ok { OnOk result (configuration_of self.new ≡ first_begun (first_part (option_map stmt_of (option_copied init.entry))) (loop_of looping.entry) (block_entered (declared_first (first_part (option_map stmt_of (option_copied init.entry)))) (f.items false tree.no_stmt) (configuration_of self.old))) }
+        ensures ok { OnOk result (configuration_of self.new ≡ first_begun (first_part (option_map stmt_of (option_copied init.entry))) (loop_with rounds.entry (stmt_of body.now.value) at) (block_entered (declared_first (first_part (option_map stmt_of (option_copied init.entry)))) (f.items false tree.no_stmt) (configuration_of self.old))) }
         ensures err { OnErr result (configuration_of self.new ≡ configuration_of self.old) }
     {
         let made = first_objects(alloc, init)?;
@@ -126,7 +164,7 @@ impl<'p> Machine<'p> {
             count,
         };
         self.enter_block(made, frame)?;
-        let begun = self.begin_first(init, looping);
+        let begun = self.begin_first(init, Loop { rounds, body, at });
         if begun.is_err() {
             self.stack.pop();
             self.leave_block(count);
@@ -167,18 +205,17 @@ impl<'p> Machine<'p> {
     }
 
     /// The branch of an `if` that its test chooses.
-    pub fn branch(
-        &mut self,
-        tail: bool,
-        holds: bool,
-        body: &'p Box<Stmt>,
-        other: Option<&'p Else>,
-        at: Place,
-    ) -> Result<(), AllocError>
+    pub fn branch(&mut self, branches: Branches<'p>, holds: bool) -> Result<(), AllocError>
         requires { 0 < length (stack_of self.old.stack) }
-        ensures ok { OnOk result (configuration_of self.new ≡ branched tail holds (stmt_of body.now.value) (else_part (option_map else_of (option_copied other.entry))) at (popped (configuration_of self.old))) }
+        ensures ok { OnOk result (configuration_of self.new ≡ branched branches.entry.tail holds (stmt_of branches.entry.body.now.value) (else_part (option_map else_of (option_copied branches.entry.other))) branches.entry.at (popped (configuration_of self.old))) }
         ensures err { OnErr result (configuration_of self.new ≡ configuration_of self.old) }
     {
+        let Branches {
+            tail,
+            body,
+            other,
+            at,
+        } = branches;
         if holds {
             return self.begin_branch(tail, at, body, at);
         }
