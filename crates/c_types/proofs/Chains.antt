@@ -31,22 +31,22 @@ module _ (bodies : List (List ℕ)) (names : List Declared) where
   pub changed_by_parts : (t : Target) (at : Place) (valued : List Access) (c : Changed)
       → c.used ≡ least (target_faults (sense_of t.name names) (count (trees_of t.subscripts.items)) t.at)
       → c.conflict ≡ least (conflicts_among names [] (trees_of t.subscripts.items))
-      → c.inside ≡ least (conflicts_inside c.own.items c.subscripts.items)
+      → c.inside ≡ least (conflicts_inside c.own c.subscripts)
       → c.fault ≡ least (operand_faults bodies names [] (trees_of t.subscripts.items))
-      → c.own.items ≡ change_of names t.name (count (trees_of t.subscripts.items)) at
-      → c.subscripts.items ≡ all_accesses names (trees_of t.subscripts.items)
+      → c.own ≡ change_of names t.name (count (trees_of t.subscripts.items)) at
+      → c.subscripts ≡ all_accesses names (trees_of t.subscripts.items)
       → changed_fault c valued ≡ least (changed_faults bodies names (target_of t) at valued)
   changed_by_parts t at valued c used conflict inside fault own subscripts =
       let subs = trees_of t.subscripts.items in
       let u = least (target_faults (sense_of t.name names) (count subs) t.at) in
       let k = least (conflicts_among names [] subs) in
       let apart = ap (λ xs. least (between xs valued)) subscripts in
-      let within = inside ∙ ap (λ xs. least (conflicts_inside xs c.subscripts.items)) own ∙ ap (λ xs. least (conflicts_inside (change_of names t.name (count subs) at) xs)) subscripts in
+      let within = inside ∙ ap (λ xs. least (conflicts_inside xs c.subscripts)) own ∙ ap (λ xs. least (conflicts_inside (change_of names t.name (count subs) at) xs)) subscripts in
       let beside = ap (λ xs. least (conflicts_inside xs valued)) own in
-      ap (λ x. lesser x (lesser c.conflict (lesser (least (between c.subscripts.items valued)) (lesser c.inside (lesser (least (conflicts_inside c.own.items valued)) c.fault))))) used
-      ∙ ap (λ x. lesser u (lesser x (lesser (least (between c.subscripts.items valued)) (lesser c.inside (lesser (least (conflicts_inside c.own.items valued)) c.fault))))) conflict
-      ∙ ap (λ x. lesser u (lesser k (lesser x (lesser c.inside (lesser (least (conflicts_inside c.own.items valued)) c.fault))))) apart
-      ∙ ap (λ x. lesser u (lesser k (lesser (least (between (all_accesses names subs) valued)) (lesser x (lesser (least (conflicts_inside c.own.items valued)) c.fault))))) within
+      ap (λ x. lesser x (lesser c.conflict (lesser (least (between c.subscripts valued)) (lesser c.inside (lesser (least (conflicts_inside c.own valued)) c.fault))))) used
+      ∙ ap (λ x. lesser u (lesser x (lesser (least (between c.subscripts valued)) (lesser c.inside (lesser (least (conflicts_inside c.own valued)) c.fault))))) conflict
+      ∙ ap (λ x. lesser u (lesser k (lesser x (lesser c.inside (lesser (least (conflicts_inside c.own valued)) c.fault))))) apart
+      ∙ ap (λ x. lesser u (lesser k (lesser (least (between (all_accesses names subs) valued)) (lesser x (lesser (least (conflicts_inside c.own valued)) c.fault))))) within
       ∙ ap (λ x. lesser u (lesser k (lesser (least (between (all_accesses names subs) valued)) (lesser (least (conflicts_inside (change_of names t.name (count subs) at) (all_accesses names subs))) (lesser x c.fault))))) beside
       ∙ ap (λ x. lesser u (lesser k (lesser (least (between (all_accesses names subs) valued)) (lesser (least (conflicts_inside (change_of names t.name (count subs) at) (all_accesses names subs))) (lesser (least (conflicts_inside (change_of names t.name (count subs) at) valued)) x))))) fault
       ∙ sym (changed_parts bodies names t at valued)
@@ -61,7 +61,7 @@ module _ (bodies : List (List ℕ)) (names : List Declared) where
 
   module _ (used : Bool) (before after : List Step) (total : Found) where
     pub binary_more : (op : Binary) (l r : Box Expr Global) (at : Place) (right : Judged)
-        → right.fault ≡ least (expression_faults true bodies names (tree_of r.value)) → right.accesses.items ≡ accesses names (tree_of r.value)
+        → right.fault ≡ least (expression_faults true bodies names (tree_of r.value)) → right.accesses ≡ accesses names (tree_of r.value)
         → after ≡ before ++ s.Binary op right ∷ []
         → steps before (found_of used bodies names (tree_of (e.Binary op l r at))) ≡ total
         → steps after (found_of true bodies names (tree_of l.value)) ≡ total
@@ -76,7 +76,7 @@ module _ (bodies : List (List ℕ)) (names : List Declared) where
         ∙ whole
 
     pub comma_more : (l r : Box Expr Global) (at : Place) (right : Judged)
-        → right.fault ≡ least (expression_faults true bodies names (tree_of r.value)) → right.accesses.items ≡ accesses names (tree_of r.value)
+        → right.fault ≡ least (expression_faults true bodies names (tree_of r.value)) → right.accesses ≡ accesses names (tree_of r.value)
         → after ≡ before ++ s.Comma right ∷ []
         → steps before (found_of used bodies names (tree_of (e.Comma l r at))) ≡ total
         → steps after (found_of false bodies names (tree_of l.value)) ≡ total
@@ -91,10 +91,10 @@ module _ (bodies : List (List ℕ)) (names : List Declared) where
     pub assign_more : (t : Target) (op : Option Binary) (v : Box Expr Global) (at : Place) (c : Changed)
         → c.used ≡ least (target_faults (sense_of t.name names) (count (trees_of t.subscripts.items)) t.at)
         → c.conflict ≡ least (conflicts_among names [] (trees_of t.subscripts.items))
-        → c.inside ≡ least (conflicts_inside c.own.items c.subscripts.items)
+        → c.inside ≡ least (conflicts_inside c.own c.subscripts)
         → c.fault ≡ least (operand_faults bodies names [] (trees_of t.subscripts.items))
-        → c.own.items ≡ change_of names t.name (count (trees_of t.subscripts.items)) at
-        → c.subscripts.items ≡ all_accesses names (trees_of t.subscripts.items)
+        → c.own ≡ change_of names t.name (count (trees_of t.subscripts.items)) at
+        → c.subscripts ≡ all_accesses names (trees_of t.subscripts.items)
         → after ≡ before ++ s.Assign c ∷ []
         → steps before (found_of used bodies names (tree_of (e.Assign t op v at))) ≡ total
         → steps after (found_of true bodies names (tree_of v.value)) ≡ total
@@ -103,5 +103,5 @@ module _ (bodies : List (List ℕ)) (names : List Declared) where
         ap (λ ss. steps ss value) grown ∙ steps_more before (s.Assign c) value
         ∙ ap (steps before) (same-found
         (ap (λ y. lesser y value.fault) (changed_by_parts t at value.accesses c u k i f o x) ∙ sym (assign_faults used bodies names t op v at))
-        (ap (λ xs. xs ++ value.accesses) (accesses_by_parts t at c.own.items c.subscripts.items o x) ∙ sym (ap (accesses names) (assign_tree t op v at))))
+        (ap (λ xs. xs ++ value.accesses) (accesses_by_parts t at c.own c.subscripts o x) ∙ sym (ap (accesses names) (assign_tree t op v at))))
         ∙ whole

@@ -10,3 +10,5 @@ pub mod StatementTrees
 pub mod Calling
 pub mod Chains
 pub mod Trees
+pub mod Conflicting
+pub mod Knowing

@@ -36,17 +36,17 @@ abbrev pub changed_fault : Changed → List Access → Option Refusal
 changed_fault target valued =
     lesser target.used
     (lesser target.conflict
-    (lesser (least (between target.subscripts.items valued))
+    (lesser (least (between target.subscripts valued))
     (lesser target.inside
-    (lesser (least (conflicts_inside target.own.items valued))
+    (lesser (least (conflicts_inside target.own valued))
     target.fault))))
 
 -- the operator with the part that it goes on with: its left operand, or the value that it assigns
 abbrev pub step : Step → Found → Found
 step (s.Binary op right) left =
-    found (lesser (least (operand_conflicts op left.accesses right.accesses.items)) (lesser left.fault right.fault)) (left.accesses ++ right.accesses.items)
-step (s.Comma right) left = found (lesser left.fault right.fault) (left.accesses ++ right.accesses.items)
-step (s.Assign target) value = found (lesser (changed_fault target value.accesses) value.fault) ((target.own.items ++ target.subscripts.items) ++ value.accesses)
+    found (lesser (least (operand_conflicts op left.accesses right.accesses)) (lesser left.fault right.fault)) (left.accesses ++ right.accesses)
+step (s.Comma right) left = found (lesser left.fault right.fault) (left.accesses ++ right.accesses)
+step (s.Assign target) value = found (lesser (changed_fault target value.accesses) value.fault) ((target.own ++ target.subscripts) ++ value.accesses)
 
 -- outermost first
 abbrev pub steps : List Step → Found → Found

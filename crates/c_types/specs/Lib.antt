@@ -8,3 +8,4 @@ pub mod Linked
 pub mod Noted
 pub mod Chains
 pub mod Called
+pub mod Known

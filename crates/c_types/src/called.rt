@@ -1,7 +1,7 @@
 //! The calls in a program.
 ghost use Rattle.std.specs.Prelude.{◌≡◌, ◌++◌, map, OnOk, IfOk};
 ghost use Rattle.std.specs.Option.{option_map};
-ghost use Rattle.c_tree.specs.View.{tree_of, trees_of, target_of, action_of, init_of, inits_of, object_of, stmt_of, stmts_of, param_of, item_of};
+ghost use Rattle.c_tree.specs.View.{tree_of, trees_of, target_of, action_of, init_of, inits_of, object_of, stmt_of, stmts_of, else_of, else_part, first_part, param_of, item_of};
 ghost use Rattle.c_checked.specs.Calls as spec;
 ghost use Rattle.c_types.specs.Called.{backwards};
 
@@ -259,9 +259,7 @@ fn add_statement_calls(
         Stmt::If { test, yes, no, .. } => {
             add_calls(alloc, test, calls)?;
             add_statement_calls(alloc, yes, calls)?;
-            if let Some(Else { body, .. }) = no {
-                add_statement_calls(alloc, body, calls)?;
-            }
+            add_else_calls(alloc, no, calls)?;
         }
         Stmt::Switch { test, body, .. } => {
             add_calls(alloc, test, calls)?;
@@ -275,10 +273,7 @@ fn add_statement_calls(
             add_calls(alloc, test, calls)?;
             add_statement_calls(alloc, body, calls)?;
         }
-        Stmt::Do { body, test, .. } => {
-            add_statement_calls(alloc, body, calls)?;
-            add_calls(alloc, test, calls)?;
-        }
+        Stmt::Do { body, test, .. } => add_do_calls(alloc, body, test, calls)?,
         Stmt::For {
             init,
             test,
@@ -286,15 +281,57 @@ fn add_statement_calls(
             body,
             ..
         } => {
-            if let Some(part) = init {
-                add_statement_calls(alloc, part, calls)?;
-            }
+            add_first_calls(alloc, init, calls)?;
             add_optional_calls(alloc, test, calls)?;
             add_actions_calls(alloc, step, calls)?;
             add_statement_calls(alloc, body, calls)?;
         }
         Stmt::Break(_) | Stmt::Continue(_) => {}
         Stmt::Return { value, .. } => add_optional_calls(alloc, value, calls)?,
+    }
+    Ok(())
+}
+
+/// Adds the calls in the body of a `do`, and then those in its test.
+#[cycle(statements)]
+fn add_do_calls(
+    alloc: Global,
+    body: &Stmt,
+    test: &Expr,
+    calls: &mut Vec<Called>,
+) -> Result<(), AllocError>
+    ensures { OnOk result (calls.new.items ≡ calls.old.items ++ (spec.statement_calls (stmt_of body.now) ++ spec.calls (tree_of test.now))) }
+{
+    add_statement_calls(alloc, body, calls)?;
+    add_calls(alloc, test, calls)?;
+    Ok(())
+}
+
+#[cycle(statements)]
+fn add_else_calls(
+    alloc: Global,
+    branch: &Option<Else>,
+    calls: &mut Vec<Called>,
+) -> Result<(), AllocError>
+    ensures { OnOk result (calls.new.items ≡ calls.old.items ++ spec.else_calls (else_part (option_map else_of branch.now))) }
+{
+    if let Some(branch) = branch {
+        add_statement_calls(alloc, &branch.body, calls)?;
+    }
+    Ok(())
+}
+
+/// Adds the calls in the first part of a `for`.
+#[cycle(statements)]
+fn add_first_calls(
+    alloc: Global,
+    init: &Option<Box<Stmt>>,
+    calls: &mut Vec<Called>,
+) -> Result<(), AllocError>
+    ensures { OnOk result (calls.new.items ≡ calls.old.items ++ spec.first_calls (first_part (option_map (λ s. stmt_of s.value) init.now))) }
+{
+    if let Some(part) = init {
+        add_statement_calls(alloc, part, calls)?;
     }
     Ok(())
 }

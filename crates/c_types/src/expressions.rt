@@ -11,8 +11,9 @@ ghost use Rattle.c_checked.specs.Expressions as spec;
 ghost use Rattle.c_types.specs.Chains.{is_innermost};
 ghost use Rattle.c_tree.specs.Tree as tree;
 
+use crate::accesses::{Accesses, change_of, read_of};
 use crate::calls::{call_fault, count, is_array, name_given_fault, params_of, void_fault};
-use crate::conflicts::{Access, between, change_of, conflict_inside, read_of};
+use crate::conflicts::{between, conflict_inside};
 use crate::faults::lesser;
 use crate::names::{Scopes, Shape, target_fault, use_fault};
 use crate::steps::{Changed, Judged, Step, assigned, chosen, joined};
@@ -23,11 +24,11 @@ use hls_base::text::Text;
 use std::alloc::{AllocError, Global};
 
 /// What was found of subscripts or arguments: the least fault inside them, the least conflict between them, and all their accesses.
-#[derive(Debug, Drop)]
+#[derive(Drop)]
 struct Operands {
     fault: Option<Refusal>,
     conflict: Option<Refusal>,
-    accesses: Vec<Access>,
+    accesses: Accesses,
 }
 
 /// The least fault of an expression, and its accesses. `bodies` names the functions with a body. A value that is not used may be a call without a result.
@@ -43,7 +44,7 @@ pub fn expression(
     e: &Expr,
 ) -> Result<Judged, AllocError>
     ensures fault { IfOk result (λ j. j.fault ≡ least (expression_faults used bodies.now names.now (tree_of e.now))) }
-    ensures accesses { IfOk result (λ j. j.accesses.items ≡ accesses names.now (tree_of e.now)) }
+    ensures accesses { IfOk result (λ j. j.accesses ≡ accesses names.now (tree_of e.now)) }
 {
     let mut steps = Vec::new(alloc);
     let mut part = e;
@@ -81,7 +82,7 @@ pub fn expression(
                 used = true;
                 part = arg;
             }
-            _ => return joined(innermost(alloc, bodies, names, used, part)?, steps),
+            _ => return joined(alloc, innermost(alloc, bodies, names, used, part)?, steps),
         }
     }
 }
@@ -99,7 +100,7 @@ fn innermost(
 ) -> Result<Judged, AllocError>
     requires { is_innermost (tree_of e.now) ≡ true }
     ensures fault { IfOk result (λ j. j.fault ≡ least (expression_faults used bodies.now names.now (tree_of e.now))) }
-    ensures accesses { IfOk result (λ j. j.accesses.items ≡ accesses names.now (tree_of e.now)) }
+    ensures accesses { IfOk result (λ j. j.accesses ≡ accesses names.now (tree_of e.now)) }
 {
     match e {
         Expr::Number { .. } => Ok(number(alloc)),
@@ -114,9 +115,16 @@ fn innermost(
             let test = expression(alloc, bodies, names, true, test)?;
             let yes = expression(alloc, bodies, names, true, yes)?;
             let no = expression(alloc, bodies, names, true, no)?;
-            chosen(test, yes, no)
+            chosen(alloc, test, yes, no)
         }
-        Expr::Bump { target, at, .. } => changed(alloc, bodies, names, target, *at, &[]),
+        Expr::Bump { target, at, .. } => changed(
+            alloc,
+            bodies,
+            names,
+            target,
+            *at,
+            &Accesses::new(alloc),
+        ),
         Expr::Binary { .. }
         | Expr::Comma { .. }
         | Expr::Assign { .. }
@@ -127,11 +135,11 @@ fn innermost(
 
 fn number(alloc: Global) -> Judged
     ensures fault { result.fault ≡ None }
-    ensures accesses { result.accesses.items ≡ [] }
+    ensures accesses { result.accesses ≡ [] }
 {
     Judged {
         fault: None,
-        accesses: Vec::new(alloc),
+        accesses: Accesses::new(alloc),
     }
 }
 
@@ -139,7 +147,7 @@ fn number(alloc: Global) -> Judged
 #[inline(never)]
 fn named(alloc: Global, names: &Scopes, name: &Text, at: Place) -> Result<Judged, AllocError>
     ensures fault { IfOk result (λ j. j.fault ≡ least (use_faults (sense_of name.now names.now) 0 at)) }
-    ensures accesses { IfOk result (λ j. j.accesses.items ≡ conflicts.read_of names.now name.now 0) }
+    ensures accesses { IfOk result (λ j. j.accesses ≡ conflicts.read_of names.now name.now 0) }
 {
     let accesses = read_of(alloc, names, name, 0)?;
     let fault = use_fault(names, name, 0, at);
@@ -159,16 +167,15 @@ fn element(
     at: Place,
 ) -> Result<Judged, AllocError>
     ensures fault { IfOk result (λ j. j.fault ≡ least (expression_faults true bodies.now names.now (tree.index array.now (trees_of subscripts.now) at))) }
-    ensures accesses { IfOk result (λ j. j.accesses.items ≡ accesses names.now (tree.index array.now (trees_of subscripts.now) at)) }
+    ensures accesses { IfOk result (λ j. j.accesses ≡ accesses names.now (tree.index array.now (trees_of subscripts.now) at)) }
 {
     let inner = all_operands(alloc, bodies, names, &[], subscripts)?;
     let number = count(subscripts);
-    let mut accesses = read_of(alloc, names, array, number)?;
+    let own = read_of(alloc, names, array, number)?;
     let used = use_fault(names, array, number, at);
-    let inside = conflict_inside(&accesses, &inner.accesses);
+    let inside = conflict_inside(&own, &inner.accesses);
     let fault = lesser(used, lesser(inner.conflict, lesser(inside, inner.fault)));
-    let mut more = inner.accesses;
-    accesses.append(&mut more)?;
+    let accesses = own.followed_by(alloc, inner.accesses)?;
     Ok(Judged { fault, accesses })
 }
 
@@ -185,7 +192,7 @@ fn call(
     at: Place,
 ) -> Result<Judged, AllocError>
     ensures fault { IfOk result (λ j. j.fault ≡ least (expression_faults used bodies.now names.now (tree.call callee.now (trees_of args.now) at))) }
-    ensures accesses { IfOk result (λ j. j.accesses.items ≡ accesses names.now (tree.call callee.now (trees_of args.now) at)) }
+    ensures accesses { IfOk result (λ j. j.accesses ≡ accesses names.now (tree.call callee.now (trees_of args.now) at)) }
 {
     let inner = all_operands(alloc, bodies, names, params_of(names, callee), args)?;
     let void = if used {
@@ -211,10 +218,10 @@ fn change(
 ) -> Result<Changed, AllocError>
     ensures used { IfOk result (λ c. c.used ≡ least (target_faults (sense_of target.now.name names.now) (spec_count (trees_of target.now.subscripts.items)) target.now.at)) }
     ensures conflict { IfOk result (λ c. c.conflict ≡ least (conflicts_among names.now [] (trees_of target.now.subscripts.items))) }
-    ensures inside { IfOk result (λ c. c.inside ≡ least (conflicts_inside c.own.items c.subscripts.items)) }
+    ensures inside { IfOk result (λ c. c.inside ≡ least (conflicts_inside c.own c.subscripts)) }
     ensures fault { IfOk result (λ c. c.fault ≡ least (operand_faults bodies.now names.now [] (trees_of target.now.subscripts.items))) }
-    ensures own { IfOk result (λ c. c.own.items ≡ conflicts.change_of names.now target.now.name (spec_count (trees_of target.now.subscripts.items)) at) }
-    ensures subscripts { IfOk result (λ c. c.subscripts.items ≡ all_accesses names.now (trees_of target.now.subscripts.items)) }
+    ensures own { IfOk result (λ c. c.own ≡ conflicts.change_of names.now target.now.name (spec_count (trees_of target.now.subscripts.items)) at) }
+    ensures subscripts { IfOk result (λ c. c.subscripts ≡ all_accesses names.now (trees_of target.now.subscripts.items)) }
 {
     let subscripts = target.subscripts.as_slice();
     let inner = all_operands(alloc, bodies, names, &[], subscripts)?;
@@ -242,13 +249,13 @@ pub fn changed(
     names: &Scopes,
     target: &Target,
     at: Place,
-    valued: &[Access],
+    valued: &Accesses,
 ) -> Result<Judged, AllocError>
     ensures fault { IfOk result (λ j. j.fault ≡ least (changed_faults bodies.now names.now (target_of target.now) at valued.now)) }
-    ensures accesses { IfOk result (λ j. j.accesses.items ≡ target_accesses names.now (target_of target.now) at) }
+    ensures accesses { IfOk result (λ j. j.accesses ≡ target_accesses names.now (target_of target.now) at) }
 {
     let target = change(alloc, bodies, names, target, at)?;
-    let judged = assigned(target, valued)?;
+    let judged = assigned(alloc, target, valued)?;
     Ok(judged)
 }
 
@@ -294,18 +301,17 @@ fn all_operands(
 ) -> Result<Operands, AllocError>
     ensures fault { IfOk result (λ o. o.fault ≡ least (operand_faults bodies.now names.now params.now (trees_of es.now))) }
     ensures conflict { IfOk result (λ o. o.conflict ≡ least (conflicts_among names.now [] (trees_of es.now))) }
-    ensures accesses { IfOk result (λ o. o.accesses.items ≡ all_accesses names.now (trees_of es.now)) }
+    ensures accesses { IfOk result (λ o. o.accesses ≡ all_accesses names.now (trees_of es.now)) }
 {
     let mut fault = None;
     let mut conflict = None;
-    let mut before = Vec::new(alloc);
+    let mut before = Accesses::new(alloc);
     for (i, e) in es.iter().enumerate() {
         let judged = expression(alloc, bodies, names, true, e)?;
         let own = operand_fault(names, params, i, e, judged.fault);
         fault = lesser(fault, own);
         conflict = lesser(conflict, between(&before, &judged.accesses));
-        let mut more = judged.accesses;
-        before.append(&mut more)?;
+        before = before.followed_by(alloc, judged.accesses)?;
     }
     Ok(Operands {
         fault,

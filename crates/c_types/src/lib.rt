@@ -1,6 +1,7 @@
 //! Whether a program of C is taken, and which of its faults is the least.
 #![tactic(auto)]
 
+mod accesses;
 mod arrays;
 mod called;
 mod calls;

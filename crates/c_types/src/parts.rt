@@ -5,6 +5,7 @@ ghost use Rattle.c_tree.specs.View.{tree_of, action_of, init_of, inits_of};
 ghost use Rattle.c_checked.specs.Faults.{least};
 ghost use Rattle.c_checked.specs.Expressions.{expression_faults, expression_of, actions_faults, optional_faults, lengths_faults, init_faults, inits_faults, optional_init_faults};
 
+use crate::accesses::Accesses;
 use crate::expressions::{changed, expression};
 use crate::faults::lesser;
 use crate::names::Scopes;
@@ -64,7 +65,7 @@ fn action_fault(
             Ok(lesser(target.fault, value.fault))
         }
         Action::Bump { target, at, .. } => {
-            let target = changed(alloc, bodies, names, target, *at, &[])?;
+            let target = changed(alloc, bodies, names, target, *at, &Accesses::new(alloc))?;
             Ok(target.fault)
         }
         Action::Value(value) => {

@@ -1,10 +1,14 @@
 //! The faults of declarations and statements.
-ghost use Rattle.std.specs.Prelude.{◌≡◌, ◌++◌, map, true, false, length, List, OnOk, IfOk};
+ghost use Rattle.std.specs.Prelude.{◌≡◌, ◌++◌, [], map, true, false, length, List, OnOk, IfOk};
 ghost use Rattle.std.specs.Option.{option_map};
 ghost use Rattle.c_tree.specs.View.{tree_of, object_of, stmt_of, stmts_of, else_of, else_part, first_part, action_of};
 ghost use Rattle.c_tree.specs.Tree as tree;
+ghost use Rattle.c_value.specs.Values.{promoted as spec_promoted};
+ghost use Rattle.c_checked.specs.Faults as order;
 ghost use Rattle.c_checked.specs.Faults.{least};
+ghost use Rattle.c_checked.specs.Expressions.{expression_faults, optional_faults};
 ghost use Rattle.c_checked.specs.Names.{Declared};
+ghost use Rattle.c_checked.specs.Names.{kind_of as spec_kind_of};
 ghost use Rattle.c_checked.specs.Labels as labels;
 ghost use Rattle.c_checked.specs.Statements.{with_object, with_objects, names_behind, names_in_for, statement_faults, block_faults, else_faults, first_faults};
 ghost use Rattle.c_checked.specs.Statements as spec;
@@ -24,6 +28,7 @@ use c_tree::expression::Expr;
 use c_tree::object::Object;
 use c_tree::statement::{Else, Stmt};
 use c_value::kind::promoted;
+use hls_base::place::Place;
 use hls_base::refusal::Refusal;
 use hls_base::text::Text;
 use std::alloc::{AllocError, Global};
@@ -86,31 +91,16 @@ fn statement(
     ensures names { OnOk result (names.new ≡ names_behind names.old (stmt_of stmt.now)) }
 {
     match stmt {
-        Stmt::Block(body) => {
-            let fault = inner_block(alloc, bodies, around.in_part(), names, body)?;
-            Ok(fault)
-        }
-        Stmt::Declare(objects) => {
-            let fault = objects_fault(alloc, bodies, false, start, names, objects)?;
-            Ok(fault)
-        }
-        Stmt::Act(actions) => {
-            let fault = actions_fault(alloc, bodies, names, actions)?;
-            Ok(fault)
-        }
+        Stmt::Block(body) => inner_block(alloc, bodies, around.in_part(), names, body),
+        Stmt::Declare(objects) => objects_fault(alloc, bodies, false, start, names, objects),
+        Stmt::Act(actions) => actions_fault(alloc, bodies, names, actions),
         Stmt::If { test, yes, no, .. } => {
             let test = value_fault(alloc, bodies, names, test)?;
             let yes = inner(alloc, bodies, around.in_part(), names, yes)?;
             let no = else_fault(alloc, bodies, around.in_part(), names, no)?;
             Ok(lesser(test, lesser(yes, no)))
         }
-        Stmt::Switch { test, body, .. } => {
-            let kind = promoted(kind_of(names, test));
-            let test = value_fault(alloc, bodies, names, test)?;
-            let repeated = repeated_fault(alloc, kind, body)?;
-            let inside = inner_block(alloc, bodies, around.in_switch(), names, body)?;
-            Ok(lesser(test, lesser(repeated, inside)))
-        }
+        Stmt::Switch { body, test, .. } => switch_fault(alloc, bodies, around, names, body, test),
         Stmt::Case { value, body, at } => {
             let outside = outside_fault(around.labels, *at);
             let open = fault_if(has_no_value(value), 17, *at);
@@ -118,16 +108,8 @@ fn statement(
             let inside = statement(alloc, bodies, around, start, names, body)?;
             Ok(lesser(outside, lesser(open, lesser(value, inside))))
         }
-        Stmt::While { test, body, .. } => {
-            let test = value_fault(alloc, bodies, names, test)?;
-            let inside = inner(alloc, bodies, around.in_loop(), names, body)?;
-            Ok(lesser(test, inside))
-        }
-        Stmt::Do { body, test, .. } => {
-            let inside = inner(alloc, bodies, around.in_loop(), names, body)?;
-            let test = value_fault(alloc, bodies, names, test)?;
-            Ok(lesser(inside, test))
-        }
+        Stmt::While { body, test, .. } => while_fault(alloc, bodies, around, names, body, test),
+        Stmt::Do { body, test, .. } => do_fault(alloc, bodies, around, names, body, test),
         Stmt::For {
             init,
             test,
@@ -145,12 +127,80 @@ fn statement(
         }
         Stmt::Break(at) => Ok(outside_fault(around.breaks, *at)),
         Stmt::Continue(at) => Ok(outside_fault(around.continues, *at)),
-        Stmt::Return { value, at } => {
-            let mismatched = return_fault(around.returns, value.is_some(), *at);
-            let value = optional_fault(alloc, bodies, names, value)?;
-            Ok(lesser(mismatched, value))
-        }
+        Stmt::Return { value, at } => returned_fault(alloc, bodies, around, names, value, *at),
     }
+}
+
+/// A `return`, and the value that it gives.
+fn returned_fault(
+    alloc: Global,
+    bodies: &[Text],
+    around: Around,
+    names: &Scopes,
+    value: &Option<Expr>,
+    at: Place,
+) -> Result<Option<Refusal>, AllocError>
+    ensures { IfOk result (λ r. r ≡ order.lesser (least (labels.return_faults (around_view around).result (option_map tree_of value.now) at)) (least (optional_faults bodies.now names.now (option_map tree_of value.now)))) }
+{
+    let mismatched = return_fault(around.returns, value.is_some(), at);
+    let value = optional_fault(alloc, bodies, names, value)?;
+    Ok(lesser(mismatched, value))
+}
+
+/// The body of a `switch`, with its labels, and the value that it tests.
+#[cycle(statements)]
+fn switch_fault(
+    alloc: Global,
+    bodies: &[Text],
+    around: Around,
+    names: &mut Scopes,
+    body: &[Stmt],
+    test: &Expr,
+) -> Result<Option<Refusal>, AllocError>
+    ensures fault { IfOk result (λ r. r ≡ order.lesser (least (expression_faults true bodies.now names.old (tree_of test.now))) (order.lesser (least (labels.repeated_faults [] (labels.block_labels (spec_promoted (spec_kind_of names.old (tree_of test.now))) (stmts_of body.now)))) (least (block_faults bodies.now (labels.in_switch (around_view around)) (length names.old) names.old (stmts_of body.now))))) }
+    ensures names { OnOk result (names.new ≡ names.old) }
+{
+    let kind = promoted(kind_of(names, test));
+    let test = value_fault(alloc, bodies, names, test)?;
+    let repeated = repeated_fault(alloc, kind, body)?;
+    let inside = inner_block(alloc, bodies, around.in_switch(), names, body)?;
+    Ok(lesser(test, lesser(repeated, inside)))
+}
+
+/// The body of a `while`, behind its test.
+#[cycle(statements)]
+fn while_fault(
+    alloc: Global,
+    bodies: &[Text],
+    around: Around,
+    names: &mut Scopes,
+    body: &Stmt,
+    test: &Expr,
+) -> Result<Option<Refusal>, AllocError>
+    ensures fault { IfOk result (λ r. r ≡ order.lesser (least (expression_faults true bodies.now names.old (tree_of test.now))) (least (statement_faults bodies.now (labels.in_loop (around_view around)) (length names.old) names.old (stmt_of body.now)))) }
+    ensures names { OnOk result (names.new ≡ names.old) }
+{
+    let test = value_fault(alloc, bodies, names, test)?;
+    let inside = inner(alloc, bodies, around.in_loop(), names, body)?;
+    Ok(lesser(test, inside))
+}
+
+/// The body of a `do`, before its test.
+#[cycle(statements)]
+fn do_fault(
+    alloc: Global,
+    bodies: &[Text],
+    around: Around,
+    names: &mut Scopes,
+    body: &Stmt,
+    test: &Expr,
+) -> Result<Option<Refusal>, AllocError>
+    ensures fault { IfOk result (λ r. r ≡ order.lesser (least (statement_faults bodies.now (labels.in_loop (around_view around)) (length names.old) names.old (stmt_of body.now))) (least (expression_faults true bodies.now names.old (tree_of test.now)))) }
+    ensures names { OnOk result (names.new ≡ names.old) }
+{
+    let inside = inner(alloc, bodies, around.in_loop(), names, body)?;
+    let test = value_fault(alloc, bodies, names, test)?;
+    Ok(lesser(inside, test))
 }
 
 /// A statement that is a scope of its own.

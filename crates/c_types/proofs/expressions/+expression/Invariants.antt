@@ -10,8 +10,8 @@ use Rattle.c_types.proofs.expressions.+expression.Given as goal
 abbrev pub invariant-all_operands-loop-i : goal.invariant-all_operands-loop-i
 invariant-all_operands-loop-i l = record {
   faults : lesser l.fault (least (operand_faults l.bodies l.names (drop l.i l.params) (trees_of (drop l.i l.es)))) ≡ least (operand_faults l.bodies l.names l.params (trees_of l.es));
-  conflicts : lesser l.conflict (least (conflicts_among l.names l.before.items (trees_of (drop l.i l.es)))) ≡ least (conflicts_among l.names [] (trees_of l.es));
-  accesses : l.before.items ++ all_accesses l.names (trees_of (drop l.i l.es)) ≡ all_accesses l.names (trees_of l.es);
+  conflicts : lesser l.conflict (least (conflicts_among l.names l.before (trees_of (drop l.i l.es)))) ≡ least (conflicts_among l.names [] (trees_of l.es));
+  accesses : l.before ++ all_accesses l.names (trees_of (drop l.i l.es)) ≡ all_accesses l.names (trees_of l.es);
 }
 
 abbrev pub invariant-expression-chain : goal.invariant-expression-chain

@@ -1,13 +1,19 @@
-use Rattle.std.proofs.Common.{◌≡◌, true, refl, sym, ap, ◌∙◌, length}
+use Rattle.std.proofs.Common.{◌≡◌, true, [], Option, refl, sym, ap, ◌∙◌, length}
+use Rattle.std.proofs.lemmas.Result.{IfOk-weaker}
 use Rattle.std.specs.Option.{option_map}
+use Rattle.hls_base.specs.declared.refusal.Refusal.{Refusal}
+use Rattle.c_tree.specs.declared.statement.Stmt.{Stmt}
+use Rattle.c_tree.specs.Tree.{StmtTrees}
+use Rattle.c_value.specs.Values.{promoted}
+use Rattle.c_checked.specs.Names.{kind_of}
 use Rattle.c_tree.specs.View.{tree_of, stmt_of, stmts_of, else_of, else_part}
 use Rattle.c_checked.specs.Faults.{lesser, least}
-use Rattle.c_checked.specs.Labels.{in_part}
+use Rattle.c_checked.specs.Labels.{in_part, in_loop, in_switch, block_labels, repeated_faults}
 use Rattle.c_checked.specs.Expressions.{expression_faults}
 use Rattle.c_checked.specs.Statements.{statement_faults, block_faults, else_faults, names_behind}
 use Rattle.c_types.specs.Written.{around_view}
 use Rattle.c_types.proofs.Least.{least_thread}
-use Rattle.c_types.proofs.StatementTrees.{if_parts, extends_behind, extends_in_for, extends_more, extends_by, may_forget, has_forgotten, names_behind_for}
+use Rattle.c_types.proofs.StatementTrees.{if_parts, switch_parts, while_parts, do_parts, extends_behind, extends_in_for, extends_more, extends_by, may_forget, has_forgotten, names_behind_for}
 use Rattle.c_types.proofs.statements.+statements.Goals as goal
 
 pub block-loop-stmt-preserved : goal.block-loop-stmt-preserved
@@ -53,3 +59,36 @@ statement-returns-in_ok-inside-in-For-clause-names t c =
     has_forgotten _ _ _ _ (extends_by _ _ _ (c.in_ok-inside-in-For.ensures.names ∙ c.in_ok-first-in-For.ensures.names) (extends_in_for c.in-For.init c.args.names.now)) c.len-outer.ensures c.forget.ensures
     ∙ sym (names_behind_for c.args.names.now c.in-For.init c.in-For.test c.in-For.step c.in-For.body c.in-For.at)
     ∙ ap (λ s. names_behind c.args.names.now (stmt_of s)) (sym c.in-For.is)
+
+pub statement-returns-in-Switch-clause-fault : goal.statement-returns-in-Switch-clause-fault
+statement-returns-in-Switch-clause-fault t c =
+    let bodies = c.args.bodies.now in
+    let names = c.args.names.now in
+    let around = around_view c.args.around in
+    let tested = least (expression_faults true bodies names (tree_of c.in-Switch.test)) in
+    let of_body : StmtTrees → Option Refusal = λ body. lesser tested (lesser (least (repeated_faults [] (block_labels (promoted (kind_of names (tree_of c.in-Switch.test))) body))) (least (block_faults bodies (in_switch around) (length names) names body))) in
+    let here : Stmt → Option Refusal = λ s. least (statement_faults bodies around c.args.start names (stmt_of s)) in
+    let whole = ap (λ xs. of_body (stmts_of xs)) c.deref-in-Switch.ensures.value ∙ sym (switch_parts bodies around c.args.start names c.in-Switch.test c.in-Switch.body c.in-Switch.at) ∙ ap here (sym c.in-Switch.is) in
+    IfOk-weaker c.switch_fault.result _ (λ r. r ≡ here c.args.stmt.now) (λ r e. e ∙ whole) c.switch_fault.ensures.fault
+
+pub statement-returns-in-While-clause-fault : goal.statement-returns-in-While-clause-fault
+statement-returns-in-While-clause-fault t c =
+    let bodies = c.args.bodies.now in
+    let names = c.args.names.now in
+    let around = around_view c.args.around in
+    let tested = least (expression_faults true bodies names (tree_of c.in-While.test)) in
+    let here : Stmt → Option Refusal = λ s. least (statement_faults bodies around c.args.start names (stmt_of s)) in
+    let whole = ap (λ s. lesser tested (least (statement_faults bodies (in_loop around) (length names) names (stmt_of s)))) c.deref-in-While.ensures
+    ∙ sym (while_parts bodies around c.args.start names c.in-While.test c.in-While.body c.in-While.at) ∙ ap here (sym c.in-While.is) in
+    IfOk-weaker c.while_fault.result _ (λ r. r ≡ here c.args.stmt.now) (λ r e. e ∙ whole) c.while_fault.ensures.fault
+
+pub statement-returns-in-Do-clause-fault : goal.statement-returns-in-Do-clause-fault
+statement-returns-in-Do-clause-fault t c =
+    let bodies = c.args.bodies.now in
+    let names = c.args.names.now in
+    let around = around_view c.args.around in
+    let tested = least (expression_faults true bodies names (tree_of c.in-Do.test)) in
+    let here : Stmt → Option Refusal = λ s. least (statement_faults bodies around c.args.start names (stmt_of s)) in
+    let whole = ap (λ s. lesser (least (statement_faults bodies (in_loop around) (length names) names (stmt_of s))) tested) c.deref-in-Do.ensures
+    ∙ sym (do_parts bodies around c.args.start names c.in-Do.body c.in-Do.test c.in-Do.at) ∙ ap here (sym c.in-Do.is) in
+    IfOk-weaker c.do_fault.result _ (λ r. r ≡ here c.args.stmt.now) (λ r e. e ∙ whole) c.do_fault.ensures.fault

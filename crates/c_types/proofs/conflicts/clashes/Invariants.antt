@@ -1,7 +1,0 @@
-use Rattle.std.proofs.Common.{◌≡◌, drop}
-use Rattle.c_checked.specs.Faults.{lesser, least}
-use Rattle.c_checked.specs.Conflicts.{clashes}
-use Rattle.c_types.proofs.conflicts.clashes.Given as goal
-
-abbrev pub invariant-loop-access : goal.invariant-loop-access
-invariant-loop-access l = lesser l.worst (least (clashes (drop l.access-index l.these) l.others)) ≡ least (clashes l.these l.others)
