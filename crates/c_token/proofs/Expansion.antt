@@ -1,5 +1,5 @@
 -- Each row of tokens stands for one row, by one count of replaced words.
-use Rattle.std.proofs.Common.{◌≡◌, ℕ, zero, suc, ◌+◌, ◌≤◌, ◌∙◌, sym, refl, ap, subst, Bool, true, false, List, [], ◌∷◌, ◌++◌, length, Option, Some, None, append_assoc, arith}
+use Rattle.std.proofs.Common.{◌≡◌, ℕ, zero, suc, ◌+◌, ◌≤◌, ◌∙◌, sym, refl, ap, subst, Bool, true, false, List, [], ◌∷◌, ◌++◌, length, Option, Some, None, arith}
 use Rattle.std.specs.Prelude.{bytes_eq}
 use Rattle.c_token.specs.declared.token.Token.{Token}
 use Rattle.c_token.specs.declared.token.TokenKind.{TokenKind}
@@ -66,28 +66,6 @@ stands_for_one table tokens =
     (s.0, s.1, s.2, λ other count t. stands_for_once table tokens other s.0 count s.1 t s.2)
 
 -- ---- rows
-
-pub stands_append : (table : Table) (xs ys us vs : List Token) (m n : ℕ) → StandsFor table xs us m → StandsFor table ys vs n → StandsFor table (xs ++ ys) (us ++ vs) (m + n)
-stands_append table xs ys us vs m n (nothing t) b = let e : n ≡ 0 + n = omega arith in subst (λ z. StandsFor t ys vs z) e b
-stands_append table xs ys us vs m n (stays t token rest row words e a) b =
-    stays t token (rest ++ ys) (row ++ vs) (words + n) e (stands_append t rest ys row vs words n a b)
-stands_append table xs ys us vs m n (is_replaced t token body inner rest row i j e c a) b =
-    let both = is_replaced t token body inner (rest ++ ys) (row ++ vs) i (j + n) e c (stands_append t rest ys row vs j n a b) in
-    let count : 1 + i + (j + n) ≡ 1 + i + j + n = omega arith in
-    subst (λ z. StandsFor t (token ∷ (rest ++ ys)) z (1 + i + j + n)) (sym (append_assoc inner row vs))
-    (subst (λ z. StandsFor t (token ∷ (rest ++ ys)) (inner ++ (row ++ vs)) z) count both)
-
--- what two rows, one after the other, stand for
-pub stands_split : (table : Table) (xs ys row : List Token) (n : ℕ) → StandsFor table (xs ++ ys) row n
-    → (us vs : List Token) × (i : ℕ) × (j : ℕ) × StandsFor table xs us i × StandsFor table ys vs j × (row ≡ us ++ vs) × (n ≡ i + j)
-stands_split table [] ys row n h = ([], row, 0, n, nothing table, h, refl, omega arith)
-stands_split table (x ∷ xs) ys row n (stays t token tokens line words e a) =
-    let s = stands_split t xs ys line words a in
-    (x ∷ s.0, s.1, s.2, s.3, stays t x xs s.0 s.2 e s.4, s.5, ap (λ z. x ∷ z) s.6, s.7)
-stands_split table (x ∷ xs) ys row n (is_replaced t token body inner tokens line i j e c a) =
-    let s = stands_split t xs ys line j a in
-    let count : j ≡ s.2 + s.3 = s.7 in
-    (inner ++ s.0, s.1, 1 + i + s.2, s.3, is_replaced t x body inner xs s.0 i s.2 e c s.4, s.5, ap (λ z. inner ++ z) s.6 ∙ sym (append_assoc inner s.0 s.1), omega arith)
 
 pub head_stays : (table : Table) (token : Token) (tokens row : List Token) (n : ℕ) → body_of table token.kind ≡ None → StandsFor table (token ∷ tokens) row n → 1 ≤ length row
 head_stays table token tokens row n h (stays t x xs line words e a) = omega arith
