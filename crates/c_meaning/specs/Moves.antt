@@ -96,8 +96,8 @@ evaluated used (tree.comma left right at) m = going (f.evaluate false left) (pus
 
 -- an expression that changes an object itself
 abbrev pub is_change : Tree → Bool
-is_change (tree.assign target op v at) = true
-is_change (tree.bump target up post at) = true
+is_change (tree.assign to op v at) = true
+is_change (tree.bump to up post at) = true
 is_change t = false
 
 -- ---- subscripts and arguments under way
