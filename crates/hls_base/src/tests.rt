@@ -1,7 +1,7 @@
 //! What no clause says: that calls succeed where there is memory, and the values of worked examples.
 use crate::memory::{MemoryShelf, MemorySink, names_differ};
 use crate::outside::{Shelf, ShelfError, Sink, SinkError};
-use crate::place::{Path, Place};
+use crate::place::{Path, Place, TEXT_START, place_after};
 use crate::point::{Point, PointKind};
 use crate::real::{RealShelf, RealSink};
 use crate::text::Text;
@@ -138,6 +138,12 @@ fn text_of_a_place(rt: HostRuntime) {
         let shown = place.to_string(rt.alloc()).expect(&rt, "memory");
         assert_eq!(rt; shown.as_str(), want);
     }
+}
+
+#[test]
+fn place_behind_two_lines(rt: HostRuntime) {
+    let place = place_after(TEXT_START, b"ab\ncd");
+    assert_eq!(rt; (place.line, place.column, place.part), (2, 3, 0));
 }
 
 #[test]
