@@ -1,5 +1,5 @@
 -- Conflicts, one access at a time: what a name's least change says of all of them.
-use Rattle.std.proofs.Common.{◌≡◌, ℕ, ◌+◌, ◌<◌, ◌≤◌, ◌==◌, ◌&&◌, ◌||◌, length, drop, get_or, nat_lt, Bool, true, false, List, [], ◌∷◌, ◌++◌, Option, Some, None, is_some, bytes_eq, refl, sym, ap, ◌∙◌, arith, if◌then◌else◌}
+use Rattle.std.proofs.Common.{◌≡◌, ℕ, ◌+◌, ◌<◌, ◌≤◌, ◌==◌, ◌&&◌, ◌||◌, length, drop, get_or, nat_lt, Bool, true, false, List, [], ◌∷◌, Option, Some, None, is_some, bytes_eq, refl, sym, ap, ◌∙◌, arith, if◌then◌else◌}
 use Rattle.std.specs.List.{list_any}
 use Rattle.std.proofs.lemmas.List.{at_drop_more, at_drop_all}
 use Rattle.std.proofs.lemmas.Slice.Eq.{bytes_eq-Decides}
@@ -9,7 +9,7 @@ use Rattle.c_checked.specs.Faults.{is_lesser, lesser, least, fault, fault_if}
 use Rattle.c_checked.specs.Conflicts.{Access, read, change, name_of, names_it, clash, clashes, between, changes, conflicts_inside}
 use Rattle.c_types.specs.Views.{access_view}
 use Rattle.c_types.specs.Known.{change_fault}
-use Rattle.c_types.proofs.Least.{less-trans, less-trans-not, lesser_none, lesser_assoc, least_append}
+use Rattle.c_types.proofs.Least.{less-trans, lesser_none, lesser_assoc, least_append}
 
 -- ---- the order of two faults does not matter
 

@@ -1,4 +1,4 @@
-use Rattle.std.proofs.Common.{◌≡◌, length, ap, sym, ◌∙◌, arith}
+use Rattle.std.proofs.Common.{◌≡◌, ap, ◌∙◌, arith}
 use Rattle.c_checked.specs.Faults.{lesser, least}
 use Rattle.c_checked.specs.Conflicts.{name_of, clash, changes, conflicts_inside}
 use Rattle.c_types.specs.Known.{change_fault}
