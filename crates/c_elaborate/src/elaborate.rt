@@ -1,0 +1,27 @@
+//! The core program of a program.
+
+use crate::blocks::Scene;
+use crate::file::{file_names, file_objects};
+use crate::functions::{all_functions, first_items, signatures};
+use crate::numbers::number_behind;
+use c_checked::checked::Checked;
+use c_meaning::file_scope::declarations;
+use core_program::program::CoreProgram;
+use std::alloc::{AllocError, Global};
+
+/// The core program of a checked program.
+pub fn elaborate(alloc: Global, checked: &Checked) -> Result<CoreProgram, AllocError> {
+    let items = checked.program.items.as_slice();
+    let declared = declarations(alloc, items)?;
+    let file = file_objects(alloc, &declared)?;
+    let mut scene = Scene::of_file(file_names(alloc, &declared)?);
+    let known = signatures(alloc, items)?;
+    let functions = all_functions(alloc, &known, &mut scene, items)?;
+    let before = signatures(alloc, first_items(items, checked.top))?;
+    let top = number_behind(before.len())?;
+    Ok(CoreProgram {
+        file,
+        functions,
+        top,
+    })
+}

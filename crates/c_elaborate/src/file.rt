@@ -1,0 +1,41 @@
+//! The objects of file scope.
+
+use crate::blocks::{binding, core_object};
+use crate::names::Scopes;
+use crate::numbers::number_behind;
+use c_meaning::contents::patterns;
+use c_meaning::file_scope::first_object;
+use c_tree::object::Object;
+use core_program::expression::{Cell, Scope};
+use core_program::program::FileObject;
+use std::alloc::{AllocError, Global};
+
+fn file_object(alloc: Global, o: &Object) -> Result<FileObject, AllocError> {
+    let first = first_object(alloc, o)?;
+    Ok(FileObject {
+        object: core_object(alloc, o)?,
+        first: patterns(alloc, &first)?,
+    })
+}
+
+/// The objects of file scope, as their initialisers give them.
+pub fn file_objects(alloc: Global, declared: &[&Object]) -> Result<Vec<FileObject>, AllocError> {
+    let mut all = Vec::new(alloc);
+    for o in declared {
+        all.push(file_object(alloc, o)?)?;
+    }
+    Ok(all)
+}
+
+/// The names of file scope.
+pub fn file_names(alloc: Global, declared: &[&Object]) -> Result<Scopes, AllocError> {
+    let mut names = Scopes::new(alloc);
+    for (i, o) in declared.iter().enumerate() {
+        let cell = Cell {
+            scope: Scope::File,
+            number: number_behind(i)?,
+        };
+        names.declare(alloc, binding(alloc, o, cell)?)?;
+    }
+    Ok(names)
+}

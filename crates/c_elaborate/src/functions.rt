@@ -1,0 +1,140 @@
+//! Functions with a body, and their numbers.
+
+use crate::blocks::{Scene, core_object};
+use crate::numbers::number_behind;
+use crate::statements::open_block;
+use c_token::ctype::CType;
+use c_tree::function::{Function, Param};
+use c_tree::program::Item;
+use c_tree::statement::Stmt;
+use core_program::program::{CoreFunction, CoreObject};
+use hls_base::refusal::impossible;
+use hls_base::text::Text;
+use std::alloc::{AllocError, Global};
+
+/// What calls need of a function with a body.
+#[derive(Debug, Drop)]
+pub struct Signature {
+    pub name: Text,
+    pub result: Option<CType>,
+}
+
+/// A function that is called.
+#[derive(Clone, Copy, Debug, PartialEq, Eq)]
+pub struct Called {
+    pub number: u32,
+    pub result: Option<CType>,
+}
+
+/// The functions with a body, in order.
+pub fn signatures(alloc: Global, items: &[Item]) -> Result<Vec<Signature>, AllocError> {
+    let mut all = Vec::new(alloc);
+    for item in items {
+        if let Item::Function(f) = item
+            && f.body.is_some()
+        {
+            let name = f.name.copy(alloc)?;
+            all.push(Signature {
+                name,
+                result: f.result,
+            })?;
+        }
+    }
+    Ok(all)
+}
+
+fn is_same_name(name: &Text, other: &Text) -> bool {
+    name.items() == other.items()
+}
+
+/// The function of this name. Each function that a program without faults calls has a body.
+pub fn function_named(functions: &[Signature], name: &Text) -> Result<Called, AllocError> {
+    for (i, f) in functions.iter().enumerate() {
+        if is_same_name(&f.name, name) {
+            return Ok(Called {
+                number: number_behind(i)?,
+                result: f.result,
+            });
+        }
+    }
+    Err(impossible())
+}
+
+/// The items before this index.
+pub fn first_items(items: &[Item], index: u32) -> &[Item] {
+    let index = index as usize;
+    if index < items.len() {
+        &items[..index]
+    } else {
+        items
+    }
+}
+
+/// Adds the parameters to the objects, and their names to those that are visible.
+fn enter_params(
+    alloc: Global,
+    scene: &mut Scene,
+    objects: &mut Vec<CoreObject>,
+    params: &[Param],
+) -> Result<(), AllocError> {
+    for param in params {
+        objects.push(core_object(alloc, &param.object)?)?;
+        scene.declare(alloc, &param.object)?;
+    }
+    Ok(())
+}
+
+/// A function with this body. The scene is that of file scope.
+fn function(
+    alloc: Global,
+    functions: &[Signature],
+    scene: &mut Scene,
+    f: &Function,
+    body: &[Stmt],
+) -> Result<CoreFunction, AllocError> {
+    let mark = scene.mark();
+    let mut objects = Vec::new(alloc);
+    enter_params(alloc, scene, &mut objects, &f.params)?;
+    let params = number_behind(objects.len())?;
+    let block = open_block(alloc, functions, scene, &mut objects, body)?;
+    scene.leave(mark);
+    Ok(CoreFunction {
+        name: f.name.copy(alloc)?,
+        at: f.at,
+        result: f.result,
+        params,
+        objects,
+        outermost: block.objects,
+        body: block.body,
+    })
+}
+
+/// Adds the function that the item is, if it has a body.
+fn add_function(
+    alloc: Global,
+    functions: &[Signature],
+    scene: &mut Scene,
+    all: &mut Vec<CoreFunction>,
+    item: &Item,
+) -> Result<(), AllocError> {
+    if let Item::Function(f) = item
+        && let Some(body) = &f.body
+    {
+        all.push(function(alloc, functions, scene, f, body)?)?;
+    }
+    Ok(())
+}
+
+/// The functions with a body, which see the names of file scope.
+pub fn all_functions(
+    alloc: Global,
+    functions: &[Signature],
+    scene: &mut Scene,
+    items: &[Item],
+) -> Result<Vec<CoreFunction>, AllocError> {
+    let mut all = Vec::new(alloc);
+    for item in items {
+        add_function(alloc, functions, scene, &mut all, item)?;
+    }
+    Ok(all)
+}

@@ -1,0 +1,24 @@
+//! The types of expressions.
+
+use c_token::ctype::CType;
+use c_value::kind::INT;
+use core_program::expression::CoreExpr;
+
+/// The type of an expression; int of a void call.
+pub fn kind_of(e: &CoreExpr) -> CType {
+    let mut part = e;
+    'comma: loop {
+        match part {
+            CoreExpr::Number { kind, .. }
+            | CoreExpr::Scalar { kind, .. }
+            | CoreExpr::Element { kind, .. }
+            | CoreExpr::Unary { kind, .. }
+            | CoreExpr::Binary { kind, .. }
+            | CoreExpr::Choice { kind, .. } => return *kind,
+            CoreExpr::Call { kind, .. } => return kind.unwrap_or(INT),
+            CoreExpr::Cast { to, .. } => return *to,
+            CoreExpr::Assign { target, .. } | CoreExpr::Bump { target, .. } => return target.kind,
+            CoreExpr::Comma { right, .. } => part = right,
+        }
+    }
+}

@@ -1,0 +1,19 @@
+//! Numbers of objects and functions.
+
+use std::alloc::AllocError;
+
+/// The number of what stands behind so many others. There is no memory for as many as a number cannot count.
+pub fn number_behind(count: usize) -> Result<u32, AllocError> {
+    match u32::try_from(count) {
+        Ok(number) => Ok(number),
+        Err(_) => Err(AllocError),
+    }
+}
+
+/// The number behind this one.
+pub fn next_number(number: u32) -> Result<u32, AllocError> {
+    match number.checked_add(1) {
+        Some(next) => Ok(next),
+        None => Err(AllocError),
+    }
+}

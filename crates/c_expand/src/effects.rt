@@ -1,0 +1,107 @@
+//! What the evaluation of an expression does besides giving a value.
+use core_program::expression::{Argument, CoreExpr, CoreTarget};
+
+/// Whether an expression has calls, changes (assignments, `++` and `--`) or commas in it.
+#[derive(Clone, Copy, Debug, PartialEq, Eq)]
+pub struct Effects {
+    pub calls: bool,
+    pub changes: bool,
+    pub commas: bool,
+}
+
+/// Those of an expression that only gives a value.
+pub const NO_EFFECTS: Effects = Effects {
+    calls: false,
+    changes: false,
+    commas: false,
+};
+
+impl Effects {
+    pub fn or(self, other: Effects) -> Effects {
+        Effects {
+            calls: self.calls || other.calls,
+            changes: self.changes || other.changes,
+            commas: self.commas || other.commas,
+        }
+    }
+
+    fn with_call(self) -> Effects {
+        Effects {
+            calls: true,
+            ..self
+        }
+    }
+
+    fn with_change(self) -> Effects {
+        Effects {
+            changes: true,
+            ..self
+        }
+    }
+
+    fn with_comma(self) -> Effects {
+        Effects {
+            commas: true,
+            ..self
+        }
+    }
+
+    /// Whether something needs pieces of its own.
+    pub fn is_some(self) -> bool {
+        self.calls || self.changes || self.commas
+    }
+
+    /// Whether elements that are read before have to be saved.
+    pub fn spoil_elements(self) -> bool {
+        self.calls || self.changes
+    }
+}
+
+/// The effects of an expression.
+#[cycle(effects)]
+pub fn effects_of(e: &CoreExpr) -> Effects {
+    match e {
+        CoreExpr::Number { .. } | CoreExpr::Scalar { .. } => NO_EFFECTS,
+        CoreExpr::Element { subscripts, .. } => effects_of_all(subscripts),
+        CoreExpr::Call { args, .. } => effects_of_arguments(args).with_call(),
+        CoreExpr::Unary { arg, .. } | CoreExpr::Cast { arg, .. } => effects_of(arg),
+        CoreExpr::Binary { left, right, .. } => effects_of(left).or(effects_of(right)),
+        CoreExpr::Choice { test, yes, no, .. } => {
+            effects_of(test).or(effects_of(yes)).or(effects_of(no))
+        }
+        CoreExpr::Assign { target, value, .. } => {
+            effects_of_target(target)
+                .or(effects_of(value))
+                .with_change()
+        }
+        CoreExpr::Bump { target, .. } => effects_of_target(target).with_change(),
+        CoreExpr::Comma { left, right } => effects_of(left).or(effects_of(right)).with_comma(),
+    }
+}
+
+/// The effects of some expressions together.
+#[cycle(effects)]
+pub fn effects_of_all(es: &[CoreExpr]) -> Effects {
+    let mut all = NO_EFFECTS;
+    for e in es {
+        all = all.or(effects_of(e));
+    }
+    all
+}
+
+/// The effects of some arguments together.
+#[cycle(effects)]
+pub fn effects_of_arguments(args: &[Argument]) -> Effects {
+    let mut all = NO_EFFECTS;
+    for arg in args {
+        if let Argument::Value(e) = arg {
+            all = all.or(effects_of(e));
+        }
+    }
+    all
+}
+
+#[cycle(effects)]
+fn effects_of_target(target: &CoreTarget) -> Effects {
+    effects_of_all(&target.subscripts)
+}

@@ -1,0 +1,4 @@
+//! Programs with times: when each operation starts, and on which unit.
+#![tactic(auto)]
+
+pub mod timed;

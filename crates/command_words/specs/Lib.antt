@@ -1,0 +1,5 @@
+pub mod Words
+pub mod Options
+pub mod OptionViews
+pub mod Commands
+pub mod CommandViews

@@ -1,0 +1,2 @@
+mod OtherKinds
+mod Lists

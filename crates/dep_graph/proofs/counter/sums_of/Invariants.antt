@@ -1,0 +1,6 @@
+use Rattle.std.proofs.Common.{◌≡◌, drop}
+use Rattle.dep_graph.specs.Offsets.{sums_from, sums_of}
+use Rattle.dep_graph.proofs.counter.sums_of.Given as goal
+
+abbrev pub invariant-loop-op : goal.invariant-loop-op
+invariant-loop-op l = sums_from l.body l.sums.items (drop l.op-index l.body.ops.items) ≡ sums_of l.body

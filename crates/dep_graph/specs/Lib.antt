@@ -1,0 +1,3 @@
+pub mod Offsets
+pub mod Meetings
+pub mod Dependences

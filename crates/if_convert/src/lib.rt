@@ -1,0 +1,8 @@
+//! Forks become selects with guards, and simple loops become loops whose iterations may overlap.
+#![tactic(auto)]
+
+pub mod convert;
+mod fork;
+mod line;
+mod open;
+mod overlap;

@@ -1,0 +1,7 @@
+//! From a tree of basic blocks to a flat program.
+#![tactic(auto)]
+
+mod counts;
+mod flat;
+pub mod layout;
+mod ways;

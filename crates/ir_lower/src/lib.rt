@@ -1,0 +1,9 @@
+//! From pieces to a tree of basic blocks.
+#![tactic(auto)]
+
+pub mod copies;
+pub mod draft;
+pub mod emit;
+pub mod frame;
+pub mod line;
+pub mod lower;

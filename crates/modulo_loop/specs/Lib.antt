@@ -1,0 +1,4 @@
+pub mod Lowest
+pub mod Rules
+pub mod Searches
+pub mod Trips

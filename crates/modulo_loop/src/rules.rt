@@ -1,0 +1,200 @@
+//! The constraints of a loop, as edges.
+ghost use Rattle.std.specs.Prelude.{◌≡◌, ◌+◌, ◌++◌, IfOk, OnOk};
+ghost use Rattle.modulo_loop.specs.Rules as spec;
+
+use dep_graph::edge::{Edge, Why};
+use hls_base::number::OpId;
+use hls_base::refusal::impossible;
+use ir_core::body::{Body, Op, OpKind, Operand, Out, Source};
+use ir_core::stamp::Untimed;
+use ir_operation::timing::latency;
+use std::alloc::{AllocError, Global};
+use unit_binding::binding::{Binding, UnitOrder};
+
+/// The node of an operation.
+fn node(op: u32) -> Result<u32, AllocError>
+    ensures { IfOk result (λ n. n ≡ op + 1) }
+{
+    if op < u32::MAX {
+        Ok(op + 1)
+    } else {
+        Err(impossible())
+    }
+}
+
+/// The latency of an operation; 0 where there is none of this number.
+pub fn latency_of(ops: &[Op<Untimed>], op: OpId) -> u32
+    ensures { result ≡ spec.latency_of ops.now op }
+{
+    let number = op.0 as usize;
+    if number < ops.len() {
+        let op = &ops[number];
+        latency(op.kind, op.bits)
+    } else {
+        0
+    }
+}
+
+pub fn is_store(kind: OpKind) -> bool
+    ensures { result ≡ spec.is_store kind }
+{
+    match kind {
+        OpKind::Store => true,
+        _ => false,
+    }
+}
+
+/// The operation whose result an operand names.
+pub fn result_of(source: Source) -> Option<OpId>
+    ensures { result ≡ spec.result_of source }
+{
+    match source {
+        Source::Result(op) => Some(op),
+        _ => None,
+    }
+}
+
+/// The operation whose result a variable takes over.
+fn maker(variable: u32, outs: &[Out]) -> Option<OpId>
+    ensures { result ≡ spec.maker variable outs.now }
+{
+    for out in outs {
+        if out.variable.0 == variable {
+            if let Some(op) = result_of(out.value.value) {
+                return Some(op);
+            }
+        }
+    }
+    None
+}
+
+/// The operation that makes the test in its own iteration.
+pub fn test_maker(test: Option<Operand>) -> Option<OpId>
+    ensures { result ≡ spec.test_maker test }
+{
+    match test {
+        Some(test) => result_of(test.value),
+        None => None,
+    }
+}
+
+/// The operation whose result must be known before the next iteration begins.
+fn known_first(outs: &[Out], test: Option<Operand>) -> Option<OpId>
+    ensures { result ≡ spec.known_first outs.now test }
+{
+    let Some(test) = test else {
+        return None;
+    };
+    match test.value {
+        Source::Constant(_) => None,
+        Source::Variable(variable) => maker(variable.0, outs),
+        Source::Result(op) => Some(op),
+    }
+}
+
+/// Adds that a unit serves each of its operations after the one before.
+fn add_next_rules(order: &UnitOrder, rules: &mut Vec<Edge>) -> Result<(), AllocError>
+    ensures { OnOk result (rules.new.items ≡ rules.old.items ++ spec.next_rules order.now.occupancy order.now.ops.items) }
+{
+    for position in 1..order.ops.len() {
+        rules.push(Edge {
+            from: node(order.ops[position - 1])?,
+            to: node(order.ops[position])?,
+            latency: order.occupancy,
+            distance: 0,
+            why: Why::Unit,
+        })?;
+    }
+    Ok(())
+}
+
+/// Adds that a unit serves the first operation of an iteration after the last of the one before.
+fn add_again_rule(order: &UnitOrder, rules: &mut Vec<Edge>) -> Result<(), AllocError>
+    ensures { OnOk result (rules.new.items ≡ rules.old.items ++ spec.again_rules order.now.occupancy order.now.ops.items) }
+{
+    if !order.ops.is_empty() {
+        rules.push(Edge {
+            from: node(order.ops[order.ops.len() - 1])?,
+            to: node(order.ops[0])?,
+            latency: order.occupancy,
+            distance: 1,
+            why: Why::Unit,
+        })?;
+    }
+    Ok(())
+}
+
+/// Adds the orders of units.
+fn add_unit_rules(orders: &[UnitOrder], rules: &mut Vec<Edge>) -> Result<(), AllocError>
+    ensures { OnOk result (rules.new.items ≡ rules.old.items ++ spec.unit_rules orders.now) }
+{
+    for order in orders {
+        add_next_rules(order, rules)?;
+        add_again_rule(order, rules)?;
+    }
+    Ok(())
+}
+
+/// Adds that the test is known before the next iteration begins.
+fn add_known_rule(
+    ops: &[Op<Untimed>],
+    known: Option<OpId>,
+    rules: &mut Vec<Edge>,
+) -> Result<(), AllocError>
+    ensures { OnOk result (rules.new.items ≡ rules.old.items ++ spec.known_rules ops.now known) }
+{
+    if let Some(op) = known {
+        rules.push(Edge {
+            from: node(op.0)?,
+            to: 0,
+            latency: latency_of(ops, op),
+            distance: 1,
+            why: Why::Known,
+        })?;
+    }
+    Ok(())
+}
+
+/// Adds that each store starts after the test.
+fn add_store_rules(
+    ops: &[Op<Untimed>],
+    test: Option<OpId>,
+    rules: &mut Vec<Edge>,
+) -> Result<(), AllocError>
+    ensures { OnOk result (rules.new.items ≡ rules.old.items ++ spec.store_rules ops.now test) }
+{
+    let Some(test) = test else {
+        return Ok(());
+    };
+    for (number, op) in ops.iter().enumerate() {
+        if is_store(op.kind) {
+            let Ok(store) = u32::try_from(number) else {
+                return Err(impossible());
+            };
+            rules.push(Edge {
+                from: node(test.0)?,
+                to: node(store)?,
+                latency: latency_of(ops, test),
+                distance: 0,
+                why: Why::Control,
+            })?;
+        }
+    }
+    Ok(())
+}
+
+/// All constraints of a loop: the edges, the orders of the units, that the test is known, and that stores wait for it.
+pub fn rules(
+    alloc: Global,
+    body: &Body<Untimed>,
+    edges: &[Edge],
+    binding: &Binding,
+) -> Result<Vec<Edge>, AllocError>
+    ensures { IfOk result (λ rules. rules.items ≡ spec.loop_rules body.now edges.now binding.now.orders.items) }
+{
+    let mut rules: Vec<Edge> = Vec::from_slice(alloc, edges)?;
+    add_unit_rules(&binding.orders, &mut rules)?;
+    add_known_rule(&body.ops, known_first(&body.outs, body.test), &mut rules)?;
+    add_store_rules(&body.ops, test_maker(body.test), &mut rules)?;
+    Ok(rules)
+}

@@ -1,0 +1,4 @@
+pub mod Trees
+pub mod View
+pub mod Weight
+pub mod Shape

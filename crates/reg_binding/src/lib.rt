@@ -1,0 +1,9 @@
+//! Which register holds which value.
+#![tactic(auto)]
+
+pub mod assign;
+pub mod block_reads;
+pub mod life;
+pub mod loop_reads;
+pub mod registers;
+pub mod share;

@@ -1,0 +1,8 @@
+//! Memories, tables, multipliers and dividers as parts of a circuit.
+#![tactic(auto)]
+
+pub mod builder;
+mod divider;
+mod draft;
+mod multiplier;
+mod table;

@@ -1,0 +1,8 @@
+//! The file that gives the arguments of the top function: a line `NAME = V V ..` for each parameter.
+#![tactic(auto)]
+
+mod decimal;
+pub mod fault;
+mod line;
+mod parameter;
+pub mod read;

@@ -1,0 +1,100 @@
+//! Which reports have a text.
+ghost use Rattle.std.specs.Prelude.{◌≡◌, Bool, ◌&&◌, nat_le, IsTrue, map};
+ghost use Rattle.std.specs.List.{All, list_all};
+ghost use Rattle.hls_base.specs.declared.point.PointKind.TheVariants.{Body};
+ghost use Rattle.hls_base.specs.Tallies.{same_kind};
+ghost use Rattle.cycle_report.specs.declared.report.LoopRow.{LoopRow};
+ghost use Rattle.cycle_report.specs.declared.report.MemoryRow.{MemoryRow};
+ghost use Rattle.cycle_report.specs.PlainReport.{plain_of};
+ghost use Rattle.cycle_report.specs.ReportForm.{is_digit, is_letter, is_word_byte, is_name, IsSettings, HasForm};
+
+use cycle_report::report::{LoopRow, MemoryRow, Report};
+use hls_base::point::PointKind;
+use hls_base::settings::Settings;
+
+fn is_digit(byte: u8) -> bool
+    ensures { result ≡ is_digit byte }
+{
+    48 <= byte && byte <= 57
+}
+
+fn is_letter(byte: u8) -> bool
+    ensures { result ≡ is_letter byte }
+{
+    (65 <= byte && byte <= 90) || (97 <= byte && byte <= 122) || byte == 95
+}
+
+fn is_word_byte(byte: u8) -> bool
+    ensures { result ≡ is_word_byte byte }
+{
+    is_letter(byte) || is_digit(byte)
+}
+
+fn are_word_bytes(bytes: &[u8]) -> bool
+    ensures { result ≡ list_all is_word_byte bytes.now }
+{
+    for byte in bytes {
+        if !is_word_byte(*byte) {
+            return false;
+        }
+    }
+    true
+}
+
+fn is_name(name: &[u8]) -> bool
+    ensures { result ≡ is_name name.now }
+{
+    match name.split_first() {
+        Some((first, rest)) => is_letter(*first) && are_word_bytes(rest) && rest.len() <= 63,
+        None => false,
+    }
+}
+
+fn fit_settings(settings: &Settings) -> bool
+    ensures { IsTrue result → IsSettings settings.now }
+{
+    is_name(settings.top.items())
+        && 1 <= settings.mul
+        && settings.mul <= 8
+        && 1 <= settings.div
+        && settings.div <= 4
+        && 1 <= settings.ports
+        && settings.ports <= 2
+        && settings.period <= 1000
+}
+
+fn is_body(kind: PointKind) -> bool
+    ensures { result ≡ same_kind kind Body }
+{
+    matches!(kind, PointKind::Body)
+}
+
+fn stand_at_bodies(loops: &[LoopRow]) -> bool
+    ensures { result ≡ list_all (λ (l : LoopRow). same_kind l.point.kind Body) loops.now }
+{
+    for row in loops {
+        if !is_body(row.point.kind) {
+            return false;
+        }
+    }
+    true
+}
+
+fn have_names(memories: &[MemoryRow]) -> bool
+    ensures { result ≡ list_all (λ (m : MemoryRow). is_name m.name) memories.now }
+{
+    for memory in memories {
+        if !is_name(memory.name.items()) {
+            return false;
+        }
+    }
+    true
+}
+
+/// Whether the names, settings and loop points of a report are those of a text.
+pub fn has_form(report: &Report) -> bool
+    ensures { IsTrue result → HasForm (plain_of report.now) }
+{
+    fit_settings(&report.settings)
+        && (stand_at_bodies(&report.loops) && have_names(&report.memories))
+}

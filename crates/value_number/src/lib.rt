@@ -1,0 +1,6 @@
+//! Equal operations of a block become one, and operations on constants are computed.
+#![tactic(auto)]
+
+pub mod block;
+mod key;
+pub mod number;
