@@ -1,4 +1,3 @@
 pub mod OneLine
 pub mod RunEnds
-pub mod SixWords
 pub mod WrittenFiles

@@ -1,4 +1,4 @@
-pub mod Command
+pub mod Words
 pub mod Lines
 pub mod SynthRun
 pub mod Work

@@ -3,9 +3,9 @@ use Rattle.std.specs.Prelude.{ℕ, List, ◌++◌, codes}
 use Rattle.std.specs.Fmt.{decimal}
 use Rattle.hls_base.specs.declared.refusal.Refusal.{Refusal}
 use Rattle.hls_base.specs.PlaceText.{place_text}
-use Rattle.hls_cli.specs.Command.{Command}
+use Rattle.command_words.specs.Commands.{Synth}
 
-abbrev pub made_line : Command → List ℕ
+abbrev pub made_line : Synth → List ℕ
 made_line c = codes "made hls_" ++ (c.top ++ codes "\n")
 
 abbrev pub refusal_line : Refusal → List ℕ

@@ -3,9 +3,6 @@
 
 mod lines;
 mod run;
-#[cfg(test)]
-mod tests;
-mod words;
 mod work;
 
 use crate::run::run;

@@ -1,22 +1,25 @@
-//! The answer of a command: a status, and one line that is put.
-ghost use Rattle.std.specs.Prelude.{◌≡◌, ◌≤◌, ◌<◌, ◌⊎◌, map};
+//! The answer of a command: a status, and the lines that are put.
+ghost use Rattle.std.specs.Prelude.{◌≡◌, ◌≢◌, ◌≤◌, ◌⊎◌, map};
 ghost use Rattle.std.specs.String.{string_bytes};
 ghost use Rattle.hls_base.specs.Outside.{HasRisen, NeverFalls, WhereTold, PutsAll, PutsPrefix};
 ghost use Rattle.hls_cli.specs.Lines.{fault_line, memory_line};
-ghost use Rattle.hls_cli.specs.SynthRun.{outside, RanToModule, RanToRefusal, RanToUsage, PutsCutLine, IsCutOff, HasFault, IsComplete};
+ghost use Rattle.hls_cli.specs.SynthRun.{outside, RanToModule, RanToRefusal, RanToUsage, RanToVerdict, PutsCutLine, IsCutOff, HasFault, IsComplete};
 
 use crate::lines::{FAULT, MEMORY, USAGE};
-use crate::words::read_words;
-use crate::work::{Answer, work};
+use crate::work::{work_cosim, work_soak, work_synth};
+use command_words::command::{Command, read_words};
 use hls_base::outside::{Shelf, ShelfError, Sink, SinkError};
 use std::alloc::Global;
 
-/// Does what the words say, and answers the status with which the program ends: 0 where it is done, 1 where the source is refused, 2 where the words are no command, 3 where a file or the output failed, 4 where there was no memory.
+/// Does what the words say, and answers the status with which the program ends: 0 where it is done, 1 where the source is refused, 2 where the words are no command, 3 where a file or the output failed, 4 where there was no memory. A comparison ends with 5 where two levels differ, 6 where one does not end within its limit, 7 where the run file is refused, 8 where the module or the report is, and 9 where the run in C has no meaning.
 pub fn run<F: Shelf, K: Sink>(alloc: Global, words: &[String], shelf: &mut F, out: &mut K) -> u8
-    ensures status { result ≤ 4 }
-    ensures made { result ≡ 0 → RanToModule (map string_bytes words.now) (outside (F.files shelf.old) (F.files shelf.new) (K.written out.old) (K.written out.new)) }
-    ensures refused { result ≡ 1 → RanToRefusal (map string_bytes words.now) (outside (F.files shelf.old) (F.files shelf.new) (K.written out.old) (K.written out.new)) }
+    ensures status { result ≤ 9 }
+    ensures made { result ≡ 0 → RanToModule (map string_bytes words.now) (outside (F.files shelf.old) (F.files shelf.new) (K.written out.old) (K.written out.new))
+        ⊎ RanToVerdict (map string_bytes words.now) (outside (F.files shelf.old) (F.files shelf.new) (K.written out.old) (K.written out.new)) }
+    ensures refused { result ≡ 1 → RanToRefusal (map string_bytes words.now) (outside (F.files shelf.old) (F.files shelf.new) (K.written out.old) (K.written out.new))
+        ⊎ RanToVerdict (map string_bytes words.now) (outside (F.files shelf.old) (F.files shelf.new) (K.written out.old) (K.written out.new)) }
     ensures usage { result ≡ 2 → RanToUsage (map string_bytes words.now) (outside (F.files shelf.old) (F.files shelf.new) (K.written out.old) (K.written out.new)) }
+    ensures compared { 5 ≤ result → RanToVerdict (map string_bytes words.now) (outside (F.files shelf.old) (F.files shelf.new) (K.written out.old) (K.written out.new)) }
 
     // A fault of the outside, and want of memory, cut the run off.
     ensures fault { result ≡ 3 → HasFault (map string_bytes words.now) (F.files shelf.old) (F.faults shelf.old) (F.faults shelf.new) (K.faults out.old) (K.faults out.new) }
@@ -26,20 +29,29 @@ pub fn run<F: Shelf, K: Sink>(alloc: Global, words: &[String], shelf: &mut F, ou
     // A source that is accepted is compiled, unless a fault or want of memory comes.
     ensures complete { IsComplete (map string_bytes words.now) (F.files shelf.old) → (¬ HasRisen (F.faults shelf.old) (F.faults shelf.new)) → (¬ HasRisen (K.faults out.old) (K.faults out.new)) → (result ≡ 0) ⊎ (result ≡ 4) }
 {
-    let Some(command) = read_words(words) else {
-        return finish(2, USAGE, out);
-    };
-    match work(alloc, &command, shelf) {
-        Ok(Answer::Made(line)) => finish(0, line.as_bytes(), out),
-        Ok(Answer::Refused(line)) => finish(1, line.as_bytes(), out),
-        Err(ShelfError::Failed) => stop_for_fault(out),
-        Err(ShelfError::Memory) => stop_for_memory(out),
+    match read_words(words) {
+        Some(Command::Synth(command)) => match work_synth(alloc, &command, shelf) {
+            Ok(answer) => finish(answer.status, answer.lines.as_bytes(), out),
+            Err(ShelfError::Failed) => stop_for_fault(out),
+            Err(ShelfError::Memory) => stop_for_memory(out),
+        },
+        Some(Command::Cosim(command)) => match work_cosim(alloc, &command, shelf) {
+            Ok(answer) => finish(answer.status, answer.lines.as_bytes(), out),
+            Err(ShelfError::Failed) => stop_for_fault(out),
+            Err(ShelfError::Memory) => stop_for_memory(out),
+        },
+        Some(Command::Soak(number)) => match work_soak(alloc, number) {
+            Ok(answer) => finish(answer.status, answer.lines.as_bytes(), out),
+            Err(_) => stop_for_memory(out),
+        },
+        None => finish(2, USAGE, out),
     }
 }
 
-// Puts the line, and answers the status. Where the line cannot be put the answer is 3 or 4.
+// Puts the lines, and answers the status. Where the lines cannot be put the answer is 3 or 4.
 fn finish<K: Sink>(status: u8, line: &[u8], out: &mut K) -> u8
-    requires { status < 3 }
+    requires no_fault { status ≢ 3 }
+    requires no_memory { status ≢ 4 }
     ensures status { (result ≡ status) ⊎ ((result ≡ 3) ⊎ (result ≡ 4)) }
     ensures done { result ≡ status → WhereTold (PutsAll line.now) (K.written out.old) (K.written out.new) }
     ensures fault { result ≡ 3 → HasRisen (K.faults out.old) (K.faults out.new) }

@@ -48,4 +48,4 @@ accepted_has_no_fault source top fault accepted (f.no_program before) = program_
 accepted_has_no_fault source top fault accepted (f.breaks_a_rule program the least) =
     let same : accepted.is.program ≡ program = the.only accepted.is.program accepted.is.is in
     no_least (program_faults program top) fault (subst (λ p. program_faults p top ≡ []) same accepted.is.faultless) least
-accepted_has_no_fault source top fault accepted (f.other_form program the faultless none not_compiled) = none accepted.sum accepted.is
+accepted_has_no_fault source top fault accepted (f.too_large program the faultless none too) = none accepted.sum accepted.is

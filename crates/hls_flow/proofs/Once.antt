@@ -12,7 +12,7 @@ use Rattle.c_tree.specs.Refusal.{IsFaultOf}
 use Rattle.c_checked.specs.Faults.{IsLeast, fault}
 use Rattle.c_checked.specs.Programs.{program_faults}
 use Rattle.hls_flow.specs.FirstFault as f
-use Rattle.hls_flow.specs.FirstFault.{end_of, IsReplaced, IsTheProgramOf, IsFaultBefore, IsNotCompiled, IsFirstFault}
+use Rattle.hls_flow.specs.FirstFault.{end_of, IsReplaced, IsTheProgramOf, IsFaultBefore, IsTooLarge, IsFirstFault}
 use Rattle.hls_flow.proofs.Faults.{one_list, program_has_no_fault, no_least}
 use Rattle.hls_flow.proofs.FaultOnce.{one_fault}
 use Rattle.hls_flow.proofs.LeastOnce.{one_least}
@@ -49,30 +49,30 @@ before_once source r q (f.of_grammar ts replaced a) (f.of_grammar us become b) =
 one_program : (source : List ℕ) (p q : ProgramTree) → IsTheProgramOf source p → IsTheProgramOf source q → p ≡ q
 one_program source p q a b = b.only p a.is
 
-not_compiled_once : (program : ProgramTree) (top : List ℕ) (r q : Refusal) → program_faults program top ≡ [] → IsNotCompiled program top r → IsNotCompiled program top q → q ≡ r
-not_compiled_once program top r q faultless a b =
+too_large_once : (program : ProgramTree) (top : List ℕ) (r q : Refusal) → program_faults program top ≡ [] → IsTooLarge program top r → IsTooLarge program top q → q ≡ r
+too_large_once program top r q faultless a b =
     let one : HasBody program.items top a.index a.function = record { item = a.is.item; body = a.is.has_body; named = a.is.named } in
     let other : HasBody program.items top b.index b.function = record { item = b.is.item; body = b.is.has_body; named = b.is.named } in
     let same : a.function ≡ b.function = one_body program top top a.index b.index a.function b.function faultless one other in
-    b.fault_is ∙ (ap (λ (g : FunctionTree). fault 37 g.at) (sym same) ∙ sym a.fault_is)
+    b.fault_is ∙ (ap (λ (g : FunctionTree). fault 36 g.at) (sym same) ∙ sym a.fault_is)
 
 -- ---- the whole
 
 pub first_fault_once : (source top : List ℕ) (r q : Refusal) → IsFirstFault source top r → IsFirstFault source top q → q ≡ r
 first_fault_once source top r q (f.no_program a) (f.no_program b) = before_once source r q a b
 first_fault_once source top r q (f.no_program a) (f.breaks_a_rule program the least) = absurd (program_has_no_fault source program r the.is a)
-first_fault_once source top r q (f.no_program a) (f.other_form program the faultless none not) = absurd (program_has_no_fault source program r the.is a)
+first_fault_once source top r q (f.no_program a) (f.too_large program the faultless none not) = absurd (program_has_no_fault source program r the.is a)
 first_fault_once source top r q (f.breaks_a_rule program the least) (f.no_program b) = absurd (program_has_no_fault source program q the.is b)
 first_fault_once source top r q (f.breaks_a_rule program the least) (f.breaks_a_rule other is less) =
     let same : program ≡ other = one_program source program other the is in
     one_least (program_faults other top) r q (subst (λ p. IsLeast (program_faults p top) r) same least) less
-first_fault_once source top r q (f.breaks_a_rule program the least) (f.other_form other is faultless none not) =
+first_fault_once source top r q (f.breaks_a_rule program the least) (f.too_large other is faultless none not) =
     let same : other ≡ program = one_program source other program is the in
     absurd (no_least (program_faults program top) r (subst (λ p. program_faults p top ≡ []) same faultless) least)
-first_fault_once source top r q (f.other_form program the faultless none not) (f.no_program b) = absurd (program_has_no_fault source program q the.is b)
-first_fault_once source top r q (f.other_form program the faultless none not) (f.breaks_a_rule other is less) =
+first_fault_once source top r q (f.too_large program the faultless none not) (f.no_program b) = absurd (program_has_no_fault source program q the.is b)
+first_fault_once source top r q (f.too_large program the faultless none not) (f.breaks_a_rule other is less) =
     let same : program ≡ other = one_program source program other the is in
     absurd (no_least (program_faults other top) q (subst (λ p. program_faults p top ≡ []) same faultless) less)
-first_fault_once source top r q (f.other_form program the faultless none not) (f.other_form other is clean no_sum neither) =
+first_fault_once source top r q (f.too_large program the faultless none not) (f.too_large other is clean no_sum neither) =
     let same : program ≡ other = one_program source program other the is in
-    not_compiled_once other top r q clean (subst (λ p. IsNotCompiled p top r) same not) neither
+    too_large_once other top r q clean (subst (λ p. IsTooLarge p top r) same not) neither

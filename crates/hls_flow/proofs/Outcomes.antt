@@ -1,5 +1,6 @@
 -- What holds of an answer or of a refusal holds also in weaker form, and where it is passed on.
-use Rattle.std.proofs.Common.{◌≡◌, sym, subst, Result, Ok, Err}
+use Rattle.std.proofs.Common.{◌≡◌, sym, subst, Result, Ok, Err, Option, Some, None}
+use Rattle.std.specs.Option.{IfSome, IfNone}
 use Rattle.std.specs.Result.{IsErrAnd, IfOk}
 use Rattle.hls_base.specs.declared.refusal.Fail.{Fail}
 use Rattle.hls_base.specs.declared.refusal.Fail.TheVariants.{Refused, Memory}
@@ -28,3 +29,11 @@ refused_weaker (Err Memory) P R f h = tt
 pub ok_weaker : {A : Type 0} (r : Result A Fail) (P R : A → Type 0) → ((x : A) → P x → R x) → IfOk r P → IfOk r R
 ok_weaker (Ok x) P R f h = f x h
 ok_weaker (Err e) P R f h = tt
+
+pub some_weaker : {A : Type 0} (o : Option A) (P R : A → Type 0) → ((x : A) → P x → R x) → IfSome o P → IfSome o R
+some_weaker (Some x) P R f h = f x h
+some_weaker None P R f h = tt
+
+pub none_weaker : {A : Type 0} (o : Option A) (P R : Type 0) → (P → R) → IfNone o P → IfNone o R
+none_weaker (Some x) P R f h = tt
+none_weaker None P R f h = f h

@@ -44,7 +44,7 @@ pub record IsSumSource (source top : List ℕ) (sum : Sum) : Type 0 where
   pub sum_is : IsSum program sum
   pub named : sum.name ≡ top
 
--- the source is compiled
+-- the source is a sum, which is compiled whatever its spelling
 pub record IsAccepted (source top : List ℕ) : Type 0 where
   pub sum : Sum
   pub is : IsSumSource source top sum
@@ -61,19 +61,19 @@ pub record IsTopFunction (program : ProgramTree) (top : List ℕ) (index : ℕ) 
   pub has_body : is_some function.body ≡ true
   pub named : function.name ≡ top
 
--- Rule 37 stands where the body of the top function does, at the function's name.
-pub record IsNotCompiled (program : ProgramTree) (top : List ℕ) (fault : Refusal) : Type 0 where
+-- Rule 36 stands where the body of the top function does, at the function's name.
+pub record IsTooLarge (program : ProgramTree) (top : List ℕ) (fault : Refusal) : Type 0 where
   pub index : ℕ
   pub function : FunctionTree
   pub is : IsTopFunction program top index function
-  pub fault_is : fault ≡ record { rule = 37; place = function.at }
+  pub fault_is : fault ≡ record { rule = 36; place = function.at }
 
--- The first fault of a source: it is no program within the limits; or a program that breaks a rule of C, of which the earliest place counts, and at one place the smallest rule; or a program of a form that is not compiled yet, under rule 37.
+-- The first fault of a source: it is no program within the limits; or a program that breaks a rule of C, of which the earliest place counts, and at one place the smallest rule; or a program, and no sum, that is too large once its calls are expanded, under rule 36.
 pub data IsFirstFault (source top : List ℕ) (fault : Refusal) : Type 0 where
   no_program : IsFaultBefore source fault → IsFirstFault source top fault
   breaks_a_rule : (program : ProgramTree) → IsTheProgramOf source program → IsLeast (program_faults program top) fault → IsFirstFault source top fault
-  other_form : (program : ProgramTree) → IsTheProgramOf source program → program_faults program top ≡ [] → ((sum : Sum) → ¬ IsSumSource source top sum)
-      → IsNotCompiled program top fault → IsFirstFault source top fault
+  too_large : (program : ProgramTree) → IsTheProgramOf source program → program_faults program top ≡ [] → ((sum : Sum) → ¬ IsSumSource source top sum)
+      → IsTooLarge program top fault → IsFirstFault source top fault
 
 -- what holds of the sum that was found: it is the source's, and its function's name is that of a module
 pub record IsFound (source top : List ℕ) (sum : Sum) : Type 0 where

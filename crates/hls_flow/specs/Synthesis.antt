@@ -10,7 +10,9 @@ use Rattle.rtl_core.specs.Agreement.{Agrees}
 use Rattle.rtl_core.specs.Resources.{multipliers, dividers}
 use Rattle.cycle_report.specs.PlainReport.{PlainReport}
 use Rattle.cycle_report.specs.ReportForm.{IsReport}
-use Rattle.hls_flow.specs.FirstFault.{IsTheProgramOf, IsTopFunction}
+use Rattle.compile_flow.specs.Reports.{ReportsDesign}
+use Rattle.sum_program.specs.declared.program.Sum.{Sum}
+use Rattle.hls_flow.specs.FirstFault.{IsTheProgramOf, IsTopFunction, IsSumSource}
 use Rattle.hls_flow.specs.CBox.{interface_of, c_answers}
 
 -- the ranges of the numbers that a user can ask for
@@ -45,3 +47,22 @@ pub record SynthesisIsCorrect (source : List ℕ) (settings : Settings) (module_
   pub named : design.name ≡ codes "hls_" ++ settings.top
   pub agrees : Agrees design (interface_of function) report.init (first_contents program) (c_answers program index report)
   pub resources : ReportsCircuit report settings design
+
+-- The module's bytes are the text of a circuit, and the report's bytes the text of a report that names what this circuit is built of, and the settings.
+pub record HasTexts (settings : Settings) (module_bytes report_bytes : List ℕ) : Type 0 where
+  pub report : PlainReport
+  pub report_is : IsReport report_bytes report
+  pub design : Netlist
+  pub module_is : IsModuleText module_bytes design
+  pub resources : ReportsDesign report settings design
+
+-- What a synthesis gives: the source is one program without faults, whose top function has its body, and both files have their texts. Where the program is a sum, the circuit agrees with it.
+pub record IsSynthesis (source : List ℕ) (settings : Settings) (module_bytes report_bytes : List ℕ) : Type 0 where
+  pub program : ProgramTree
+  pub is : IsTheProgramOf source program
+  pub faultless : program_faults program settings.top ≡ []
+  pub index : ℕ
+  pub function : FunctionTree
+  pub top : IsTopFunction program settings.top index function
+  pub texts : HasTexts settings module_bytes report_bytes
+  pub agrees : (sum : Sum) → IsSumSource source settings.top sum → SynthesisIsCorrect source settings module_bytes report_bytes

@@ -1,6 +1,9 @@
-//! From the bytes of a source to those of a module and of its report.
+//! From the bytes of a source to those of a module and of its report, and back from these: the levels of a program are compared.
 #![tactic(auto)]
 
+pub mod cosim;
+mod levels;
+mod machines;
+pub mod soak;
 pub mod synth;
-#[cfg(test)]
-mod tests;
+pub mod verdict;

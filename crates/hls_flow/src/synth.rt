@@ -1,14 +1,18 @@
-ghost use Rattle.std.specs.Prelude.{◌≡◌, ◌≢◌, [], true, map, length, ◌≤◌, slice_get, is_some, Some, IsSome, IfOk};
+ghost use Rattle.std.specs.Prelude.{◌≡◌, ◌≢◌, ℕ, List, [], true, map, length, ◌≤◌, slice_get, is_some, Some, IsSome, IfOk, IfSome, IfNone};
 ghost use Rattle.hls_base.specs.Refusals.{IfRefused};
 ghost use Rattle.hls_base.specs.declared.refusal.Refusal.{Refusal};
-ghost use Rattle.hls_base.specs.declared.settings.Settings.{Settings};
+ghost use Rattle.rtl_core.specs.ModuleText.{IsModuleText};
 ghost use Rattle.cycle_report.specs.PlainReport.{plain_of};
+ghost use Rattle.cycle_report.specs.ReportForm.{IsReport};
 ghost use Rattle.c_tree.specs.Tree as tree;
 ghost use Rattle.c_tree.specs.Tree.{ProgramTree};
 ghost use Rattle.c_tree.specs.View.{program_of, item_of, function_of};
 ghost use Rattle.c_checked.specs.Programs.{program_faults, body_name_of, top_name};
-ghost use Rattle.hls_flow.specs.FirstFault.{IsProgramOf, IsTheProgramOf, IsFaultBefore, IsFirstFault, IsFound};
-ghost use Rattle.hls_flow.specs.Synthesis.{AreInRange, SynthesisIsCorrect};
+ghost use Rattle.sum_program.specs.declared.program.Sum.{Sum};
+ghost use Rattle.sum_program.specs.SumForm.{IsWord, IsSum};
+ghost use Rattle.sum_circuit.specs.SumCircuit.{sum_netlist};
+ghost use Rattle.hls_flow.specs.FirstFault.{IsProgramOf, IsTheProgramOf, IsFaultBefore, IsFirstFault, IsTooLarge};
+ghost use Rattle.hls_flow.specs.Synthesis.{AreInRange, HasTexts, IsSynthesis};
 ghost use Rattle.hls_flow.specs.SumReport.{sum_report};
 
 use c_checked::checked::Checked;
@@ -18,8 +22,9 @@ use c_parser::parse;
 use c_tree::function::Function;
 use c_tree::program::{Item, Program};
 use c_types::program::check;
+use compile_flow::compile::compile;
 use cycle_report::report::{Cost, Formula, Report};
-use hls_base::place::{Path, Place};
+use hls_base::place::Path;
 use hls_base::point::{Point, PointKind};
 use hls_base::refusal::{Fail, Refusal};
 use hls_base::settings::Settings;
@@ -28,6 +33,8 @@ use std::alloc::{AllocError, Global};
 use sum_circuit::circuit::sum_design;
 use sum_program::program::Sum;
 use sum_program::read::sum_of;
+use synth_texts::circuit_text::circuit_text;
+use synth_texts::report_text::report_text;
 
 /// The texts of a module and of its report.
 #[derive(Debug, Drop)]
@@ -39,48 +46,92 @@ pub struct Made {
 /// Compiles the top function of a source.
 pub fn synth(alloc: Global, source: &[u8], settings: &Settings) -> Result<Made, Fail>
     requires { AreInRange settings.now }
-    ensures made { IfOk result (λ m. SynthesisIsCorrect source.now settings.now m.module m.report) }
+    ensures made { IfOk result (λ m. IsSynthesis source.now settings.now m.module m.report) }
     ensures refused { IfRefused result (IsFirstFault source.now settings.now.top) }
     ensures once { IfRefused result (λ r. (q : Refusal) → IsFirstFault source.now settings.now.top q → q ≡ r) }
 {
-    let program = read_sum(alloc, source, &settings.top)?;
-    let design = sum_design(alloc, &program)?;
-    let module = verilog_print::printer::print(alloc, &design)?;
-    let report = report_of(alloc, &program, settings)?;
-    let report = cycle_report::print::print(alloc, &report)?;
-    Ok(Made { module, report })
+    let checked = read_checked(alloc, source, &settings.top)?;
+    match named_sum(alloc, &checked, settings.top.items())? {
+        Some(sum) => {
+            let made = made_of_sum(alloc, &sum, settings)?;
+            Ok(made)
+        }
+        None => made_of_program(alloc, &checked, settings),
+    }
 }
 
-/// The sum that the source is, if its function has this name.
-fn read_sum(alloc: Global, source: &[u8], top: &Text) -> Result<Sum, Fail>
-    ensures found { IfOk result (IsFound source.now top.now) }
-    ensures refused { IfRefused result (IsFirstFault source.now top.now) }
+/// The sum of this name that the program is.
+fn named_sum(alloc: Global, checked: &Checked, top: &[u8]) -> Result<Option<Sum>, AllocError>
+    ensures found { IfOk result (λ o. IfSome o (λ s. IsSum (program_of checked.now.program) s × (s.name ≡ top.now))) }
+    ensures none { IfOk result (λ o. IfNone o ((s : Sum) → IsSum (program_of checked.now.program) s → s.name ≢ top.now)) }
 {
-    let checked = read_checked(alloc, source, top)?;
-    let at = top_function(&checked.program.items, checked.top as usize).at;
     match sum_of(alloc, &checked.program)? {
-        Some(sum) => named(sum, top.items(), at),
-        None => Err(not_compiled(at)),
+        Some(sum) => Ok(named(sum, top)),
+        None => Ok(None),
     }
 }
 
 /// The sum, if its function has this name.
-fn named(sum: Sum, top: &[u8], at: Place) -> Result<Sum, Fail>
-    ensures found { IfOk result (λ s. (s ≡ sum) × (sum.name ≡ top.now)) }
-    ensures refused { IfRefused result (λ r. (r ≡ record { rule = 37; place = at }) × (sum.name ≢ top.now)) }
+fn named(sum: Sum, top: &[u8]) -> Option<Sum>
+    ensures found { IfSome result (λ s. (s ≡ sum) × (s.name ≡ top.now)) }
+    ensures none { IfNone result (sum.name ≢ top.now) }
 {
     if sum.name.is_same(top) {
-        Ok(sum)
+        Some(sum)
     } else {
-        Err(not_compiled(at))
+        None
     }
 }
 
-/// The answer to a form of C that is not compiled yet.
-fn not_compiled(place: Place) -> Fail
-    ensures { result ≡ Fail.Refused (record { rule = 37; place = place }) }
+/// The texts of a sum.
+fn made_of_sum(alloc: Global, program: &Sum, settings: &Settings) -> Result<Made, AllocError>
+    requires range { AreInRange settings.now }
+    requires word { IsWord program.now.name }
+    requires short { length program.now.name ≤ 64 }
+    requires named { program.now.name ≡ settings.now.top }
+    ensures module { IfOk result (λ m. IsModuleText m.module (sum_netlist program.now)) }
+    ensures report { IfOk result (λ m. IsReport m.report (sum_report program.now settings.now)) }
 {
-    Fail::Refused(Refusal { rule: 37, place })
+    let design = sum_design(alloc, program)?;
+    let module = verilog_print::printer::print(alloc, &design)?;
+    let report = report_of(alloc, program, settings)?;
+    let report = cycle_report::print::print(alloc, &report)?;
+    Ok(Made { module, report })
+}
+
+/// The texts of a program without faults. Where its calls make it too large it is refused, at the name of its top function.
+fn made_of_program(alloc: Global, checked: &Checked, settings: &Settings) -> Result<Made, Fail>
+    requires { top_name (program_of checked.now.program) checked.now.top ≡ Some settings.now.top }
+    ensures made { IfOk result (λ m. HasTexts settings.now m.module m.report) }
+    ensures refused { IfRefused result (IsTooLarge (program_of checked.now.program) settings.now.top) }
+{
+    match compiled_texts(alloc, checked, settings) {
+        Ok(made) => Ok(made),
+        Err(Fail::Refused(_)) => Err(Fail::Refused(too_large(checked, &settings.top))),
+        Err(Fail::Memory) => Err(Fail::Memory),
+    }
+}
+
+/// Where a program that is too large is refused: at the name of its top function.
+fn too_large(checked: &Checked, top: &Text) -> Refusal
+    requires { top_name (program_of checked.now.program) checked.now.top ≡ Some top.now }
+    ensures { IsTooLarge (program_of checked.now.program) top.now result }
+{
+    let function = top_function(&checked.program.items, checked.top as usize);
+    Refusal {
+        rule: 36,
+        place: function.at,
+    }
+}
+
+/// The texts of what a program is compiled to.
+fn compiled_texts(alloc: Global, checked: &Checked, settings: &Settings) -> Result<Made, Fail>
+    ensures { IfOk result (λ m. HasTexts settings.now m.module m.report) }
+{
+    let compiled = compile(alloc, checked, settings)?;
+    let module = circuit_text(alloc, &compiled.design)?;
+    let report = report_text(alloc, &compiled.report)?;
+    Ok(Made { module, report })
 }
 
 /// The function with a body that is the item with this index.
@@ -96,7 +147,7 @@ fn top_function(items: &[Item], index: usize) -> &Function
 }
 
 /// The program that the source is, without faults.
-fn read_checked(alloc: Global, source: &[u8], top: &Text) -> Result<Checked, Fail>
+pub fn read_checked(alloc: Global, source: &[u8], top: &Text) -> Result<Checked, Fail>
     ensures found { IfOk result (λ c. IsTheProgramOf source.now (program_of c.program)) }
     ensures top { IfOk result (λ c. top_name (program_of c.program) c.top ≡ Some top.now) }
     ensures faultless { IfOk result (λ c. program_faults (program_of c.program) top.now ≡ []) }

@@ -1,45 +1,89 @@
-use Rattle.std.proofs.Common.{map}
+use Rattle.std.proofs.Common.{map, inl, inr, refl, sym}
 use Rattle.std.specs.String.{string_bytes}
+use Rattle.command_words.specs.CommandViews.{synth_view, cosim_view}
 use Rattle.hls_cli.specs.Lines.{fault_line, memory_line}
 use Rattle.hls_cli.specs.SynthRun.{outside}
 use Rattle.hls_cli.specs.SynthRun as run
-use Rattle.hls_cli.proofs.RunEnds.{refused_is_not_complete, cut_made, cut_refusal}
+use Rattle.hls_cli.proofs.RunEnds.{synth_cut, synth_complete, synth_fault, cosim_fault, verdict_cut, verdict_cut_early}
 use Rattle.hls_cli.proofs.run.run.Goals as goal
 
-pub returns-in-Ok-Made-clause-after_fault : goal.returns-in-Ok-Made-clause-after_fault
-returns-in-Ok-Made-clause-after_fault g c = λ e.
-    cut_made (map string_bytes c.args.words.now) c.in-Some.command (string_bytes c.in-Ok-Made.line) c.as_bytes.result.now fault_line
-    (outside (g.F.Shelf.files c.args.shelf.now) (g.F.Shelf.files c.work.new.shelf) (g.K.Sink.written c.args.out.now) (g.K.Sink.written c.finish-in-Ok-Made.new.out))
-    c.in-Some.ensures (rw c.in-Ok-Made.field-0-is at c.in-Ok-Made.ensures.answer) c.as_bytes.ensures.value (c.finish-in-Ok-Made.ensures.after_fault e)
+pub returns-in-Ok-clause-fault : goal.returns-in-Ok-clause-fault
+returns-in-Ok-clause-fault g c = λ e. inr (inl (c.finish.ensures.fault e))
 
-pub returns-in-Ok-Made-clause-after_memory : goal.returns-in-Ok-Made-clause-after_memory
-returns-in-Ok-Made-clause-after_memory g c = λ e.
-    cut_made (map string_bytes c.args.words.now) c.in-Some.command (string_bytes c.in-Ok-Made.line) c.as_bytes.result.now memory_line
-    (outside (g.F.Shelf.files c.args.shelf.now) (g.F.Shelf.files c.work.new.shelf) (g.K.Sink.written c.args.out.now) (g.K.Sink.written c.finish-in-Ok-Made.new.out))
-    c.in-Some.ensures (rw c.in-Ok-Made.field-0-is at c.in-Ok-Made.ensures.answer) c.as_bytes.ensures.value (c.finish-in-Ok-Made.ensures.after_memory e)
+pub returns-in-Ok-clause-after_fault : goal.returns-in-Ok-clause-after_fault
+returns-in-Ok-clause-after_fault g c = λ e.
+    synth_cut (map string_bytes c.args.words.now) (synth_view c.in-Some-Synth.command) c.in-Ok.answer c.as_bytes.result.now fault_line
+    (outside (g.F.Shelf.files c.args.shelf.now) (g.F.Shelf.files c.work_synth.new.shelf) (g.K.Sink.written c.args.out.now) (g.K.Sink.written c.finish.new.out))
+    (sym (rw c.in-Some-Synth.field-0-is at c.in-Some-Synth.ensures.value)) c.in-Ok.ensures.answer c.as_bytes.ensures.value (c.finish.ensures.after_fault e)
 
-pub returns-in-Ok-Refused-clause-complete : goal.returns-in-Ok-Refused-clause-complete
-returns-in-Ok-Refused-clause-complete g c =
-    let answer = rw c.in-Ok-Refused.field-0-is at c.in-Ok-Refused.ensures.answer in
-    refused_is_not_complete (map string_bytes c.args.words.now) c.in-Some.command answer.0 (g.F.Shelf.files c.args.shelf.now) (g.F.Shelf.files c.work.new.shelf) c.finish-in-Ok-Refused.result _ _ _ _
-    c.in-Some.ensures answer.1.1 c.finish-in-Ok-Refused.ensures.status c.finish-in-Ok-Refused.ensures.fault
+pub returns-in-Ok-clause-after_memory : goal.returns-in-Ok-clause-after_memory
+returns-in-Ok-clause-after_memory g c = λ e.
+    synth_cut (map string_bytes c.args.words.now) (synth_view c.in-Some-Synth.command) c.in-Ok.answer c.as_bytes.result.now memory_line
+    (outside (g.F.Shelf.files c.args.shelf.now) (g.F.Shelf.files c.work_synth.new.shelf) (g.K.Sink.written c.args.out.now) (g.K.Sink.written c.finish.new.out))
+    (sym (rw c.in-Some-Synth.field-0-is at c.in-Some-Synth.ensures.value)) c.in-Ok.ensures.answer c.as_bytes.ensures.value (c.finish.ensures.after_memory e)
 
-pub returns-in-Ok-Refused-clause-after_fault : goal.returns-in-Ok-Refused-clause-after_fault
-returns-in-Ok-Refused-clause-after_fault g c = λ e.
-    let answer = rw c.in-Ok-Refused.field-0-is at c.in-Ok-Refused.ensures.answer in
-    cut_refusal (map string_bytes c.args.words.now) c.in-Some.command answer.0 (string_bytes c.in-Ok-Refused.line) c.as_bytes-in-Ok-Refused.result.now fault_line
-    (outside (g.F.Shelf.files c.args.shelf.now) (g.F.Shelf.files c.work.new.shelf) (g.K.Sink.written c.args.out.now) (g.K.Sink.written c.finish-in-Ok-Refused.new.out))
-    c.in-Some.ensures answer.1.0 answer.1.1 c.as_bytes-in-Ok-Refused.ensures.value (c.finish-in-Ok-Refused.ensures.after_fault e)
+pub returns-in-Ok-clause-complete : goal.returns-in-Ok-clause-complete
+returns-in-Ok-clause-complete g c = λ done shelf sink.
+    synth_complete (map string_bytes c.args.words.now) (synth_view c.in-Some-Synth.command) c.in-Ok.answer (g.F.Shelf.files c.args.shelf.now) (g.F.Shelf.files c.work_synth.new.shelf) c.finish.result (g.K.Sink.faults c.args.out.now) (g.K.Sink.faults c.finish.new.out)
+    (sym (rw c.in-Some-Synth.field-0-is at c.in-Some-Synth.ensures.value)) c.in-Ok.ensures.answer c.finish.ensures.status c.finish.ensures.fault done sink
 
-pub returns-in-Ok-Refused-clause-after_memory : goal.returns-in-Ok-Refused-clause-after_memory
-returns-in-Ok-Refused-clause-after_memory g c = λ e.
-    let answer = rw c.in-Ok-Refused.field-0-is at c.in-Ok-Refused.ensures.answer in
-    cut_refusal (map string_bytes c.args.words.now) c.in-Some.command answer.0 (string_bytes c.in-Ok-Refused.line) c.as_bytes-in-Ok-Refused.result.now memory_line
-    (outside (g.F.Shelf.files c.args.shelf.now) (g.F.Shelf.files c.work.new.shelf) (g.K.Sink.written c.args.out.now) (g.K.Sink.written c.finish-in-Ok-Refused.new.out))
-    c.in-Some.ensures answer.1.0 answer.1.1 c.as_bytes-in-Ok-Refused.ensures.value (c.finish-in-Ok-Refused.ensures.after_memory e)
+pub returns-in-Err-Failed-clause-fault : goal.returns-in-Err-Failed-clause-fault
+returns-in-Err-Failed-clause-fault g c = λ e.
+    synth_fault (map string_bytes c.args.words.now) (synth_view c.in-Some-Synth.command) (g.F.Shelf.files c.args.shelf.now) (g.F.Shelf.faults c.args.shelf.now) (g.F.Shelf.faults c.work_synth.new.shelf) (g.K.Sink.faults c.args.out.now) (g.K.Sink.faults c.stop_for_fault.new.out)
+    (sym (rw c.in-Some-Synth.field-0-is at c.in-Some-Synth.ensures.value)) (c.in-Err-Failed.ensures.failed (cc))
 
 pub returns-in-Err-Failed-clause-after_fault : goal.returns-in-Err-Failed-clause-after_fault
-returns-in-Err-Failed-clause-after_fault g c = λ e. run.stopped c.in-Some.command c.in-Some.ensures c.in-Err-Failed.ensures.answer c.stop_for_fault.ensures.line
+returns-in-Err-Failed-clause-after_fault g c = λ e. run.stopped (synth_view c.in-Some-Synth.command) (sym (rw c.in-Some-Synth.field-0-is at c.in-Some-Synth.ensures.value)) c.in-Err-Failed.ensures.stopped c.stop_for_fault.ensures.line
 
 pub returns-in-Err-Memory-clause-after_memory : goal.returns-in-Err-Memory-clause-after_memory
-returns-in-Err-Memory-clause-after_memory g c = λ e. run.stopped c.in-Some.command c.in-Some.ensures c.in-Err-Memory.ensures.answer c.stop_for_memory.ensures.line
+returns-in-Err-Memory-clause-after_memory g c = λ e. run.stopped (synth_view c.in-Some-Synth.command) (sym (rw c.in-Some-Synth.field-0-is at c.in-Some-Synth.ensures.value)) c.in-Err-Memory.ensures.stopped c.stop_for_memory.ensures.line
+
+pub returns-in-Ok-work_cosim-clause-fault : goal.returns-in-Ok-work_cosim-clause-fault
+returns-in-Ok-work_cosim-clause-fault g c = λ e. inr (inl (c.finish-in-Ok-work_cosim.ensures.fault e))
+
+pub returns-in-Ok-work_cosim-clause-after_fault : goal.returns-in-Ok-work_cosim-clause-after_fault
+returns-in-Ok-work_cosim-clause-after_fault g c = λ e.
+    verdict_cut (map string_bytes c.args.words.now) c.as_bytes-in-Ok-work_cosim.result.now fault_line
+    (outside (g.F.Shelf.files c.args.shelf.now) (g.F.Shelf.files c.work_cosim.new.shelf) (g.K.Sink.written c.args.out.now) (g.K.Sink.written c.finish-in-Ok-work_cosim.new.out))
+    (inl (cosim_view c.in-Some-Cosim.command, sym (rw c.in-Some-Cosim.field-0-is at c.in-Some-Cosim.ensures.value))) c.in-Ok-work_cosim.ensures.files (c.finish-in-Ok-work_cosim.ensures.after_fault e)
+
+pub returns-in-Ok-work_cosim-clause-after_memory : goal.returns-in-Ok-work_cosim-clause-after_memory
+returns-in-Ok-work_cosim-clause-after_memory g c = λ e.
+    verdict_cut (map string_bytes c.args.words.now) c.as_bytes-in-Ok-work_cosim.result.now memory_line
+    (outside (g.F.Shelf.files c.args.shelf.now) (g.F.Shelf.files c.work_cosim.new.shelf) (g.K.Sink.written c.args.out.now) (g.K.Sink.written c.finish-in-Ok-work_cosim.new.out))
+    (inl (cosim_view c.in-Some-Cosim.command, sym (rw c.in-Some-Cosim.field-0-is at c.in-Some-Cosim.ensures.value))) c.in-Ok-work_cosim.ensures.files (c.finish-in-Ok-work_cosim.ensures.after_memory e)
+
+pub returns-in-Err-Failed-work_cosim-clause-fault : goal.returns-in-Err-Failed-work_cosim-clause-fault
+returns-in-Err-Failed-work_cosim-clause-fault g c = λ e.
+    cosim_fault (map string_bytes c.args.words.now) (cosim_view c.in-Some-Cosim.command) (g.F.Shelf.files c.args.shelf.now) (g.F.Shelf.faults c.args.shelf.now) (g.F.Shelf.faults c.work_cosim.new.shelf) (g.K.Sink.faults c.args.out.now) (g.K.Sink.faults c.stop_for_fault-in-Err-Failed-work_cosim.new.out)
+    (sym (rw c.in-Some-Cosim.field-0-is at c.in-Some-Cosim.ensures.value)) (c.in-Err-Failed-work_cosim.ensures.failed (cc))
+
+pub returns-in-Err-Failed-work_cosim-clause-after_fault : goal.returns-in-Err-Failed-work_cosim-clause-after_fault
+returns-in-Err-Failed-work_cosim-clause-after_fault g c = λ e.
+    verdict_cut_early (map string_bytes c.args.words.now) fault_line
+    (outside (g.F.Shelf.files c.args.shelf.now) (g.F.Shelf.files c.work_cosim.new.shelf) (g.K.Sink.written c.args.out.now) (g.K.Sink.written c.stop_for_fault-in-Err-Failed-work_cosim.new.out))
+    (inl (cosim_view c.in-Some-Cosim.command, sym (rw c.in-Some-Cosim.field-0-is at c.in-Some-Cosim.ensures.value))) c.in-Err-Failed-work_cosim.ensures.files c.stop_for_fault-in-Err-Failed-work_cosim.ensures.line
+
+pub returns-in-Err-Memory-work_cosim-clause-after_memory : goal.returns-in-Err-Memory-work_cosim-clause-after_memory
+returns-in-Err-Memory-work_cosim-clause-after_memory g c = λ e.
+    verdict_cut_early (map string_bytes c.args.words.now) memory_line
+    (outside (g.F.Shelf.files c.args.shelf.now) (g.F.Shelf.files c.work_cosim.new.shelf) (g.K.Sink.written c.args.out.now) (g.K.Sink.written c.stop_for_memory-in-Err-Memory-work_cosim.new.out))
+    (inl (cosim_view c.in-Some-Cosim.command, sym (rw c.in-Some-Cosim.field-0-is at c.in-Some-Cosim.ensures.value))) c.in-Err-Memory-work_cosim.ensures.files c.stop_for_memory-in-Err-Memory-work_cosim.ensures.line
+
+pub returns-in-Ok-work_soak-clause-after_fault : goal.returns-in-Ok-work_soak-clause-after_fault
+returns-in-Ok-work_soak-clause-after_fault g c = λ e.
+    verdict_cut (map string_bytes c.args.words.now) c.as_bytes-in-Ok-work_soak.result.now fault_line
+    (outside (g.F.Shelf.files c.args.shelf.now) (g.F.Shelf.files c.args.shelf.now) (g.K.Sink.written c.args.out.now) (g.K.Sink.written c.finish-in-Ok-work_soak.new.out))
+    (inr (c.in-Some-Soak.number, sym (rw c.in-Some-Soak.field-0-is at c.in-Some-Soak.ensures.value))) refl (c.finish-in-Ok-work_soak.ensures.after_fault e)
+
+pub returns-in-Ok-work_soak-clause-after_memory : goal.returns-in-Ok-work_soak-clause-after_memory
+returns-in-Ok-work_soak-clause-after_memory g c = λ e.
+    verdict_cut (map string_bytes c.args.words.now) c.as_bytes-in-Ok-work_soak.result.now memory_line
+    (outside (g.F.Shelf.files c.args.shelf.now) (g.F.Shelf.files c.args.shelf.now) (g.K.Sink.written c.args.out.now) (g.K.Sink.written c.finish-in-Ok-work_soak.new.out))
+    (inr (c.in-Some-Soak.number, sym (rw c.in-Some-Soak.field-0-is at c.in-Some-Soak.ensures.value))) refl (c.finish-in-Ok-work_soak.ensures.after_memory e)
+
+pub returns-in-Err-clause-after_memory : goal.returns-in-Err-clause-after_memory
+returns-in-Err-clause-after_memory g c = λ e.
+    verdict_cut_early (map string_bytes c.args.words.now) memory_line
+    (outside (g.F.Shelf.files c.args.shelf.now) (g.F.Shelf.files c.args.shelf.now) (g.K.Sink.written c.args.out.now) (g.K.Sink.written c.stop_for_memory-in-Err.new.out))
+    (inr (c.in-Some-Soak.number, sym (rw c.in-Some-Soak.field-0-is at c.in-Some-Soak.ensures.value))) refl c.stop_for_memory-in-Err.ensures.line

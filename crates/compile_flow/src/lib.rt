@@ -1,0 +1,9 @@
+//! From a program without faults to its circuit and its report.
+#![tactic(auto)]
+
+pub mod compile;
+mod costs;
+mod frame;
+mod initial;
+mod resources;
+mod timing;

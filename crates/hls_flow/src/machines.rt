@@ -1,0 +1,92 @@
+//! The machines that run a compiled program: operation by operation, and cycle by cycle.
+use c_meaning::outcome::Final;
+use clock_ir::timed::Timed;
+use clock_machine::machine::ClockMachine;
+use hls_base::inputs::Inputs;
+use hls_base::number::ArrayId;
+use hls_base::refusal::impossible;
+use hls_base::words::Words;
+use ir_core::cfg::Cfg;
+use ir_core::stamp::{Stamp, Untimed};
+use machine_laws::machine::{Halt, Machine};
+use seq_machine::machine::SeqMachine;
+use std::alloc::{AllocError, Global};
+
+/// Whether a machine has these elements in an array.
+fn has_words<S: Stamp, M: Machine<S>>(machine: &M, number: u32, words: &[u64]) -> bool {
+    let mut index: u32 = 0;
+    for word in words {
+        if machine.element(ArrayId(number), index) != *word {
+            return false;
+        }
+        index = index.saturating_add(1);
+    }
+    true
+}
+
+/// Whether a machine ended as the run in C did.
+fn ended_so<S: Stamp, M: Machine<S>>(machine: &M, ended: &Final) -> bool {
+    if machine.ret() != ended.ret {
+        return false;
+    }
+    let arrays: &[Words] = ended.arrays.items();
+    let mut number: u32 = 0;
+    for words in arrays {
+        if !has_words(machine, number, words.items()) {
+            return false;
+        }
+        number = number.saturating_add(1);
+    }
+    true
+}
+
+/// Runs the program operation by operation to its end, which is that of the run in C.
+fn run_sequential(
+    alloc: Global,
+    cfg: &Cfg<Untimed>,
+    inputs: &Inputs,
+    ended: &Final,
+) -> Result<(), AllocError> {
+    let mut machine = SeqMachine::new(alloc, cfg, inputs)?;
+    if machine.run(u64::MAX) == Halt::Ended && ended_so(&machine, ended) {
+        Ok(())
+    } else {
+        Err(impossible())
+    }
+}
+
+/// The number of steps to the end, of so many at most.
+fn steps_to_end<S: Stamp, M: Machine<S>>(machine: &mut M, most: u64) -> Option<u64> {
+    for k in 0..most {
+        if machine.step() == Halt::Ended {
+            return Some(k + 1);
+        }
+    }
+    None
+}
+
+/// Runs the program cycle by cycle to its end, which is that of the run in C, and counts the cycles.
+fn run_clocked(
+    alloc: Global,
+    cfg: &Cfg<Timed>,
+    inputs: &Inputs,
+    ended: &Final,
+) -> Result<u64, AllocError> {
+    let mut machine = ClockMachine::new(alloc, cfg, inputs)?;
+    match steps_to_end(&mut machine, u64::MAX) {
+        Some(steps) if ended_so(&machine, ended) => Ok(steps),
+        _ => Err(impossible()),
+    }
+}
+
+/// Runs a compiled program in both machines, whose ends are that of the run in C, and answers the steps of the clocked one.
+pub fn clocked_steps(
+    alloc: Global,
+    untimed: &Cfg<Untimed>,
+    timed: &Cfg<Timed>,
+    inputs: &Inputs,
+    ended: &Final,
+) -> Result<u64, AllocError> {
+    run_sequential(alloc, untimed, inputs, ended)?;
+    run_clocked(alloc, timed, inputs, ended)
+}
