@@ -8,6 +8,7 @@ set -u
 root=$(cd "$(dirname "${BASH_SOURCE[0]}")/.." && pwd)
 folder=$1; shift
 rules=" $* "
+export HLS_PLAIN=1
 work=$(mktemp -d)
 trap 'rm -rf "$work"' EXIT
 same=0; differ=0; left=0

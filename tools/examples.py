@@ -17,6 +17,7 @@ import tempfile
 ROOT = pathlib.Path(__file__).resolve().parent.parent
 EXAMPLES = ROOT / "examples"
 HLS = os.environ.get("HLS", str(ROOT / "hls"))
+os.environ.setdefault("HLS_PLAIN", "1")
 
 
 def run(words, **more):

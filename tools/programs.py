@@ -16,6 +16,7 @@ import tempfile
 
 ROOT = pathlib.Path(__file__).resolve().parent.parent
 HLS = os.environ.get("HLS", str(ROOT / "hls"))
+os.environ.setdefault("HLS_PLAIN", "1")
 FREE = ("registers ", "edge ")
 
 
