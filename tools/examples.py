@@ -3,9 +3,10 @@
 
     tools/examples.py [--write]   with --write the lines that were found become the expected ones, where gcc agrees with them
 
-Icarus Verilog runs each module through its pins too. A tool that is missing is named and skipped.
+Icarus Verilog and Verilator run each module through its pins too. A tool that is missing is named and skipped.
 HLS names the program, else it is ./hls.
 """
+import concurrent.futures
 import os
 import pathlib
 import re
@@ -148,9 +149,26 @@ endmodule
 
 
 def by_icarus(example, work):
-    (work / "bench.v").write_text(bench(example))
     built = run(["iverilog", "-g2005", "-o", work / "bench", work / "bench.v", work / "m.v"])
     return run(["vvp", "-n", work / "bench"]).stdout.splitlines() if built.returncode == 0 else [built.stderr]
+
+
+def by_verilator(example, work):
+    """What Verilator, which makes a program of the module, shows for the bench of Icarus Verilog."""
+    quick = "OPT_GLOBAL=-O0 OPT_FAST=-O0 OPT_SLOW=-O0"
+    words = ["verilator", "--binary", "--timing", "-O0", "-Wno-fatal", "-Wno-lint", "-MAKEFLAGS", quick, "--top-module", "bench", "-Mdir", work / "verilated", "-o", "bench"]
+    built = run([*words, work / "bench.v", work / "m.v"])
+    if built.returncode != 0:
+        return [built.stderr]
+    return [line for line in run([work / "verilated" / "bench"]).stdout.splitlines() if "$finish" not in line]
+
+
+def can_verilate():
+    """Verilator 5 and later take a bench with times."""
+    if not shutil.which("verilator"):
+        return False
+    version = re.search(r"Verilator (\d+)", run(["verilator", "--version"]).stdout)
+    return bool(version) and int(version.group(1)) >= 5
 
 
 def check(example, work, write):
@@ -162,10 +180,11 @@ def check(example, work, write):
         wanted = by_gcc(example, work)
         if found[: len(wanted)] != wanted:
             return f"gcc says {wanted}, cosim {found}"
-    if shutil.which("iverilog"):
-        shown = by_icarus(example, work)
+    (work / "bench.v").write_text(bench(example))
+    for name, simulator in SIMULATORS.items():
+        shown = simulator(example, work)
         if shown != [line for line in found if line.split()[0] in ("c", "array", "verilog")]:
-            return f"Icarus Verilog says {shown}, cosim {found}"
+            return f"{name} says {shown}, cosim {found}"
     expected = example.source.with_suffix(".lines")
     if write:
         expected.write_text("\n".join(found) + "\n")
@@ -174,18 +193,29 @@ def check(example, work, write):
     return None
 
 
+def check_one(source, write):
+    with tempfile.TemporaryDirectory() as work:
+        return check(Example(source), pathlib.Path(work), write)
+
+
+SIMULATORS = {}
+
+
 def main(words):
-    for tool in ("gcc", "iverilog"):
-        if not shutil.which(tool):
-            print(f"examples: {tool} is not there, its comparison is skipped")
-    wrong = 0
-    for source in sorted(EXAMPLES.glob("*.c")):
-        with tempfile.TemporaryDirectory() as work:
-            difference = check(Example(source), pathlib.Path(work), "--write" in words)
-        if difference:
-            wrong += 1
-            print(f"{source.stem}: {difference}")
-    print(f"examples: {len(list(EXAMPLES.glob('*.c'))) - wrong} as wanted, {wrong} not")
+    if shutil.which("iverilog"):
+        SIMULATORS["Icarus Verilog"] = by_icarus
+    if can_verilate():
+        SIMULATORS["Verilator"] = by_verilator
+    for name, is_there in (("gcc", shutil.which("gcc")), ("Icarus Verilog", "Icarus Verilog" in SIMULATORS), ("Verilator 5", "Verilator" in SIMULATORS)):
+        if not is_there:
+            print(f"examples: {name} is not there, its comparison is skipped")
+    sources, wrong = sorted(EXAMPLES.glob("*.c")), 0
+    with concurrent.futures.ThreadPoolExecutor(os.cpu_count()) as pool:
+        for source, difference in zip(sources, pool.map(lambda one: check_one(one, "--write" in words), sources)):
+            if difference:
+                wrong += 1
+                print(f"{source.stem}: {difference}")
+    print(f"examples: {len(sources) - wrong} as wanted, {wrong} not")
     sys.exit(1 if wrong else 0)
 
 
