@@ -10,7 +10,7 @@ use Rattle.c_token.specs.declared.token.TokenKind.TheVariants as k
 use Rattle.c_token.specs.Characters.{Opening, at_end, at_line_end, at_space, at_line_comment, at_block_comment, at_token, opening, is_letter, is_digit}
 use Rattle.c_token.specs.Spelling.{IsLineComment, IsBlockComment, IsWord, IsNumber, in_word, in_number, spelling, IsToken}
 use Rattle.c_token.specs.Constants.{IsConstant, type_of, radix_of}
-use Rattle.c_token.specs.SourceText.{Line, empty, hash, pragma_line, tokens, is_first, Standing, Piece, after, End, whole, refused, Found, ends, next, given, NumberFound, TokenFound, LongestToken, AtToken, At, Finds, Reads, tokens_of, start_of, Spells, FirstFault}
+use Rattle.c_token.specs.SourceText.{Line, empty, hash, pragma_line, tokens, is_first, Standing, Piece, after, End, whole, refused, Found, ends, next, given, NumberFound, TokenFound, LongestToken, AtToken, At, Finds, Reads, tokens_of, start_of, Spells, FirstFault, SpellsOnce}
 use Rattle.c_token.proofs.Fronts.{longest_unique, shortest_unique}
 use Rattle.c_token.proofs.Signs.{sign_no_letter, sign_no_digit, spelling_unique}
 
@@ -119,3 +119,10 @@ refused_once source r t (inl (l, e)) (inr (m, f)) = absurd (omega arith)
 refused_once source r t (inr (l, e)) (inl (m, f)) = absurd (omega arith)
 refused_once source r t (inr (l, (ps, a))) (inr (m, (qs, b))) =
     let same : refused r ≡ refused t = (reads_unique (start_of source) ps qs (refused r) (refused t) a b).1 in cc
+
+pub spelled_once : (source : List ℕ) → SpellsOnce source
+spelled_once source = record {
+  one_list = λ tokens others a b. sym (spells_once source tokens others a b);
+  one_fault = λ r q a b. sym (refused_once source r q a b);
+  never_both = λ tokens r a b. spelled_or_refused source tokens r a b;
+}

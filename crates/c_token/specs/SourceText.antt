@@ -174,3 +174,11 @@ abbrev pub FirstFault : List ℕ → Refusal → Type 0
 FirstFault source r =
     ((source_limit < length source) × (r ≡ record { rule = 30; place = place_after text_start (take source_limit source) }))
     ⊎ ((length source ≤ source_limit) × ((pieces : List Piece) × Reads (start_of source) pieces (refused r)))
+
+-- ---- what holds of these relations
+
+-- A source is the text of at most one list of tokens, or has at most one first fault, and never both.
+pub record SpellsOnce (source : List ℕ) : Type 0 where
+  pub one_list : (tokens others : List Token) → Spells source tokens → Spells source others → others ≡ tokens
+  pub one_fault : (r q : Refusal) → FirstFault source r → FirstFault source q → q ≡ r
+  pub never_both : (tokens : List Token) (r : Refusal) → Spells source tokens → ¬ FirstFault source r

@@ -145,7 +145,7 @@ not_reached : constant_value (tree.binary b.LogAnd (int_number 0) (tree.binary b
 not_reached = refl
 
 -- `1 / 0`
-undefined_quotient : constant_value (tree.binary b.Div (int_number 1) (int_number 0) at) ≡ undefined_constant
+undefined_quotient : constant_value (tree.binary b.Div (int_number 1) (int_number 0) at) ≡ undefined_constant ub.DivideByZero
 undefined_quotient = refl
 
 -- `0 && n`

@@ -1,5 +1,6 @@
 -- Constant expressions: C11 6.6. They are numbers, unary and binary operators, `?:` and casts.
 use Rattle.std.specs.Prelude.{Bool, true, false, ◌&&◌, ℤ, pos, if◌then◌else◌}
+use Rattle.hls_base.specs.declared.refusal.UbRule.{UbRule}
 use Rattle.c_token.specs.declared.ctype.CType.{CType}
 use Rattle.c_tree.specs.declared.operator.Binary.{Binary}
 use Rattle.c_tree.specs.declared.operator.Binary.TheVariants as b
@@ -52,15 +53,15 @@ constant_number (tree.choice test left right at colon) =
 constant_number (tree.cast to arg at) = then_compute (constant_number arg) (λ n. defined (convert to n))
 constant_number _ = defined (pos 0)
 
--- A tree is a constant of a type and number; or it has the form, and its value is undefined; or it has not the form.
+-- A tree is a constant of a type and number; or it has the form, and its value is undefined by this rule; or it has not the form.
 pub data ConstantValue : Type 0 where
   constant : (kind : CType) (number : ℤ) → ConstantValue
-  undefined_constant : ConstantValue
+  undefined_constant : (rule : UbRule) → ConstantValue
   not_constant : ConstantValue
 
 abbrev pub constant_of : CType → Computed → ConstantValue
 constant_of kind (defined n) = constant kind n
-constant_of kind (undefined rule) = undefined_constant
+constant_of kind (undefined rule) = undefined_constant rule
 
 abbrev pub constant_value : Tree → ConstantValue
 constant_value t = if is_constant t then constant_of (constant_kind t) (constant_number t) else not_constant

@@ -34,5 +34,5 @@ comparison _ x y = false
 -- what the code's answer is as a constant
 abbrev pub value_of : Constant → ConstantValue
 value_of (k.Number kind number) = constant kind number
-value_of (k.Undefined rule) = undefined_constant
+value_of (k.Undefined rule) = undefined_constant rule
 value_of k.Other = not_constant

@@ -7,5 +7,3 @@ pub mod constant;
 pub mod convert;
 pub mod kind;
 pub mod operate;
-#[cfg(test)]
-mod tests;

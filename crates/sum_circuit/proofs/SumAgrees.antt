@@ -7,7 +7,7 @@ use Rattle.std.proofs.lemmas.List.Elements.{All-head, All-tail}
 use Rattle.hls_base.specs.FileScope.{FileScope}
 use Rattle.rtl_core.specs.Netlist.{Netlist}
 use Rattle.rtl_core.specs.ClockStep.{State, Fit, fit_none, fit_one, IsState, ArePins, AreMemories, no_memory, stepped, outputs}
-use Rattle.rtl_core.specs.Interface.{Interface, input_pins, output_pins, outer, reset_of, arguments_of}
+use Rattle.rtl_core.specs.Interface.{Interface, reset_of, arguments_of}
 use Rattle.rtl_core.specs.Box.{Answer, Answers, Ended, Phase, Init, Idle, Busy, Done, Forever, Broken, Box, BoxStep, Waits, entered, served}
 use Rattle.rtl_core.specs.Agreement.{Agrees, Follows, Shows, after_reset}
 use Rattle.sum_program.specs.declared.program.Operand.{Operand}
@@ -180,8 +180,7 @@ module _ (s : Sum) (file_scope : FileScope) (answers : Answers) (asks : AnswersW
   pub sum_agrees_with : Agrees (sum_netlist s) sum_interface 0 file_scope answers
   unfolding digits
   sum_agrees_with = record {
-    inputs = refl;
-    outputs = refl;
+    pins = record { inputs = refl; outputs = refl };
     arrays = tt;
     follows = λ power_up first rest state pins high low.
         follows rest _ _ (after_first power_up.regs power_up.mems first state.regs state.mems (shape_of s.name s.left s.right first pins) high) low;
