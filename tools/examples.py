@@ -219,4 +219,5 @@ def main(words):
     sys.exit(1 if wrong else 0)
 
 
-main(sys.argv[1:])
+if __name__ == "__main__":
+    main(sys.argv[1:])

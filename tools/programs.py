@@ -2,10 +2,11 @@
 """Runs the built compiler over programs with known answers, and prints what differs.
 
     tools/programs.py FOLDER [NAME..]   each NAME.c with NAME.run (its run file), NAME.opts (the options of `synth`),
-                                        NAME.report and NAME.lines
+                                        NAME.report and NAME.lines, or NAME.cycles and NAME.loops
 
 The report has no `registers` and `edge` lines, which are not determined; the lines are those of `cosim` up to `clock`,
-behind which `verilog`, with the formula's number, and `agree` are expected. HLS names the program, else it is ./hls.
+behind which `verilog`, with the formula's number, and `agree` are expected. NAME.cycles has the cycles of the run and those with
+`--plain`, and NAME.loops the interval and the exit of each overlapped loop; nothing else is compared then. HLS names the program, else it is ./hls.
 """
 import concurrent.futures
 import os
@@ -47,9 +48,34 @@ def first_difference(kind, wanted, found):
     return None
 
 
+def fields(text):
+    return dict(line.split(" ", 1) for line in text.splitlines() if " " in line)
+
+
+def compare_cycles(case, options, top):
+    """The cycles of the formula, the timed program and the module, overlapped and plain, and the loops of the report."""
+    wanted = fields(case.with_suffix(".cycles").read_text())
+    for more, cycles in ((), wanted["cycles"]), (("--plain",), wanted["plain"]):
+        with tempfile.TemporaryDirectory() as work:
+            module, report = pathlib.Path(work) / "m.v", pathlib.Path(work) / "m.rep"
+            said, status = run(["synth", case, module, report, *options, *more])
+            if status != 0:
+                return f"synth: status {status}, {said.strip()!r}"
+            loops = [line.split(" ", 3)[3] for line in report.read_text().splitlines() if line.startswith("loop ")]
+            if not more and loops != case.with_suffix(".loops").read_text().splitlines():
+                return f"loops: found {loops}"
+            said, status = run(["cosim", case, module, report, case.with_suffix(".run"), "--top", top])
+            found = fields(said)
+            if status != 0 or [found.get(name) for name in ("formula", "clock", "verilog")] != 3 * [cycles]:
+                return f"cosim {' '.join(more)}: wanted {cycles} cycles, found status {status}, {said.splitlines()}"
+    return None
+
+
 def compare(case):
     options = case.with_suffix(".opts").read_text().split()
     top = options[options.index("--top") + 1]
+    if case.with_suffix(".cycles").exists():
+        return compare_cycles(case, options, top)
     with tempfile.TemporaryDirectory() as work:
         module, report = pathlib.Path(work) / "m.v", pathlib.Path(work) / "m.rep"
         said, status = run(["synth", case, module, report, *options])
@@ -65,7 +91,7 @@ def main(words):
     if not words:
         sys.exit(__doc__)
     folder = pathlib.Path(words[0])
-    cases = [folder / f"{name}.c" for name in words[1:]] or [c for c in sorted(folder.glob("*.c")) if c.with_suffix(".lines").exists()]
+    cases = [folder / f"{name}.c" for name in words[1:]] or [c for c in sorted(folder.glob("*.c")) if c.with_suffix(".lines").exists() or c.with_suffix(".cycles").exists()]
     wrong = 0
     with concurrent.futures.ThreadPoolExecutor(os.cpu_count()) as pool:
         for case, difference in zip(cases, pool.map(compare, cases)):

@@ -1,0 +1,1 @@
+int g(int x){while(x>2) x--; return x;} int f(int a,int b){return a&&g(b);}

@@ -1,0 +1,1 @@
+_Bool f(int a,int b){return a<b;}

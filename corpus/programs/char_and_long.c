@@ -1,0 +1,1 @@
+unsigned long f(unsigned char a,unsigned long b){return a+b;}

@@ -1,0 +1,1 @@
+int f(int a[4],unsigned char i){return a[i];}

@@ -1,0 +1,1 @@
+int f(int n){int s=0,i=0; for(;i<n;){ i++; if(i&1) continue; s+=i;} return s;}

@@ -1,0 +1,1 @@
+int f(int n){return n; for(int i=0;i<n;i++) n--;}

@@ -1,0 +1,1 @@
+int f(int a[8]){int s=0;for(int i=0;i<8;i++){s=s+a[i];} return s;}

@@ -1,0 +1,1 @@
+int f(int a[8]){int s=0;for(int i=0;i<8;i++){int t=a[i]*3; s=s^1;} return s;}

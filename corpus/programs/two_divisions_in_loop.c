@@ -1,0 +1,1 @@
+int f(int a[4]){int s=0; for(int i=0;i<4;i++) s=s+a[i]/3+a[i]%2; return s;}

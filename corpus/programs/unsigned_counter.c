@@ -1,0 +1,1 @@
+void f(int a[8]){for(unsigned i=0;i<8;i++) a[i]=a[i]+1;}

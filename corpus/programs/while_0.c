@@ -1,0 +1,1 @@
+int f(int n){while(0) n++; return n;}
