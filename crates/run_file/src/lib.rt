@@ -4,5 +4,6 @@
 mod decimal;
 pub mod fault;
 mod line;
-mod parameter;
 pub mod read;
+pub mod row;
+mod words;

@@ -1,56 +1,56 @@
-//! The words of a line.
-use std::alloc::{AllocError, Global};
+//! The lines of a text.
+ghost use Rattle.std.specs.Prelude.{◌≡◌, ◌∷◌, [], ◌<◌, ◌≤◌, ◌==◌, length, IfSome, IfNone};
+ghost use Rattle.std.specs.List.{position_or_len};
+ghost use Rattle.std.specs.Str.Lines.{lines, strip_carriage_return};
+ghost use Rattle.run_file.specs.Rows.{is_blank};
 
 /// The line without a CR at its end.
-pub fn without_return(line: &[u8]) -> &[u8] {
-    match line.split_last() {
-        Some((b'\r', rest)) => rest,
-        _ => line,
+fn without_return(line: &[u8]) -> &[u8]
+    ensures { result.now ≡ strip_carriage_return line.now }
+{
+    if line.is_empty() || line[line.len() - 1] != b'\r' {
+        line
+    } else {
+        &line[..line.len() - 1]
+    }
+}
+
+/// The number of bytes before the first LF, or of all where there is none.
+fn line_length(bytes: &[u8]) -> usize
+    ensures value { result ≡ position_or_len (λ b. b == 10) bytes.now }
+    ensures inside { result ≤ length bytes.now }
+{
+    for i in 0..bytes.len() {
+        if bytes[i] == b'\n' {
+            return i;
+        }
+    }
+    bytes.len()
+}
+
+/// The first line of a text, and the text behind its end.
+pub fn first_line(bytes: &[u8]) -> Option<(&[u8], &[u8])>
+    ensures some { IfSome result (λ p. lines bytes.now ≡ p.0.now ∷ lines p.1.now) }
+    ensures shorter { IfSome result (λ p. length p.1.now < length bytes.now) }
+    ensures none { IfNone result (lines bytes.now ≡ []) }
+{
+    if bytes.is_empty() {
+        return None;
+    }
+    let end = line_length(bytes);
+    if end < bytes.len() {
+        Some((without_return(&bytes[..end]), &bytes[end + 1..]))
+    } else {
+        Some((bytes, &bytes[end..]))
     }
 }
 
 /// Whether a line gives nothing: it is empty, or begins with `#`.
-pub fn is_blank(line: &[u8]) -> bool {
+pub fn is_blank(line: &[u8]) -> bool
+    ensures { result ≡ is_blank line.now }
+{
     match line.first() {
         Some(byte) => *byte == b'#',
         None => true,
     }
-}
-
-/// The bytes from one index on and before another, none where there are none.
-pub fn between(bytes: &[u8], start: usize, end: usize) -> &[u8] {
-    bytes.get(start..end).unwrap_or(&[])
-}
-
-/// The parts between spaces. Two spaces side by side have an empty part between them, and so have a space and the end.
-fn parts<'a>(alloc: Global, line: &'a [u8]) -> Result<Vec<&'a [u8]>, AllocError> {
-    let mut parts = Vec::new(alloc);
-    let mut start = 0;
-    for i in 0..line.len() {
-        if line[i] == b' ' {
-            parts.push(between(line, start, i))?;
-            start = i + 1;
-        }
-    }
-    parts.push(between(line, start, line.len()))?;
-    Ok(parts)
-}
-
-/// Whether a space stands before the first word or behind the last.
-fn has_loose_space(line: &[u8]) -> bool {
-    line.first().is_some_and(|byte| *byte == b' ') || line.last().is_some_and(|byte| *byte == b' ')
-}
-
-/// The words of a line, with one or more spaces between them. None where a space stands before or behind them.
-pub fn words<'a>(alloc: Global, line: &'a [u8]) -> Result<Option<Vec<&'a [u8]>>, AllocError> {
-    if has_loose_space(line) {
-        return Ok(None);
-    }
-    let mut words = Vec::new(alloc);
-    for part in parts(alloc, line)? {
-        if !part.is_empty() {
-            words.push(part)?;
-        }
-    }
-    Ok(Some(words))
 }

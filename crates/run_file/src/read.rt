@@ -1,56 +1,134 @@
+//! What a run file gives to the parameters of a function.
+ghost use Rattle.std.specs.Prelude.{◌≡◌, ◌≤◌, ◌<◌, map, length, replicate, slice_index_or, None, IsTrue, IfOk, IfErr, OnOk};
+ghost use Rattle.c_tree.specs.View.{param_of};
+ghost use Rattle.c_meaning.specs.Run.{is_array_parameter};
+ghost use Rattle.c_meaning.specs.FittingInputs.{inputs_fit};
+ghost use Rattle.run_file.specs.Rows.{IsInside};
+ghost use Rattle.run_file.specs.RunFile.{is_taken, behind_row, inputs_from, inputs, reading_of, rows_of, rows_reading, IsCause, AreTaken, Reading, with_first, with_front};
+
 use crate::fault::RunFault;
-use crate::line::{between, is_blank, without_return};
-use crate::parameter::{Parameter, inputs_of, parameters, take_line};
+use crate::line::first_line;
+use crate::row::{Row, row_of};
 use c_tree::function::Param;
 use hls_base::inputs::Inputs;
-use std::alloc::Global;
+use hls_base::words::{Arrays, Words};
+use std::alloc::{AllocError, Global};
 
 /// The most bytes that a run file may have.
 const LARGEST_FILE: usize = 16_777_216;
 
-/// Takes the line of this number.
-fn take(
-    alloc: Global,
-    parameters: &mut [Parameter],
-    line: &[u8],
-    number: u32,
-) -> Result<(), RunFault> {
-    if is_blank(line) || take_line(alloc, parameters, line)? {
-        Ok(())
-    } else {
-        Err(RunFault::Line(number))
-    }
+/// What each parameter was given by the lines, and how many lines there are.
+#[derive(Drop)]
+struct Taken {
+    given: Vec<Option<Words>>,
+    count: u32,
 }
 
-/// Takes all lines, and answers how many there are.
-fn take_lines(alloc: Global, parameters: &mut [Parameter], bytes: &[u8]) -> Result<u32, RunFault> {
-    let mut start = 0;
-    let mut count: u32 = 0;
-    for i in 0..bytes.len() {
-        if bytes[i] == b'\n' {
-            count = count.saturating_add(1);
-            let line = between(bytes, start, i);
-            take(alloc, parameters, without_return(line), count)?;
-            start = i + 1;
+/// Nothing for each of so many parameters.
+fn nothing_given(alloc: Global, count: usize) -> Result<Vec<Option<Words>>, AllocError>
+    ensures { IfOk result (λ v. v.items ≡ replicate count None) }
+{
+    let mut given = Vec::with_capacity(alloc, count)?;
+    for _ in 0..count {
+        given.push(None)?;
+    }
+    Ok(given)
+}
+
+/// Takes what a row gives. False where it is refused, and nothing changes.
+fn take_row(given: &mut Vec<Option<Words>>, row: Row) -> bool
+    requires inside { IsInside (length given.old.items) row }
+    ensures taken { result ≡ is_taken given.old.items row }
+    ensures given { given.new.items ≡ behind_row given.old.items row }
+{
+    match row {
+        Row::Nothing => true,
+        Row::Refused => false,
+        Row::Gives { parameter, words } => {
+            if given[parameter].is_some() {
+                false
+            } else {
+                given[parameter] = Some(words);
+                true
+            }
         }
     }
-    if start < bytes.len() {
-        count = count.saturating_add(1);
-        let line = between(bytes, start, bytes.len());
-        take(alloc, parameters, line, count)?;
-    }
-    Ok(count)
 }
 
-/// What the run file gives to these parameters. Where it does not give each of them exactly its numbers, the refused line is the first that is malformed, names no parameter, is doubled, or has a wrong number of values or one out of range; where a parameter is missing, it is the one behind the last.
-pub fn read(alloc: Global, params: &[Param], bytes: &[u8]) -> Result<Inputs, RunFault> {
+/// Takes all lines.
+fn taken_lines(alloc: Global, params: &[Param], bytes: &[u8]) -> Result<Taken, RunFault>
+    requires { length bytes.now ≤ 16777216 }
+    ensures taken { IfOk result (λ t. AreTaken (length params.now) (rows_of (map param_of params.now) bytes.now) t.given.items t.count) }
+    ensures refused { IfErr result (λ e. IsCause (rows_reading (map param_of params.now) (rows_of (map param_of params.now) bytes.now)) e) }
+{
+    let mut given = nothing_given(alloc, params.len())?;
+    let mut count: u32 = 0;
+    let mut rest = bytes;
+    while let Some((line, behind)) = first_line(rest) {
+        count += 1;
+        let row = row_of(alloc, params, line)?;
+        if !take_row(&mut given, row) {
+            return Err(RunFault::Line(count));
+        }
+        rest = behind;
+    }
+    Ok(Taken { given, count })
+}
+
+#[tactic(auto, using(crate::proofs::Taking::fronts))]
+/// Adds what is given to a parameter behind what others were given.
+fn add_words(
+    alloc: Global,
+    scalars: &mut Vec<u64>,
+    arrays: &mut Vec<Words>,
+    param: &Param,
+    words: &Words,
+) -> Result<(), AllocError>
+    ensures { OnOk result ((r : Reading) → with_front scalars.old.items arrays.old.items (with_first (is_array_parameter (param_of param.now)) words.now r) ≡ with_front scalars.new.items arrays.new.items r) }
+{
+    if param.object.lengths.is_empty() {
+        scalars.extend_from_slice(words.items())
+    } else {
+        arrays.push(words.copy(alloc)?)?;
+        Ok(())
+    }
+}
+
+/// What was given to all parameters, if this is the line behind the last.
+fn inputs_of(
+    alloc: Global,
+    params: &[Param],
+    given: &[Option<Words>],
+    line: u32,
+) -> Result<Inputs, RunFault>
+    requires { length given.now ≡ length params.now }
+    ensures inputs { IfOk result (λ i. inputs_from line (λ k. slice_index_or given.now k None) 0 (map param_of params.now) ≡ inputs i.scalars i.arrays) }
+    ensures refused { IfErr result (λ e. IsCause (inputs_from line (λ k. slice_index_or given.now k None) 0 (map param_of params.now)) e) }
+{
+    let mut scalars = Vec::new(alloc);
+    let mut arrays = Vec::new(alloc);
+    for k in 0..params.len() {
+        let param = &params[k];
+        let Some(words) = &given[k] else {
+            return Err(RunFault::Line(line));
+        };
+        add_words(alloc, &mut scalars, &mut arrays, param, words)?;
+    }
+    Ok(Inputs {
+        scalars: Words::new(scalars),
+        arrays: Arrays::new(arrays),
+    })
+}
+
+/// What the run file gives to these parameters.
+pub fn read(alloc: Global, params: &[Param], bytes: &[u8]) -> Result<Inputs, RunFault>
+    ensures inputs { IfOk result (λ i. reading_of (map param_of params.now) bytes.now ≡ inputs i.scalars i.arrays) }
+    ensures fit { IfOk result (λ i. IsTrue (inputs_fit (map param_of params.now) i.scalars i.arrays)) }
+    ensures refused { IfErr result (λ e. IsCause (reading_of (map param_of params.now) bytes.now) e) }
+{
     if bytes.len() > LARGEST_FILE {
         return Err(RunFault::Line(1));
     }
-    let mut parameters = parameters(alloc, params)?;
-    let count = take_lines(alloc, &mut parameters, bytes)?;
-    match inputs_of(alloc, parameters)? {
-        Some(inputs) => Ok(inputs),
-        None => Err(RunFault::Line(count.saturating_add(1))),
-    }
+    let taken = taken_lines(alloc, params, bytes)?;
+    inputs_of(alloc, params, &taken.given, taken.count + 1)
 }
