@@ -1,2 +1,4 @@
 mod Values
 mod Items
+mod Chains
+mod Parses
