@@ -1,2 +1,5 @@
 mod Values
 mod Items
+mod Chains
+mod Parses
+mod Examples

@@ -1,5 +1,5 @@
 -- Digits that follow never make a number smaller.
-use Rattle.std.proofs.Common.{◌≡◌, ℕ, zero, suc, ◌+◌, ◌-◌, ◌*◌, ◌^◌, ◌<◌, ◌≤◌, Bool, true, false, List, [], ◌∷◌, drop, length, get_or, Option, Some, None, refl, sym, subst, arith, ◌⊎◌, inl, inr}
+use Rattle.std.proofs.Common.{◌≡◌, ℕ, zero, suc, ◌+◌, ◌-◌, ◌*◌, ◌^◌, ◌<◌, ◌≤◌, Bool, true, false, List, [], ◌∷◌, drop, length, get_or, Option, None, arith, ◌⊎◌, inl, inr}
 use Rattle.std.specs.Prelude.{IfSome, if◌then◌else◌}
 use Rattle.command_words.specs.Words.{is_digit, value_behind}
 

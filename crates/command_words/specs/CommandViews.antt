@@ -1,5 +1,5 @@
 -- Commands as the definitions see them.
-use Rattle.std.specs.Prelude.{ℕ, ◌≤◌, ◌≢◌}
+use Rattle.std.specs.Prelude.{◌≤◌, ◌≢◌}
 use Rattle.command_words.specs.declared.command.Synth.{Synth}
 use Rattle.command_words.specs.declared.command.Cosim.{Cosim}
 use Rattle.command_words.specs.declared.command.Command.{Command}

@@ -1,5 +1,5 @@
 -- The commands: `synth SRC MOD REP`, `cosim SRC MOD REP RUN` and `soak NUMBER`, each with its options.
-use Rattle.std.specs.Prelude.{ℕ, ◌^◌, ◌-◌, ◌&&◌, ◌||◌, Bool, true, false, not, List, [], ◌∷◌, Option, Some, None, is_some, codes, if◌then◌else◌}
+use Rattle.std.specs.Prelude.{ℕ, ◌^◌, ◌-◌, ◌&&◌, ◌||◌, Bool, not, List, [], ◌∷◌, Option, None, is_some, codes, if◌then◌else◌}
 use Rattle.std.specs.Option.{option_and_then, option_map}
 use Rattle.std.specs.Str.{bytes_eq}
 use Rattle.command_words.specs.Words.{is_plain, number_in, number_or}
@@ -31,13 +31,13 @@ pub data Command : Type 0 where
   cosim : Cosim → Command
   soak : ℕ → Command
 
--- plain names, of which no two are one
-abbrev pub are_three_files : List ℕ → List ℕ → List ℕ → Bool
-are_three_files s m r = is_plain s && (is_plain m && (is_plain r && (not (bytes_eq s m) && (not (bytes_eq s r) && not (bytes_eq m r)))))
+-- no two of these names are one
+abbrev pub are_different : List ℕ → List ℕ → List ℕ → Bool
+are_different s m r = not (bytes_eq s m) && (not (bytes_eq s r) && not (bytes_eq m r))
 
--- a plain name that is none of these
-abbrev pub is_other_file : List ℕ → List ℕ → List ℕ → List ℕ → Bool
-is_other_file u s m r = is_plain u && (not (bytes_eq s u) && (not (bytes_eq m u) && not (bytes_eq r u)))
+-- this name is none of these
+abbrev pub is_other : List ℕ → List ℕ → List ℕ → List ℕ → Bool
+is_other u s m r = not (bytes_eq s u) && (not (bytes_eq m u) && not (bytes_eq r u))
 
 abbrev pub synth_numbers : Synth → Options → Option Synth
 synth_numbers s o =
@@ -60,22 +60,27 @@ cosim_with source module_file report run o =
     if is_some o.mul || (is_some o.div || (is_some o.ports || o.plain)) then None
     else option_and_then (λ top. option_map cosim (cosim_numbers (record { source = source; module_file = module_file; report = report; run = run; top = top; points = 1; cycles = 1 }) o)) o.top
 
+-- ---- words in the plain form
+
+abbrev pub are_plain : List ℕ → List ℕ → List ℕ → Bool
+are_plain s m r = is_plain s && (is_plain m && is_plain r)
+
 abbrev pub synth_of : List (List ℕ) → Option Command
-synth_of (s ∷ m ∷ r ∷ ws) = if are_three_files s m r then option_and_then (synth_with s m r) (options_of ws) else None
+synth_of (s ∷ m ∷ r ∷ ws) = if are_plain s m r && are_different s m r then option_and_then (synth_with s m r) (options_of ws) else None
 synth_of _ = None
 
 abbrev pub cosim_of : List (List ℕ) → Option Command
-cosim_of (s ∷ m ∷ r ∷ u ∷ ws) = if are_three_files s m r && is_other_file u s m r then option_and_then (cosim_with s m r u) (options_of ws) else None
+cosim_of (s ∷ m ∷ r ∷ u ∷ ws) = if are_plain s m r && (are_different s m r && (is_plain u && is_other u s m r)) then option_and_then (cosim_with s m r u) (options_of ws) else None
 cosim_of _ = None
 
 abbrev pub soak_of : List (List ℕ) → Option Command
 soak_of (n ∷ []) = option_map soak (number_in 0 (2 ^ 64 - 1) n)
 soak_of _ = None
 
--- the command that words are, if they are one
-abbrev pub command_of : List (List ℕ) → Option Command
-command_of [] = None
-command_of (name ∷ ws) =
+-- the command that words in the plain form are
+abbrev pub plain_command_of : List (List ℕ) → Option Command
+plain_command_of [] = None
+plain_command_of (name ∷ ws) =
     if bytes_eq name (codes "synth") then synth_of ws
     else (if bytes_eq name (codes "cosim") then cosim_of ws
     else (if bytes_eq name (codes "soak") then soak_of ws

@@ -1,14 +1,14 @@
-ghost use Rattle.std.specs.Prelude.{◌≡◌, ◌≤◌, map, ◌∷◌, IfSome};
+//! The commands of the program, with the files, the numbers and the options that each has.
+ghost use Rattle.std.specs.Prelude.{◌≡◌, ◌≤◌, IfSome};
 ghost use Rattle.std.specs.Option.{option_map};
-ghost use Rattle.std.specs.String.{string_bytes};
 ghost use Rattle.command_words.specs.Words.{number_or};
 ghost use Rattle.command_words.specs.OptionViews.{options_view};
 ghost use Rattle.command_words.specs.Commands as spec;
-ghost use Rattle.command_words.specs.CommandViews.{view, synth_view, cosim_view, HasRange, NamesThreeFiles, IsInRange};
+ghost use Rattle.command_words.specs.CommandViews.{synth_view, cosim_view, HasRange};
 
-use crate::number::{number_in, number_or};
-use crate::options::{Options, options_of};
-use crate::word::{is_plain, is_word};
+use crate::number::number_or;
+use crate::options::Options;
+use crate::word::is_word;
 
 /// The names of the three files of `synth`, that of the top function, and what is asked for.
 #[derive(Clone, Copy, Debug)]
@@ -68,23 +68,18 @@ fn limit(word: Option<&str>) -> Option<u64>
     number_or(1, GREATEST_LIMIT, LIMIT, word)
 }
 
-/// Whether these names are plain, and no two are one.
-fn are_three_files(source: &str, module_file: &str, report: &str) -> bool
-    ensures { result ≡ spec.are_three_files source.now module_file.now report.now }
+/// Whether no two of these names are one.
+pub(crate) fn are_different(source: &str, module_file: &str, report: &str) -> bool
+    ensures { result ≡ spec.are_different source.now module_file.now report.now }
 {
-    is_plain(source)
-        && (is_plain(module_file)
-            && (is_plain(report)
-                && (!is_word(source, module_file)
-                    && (!is_word(source, report) && !is_word(module_file, report)))))
+    !is_word(source, module_file) && (!is_word(source, report) && !is_word(module_file, report))
 }
 
-/// Whether this name is plain, and none of these three.
-fn is_other_file(run: &str, source: &str, module_file: &str, report: &str) -> bool
-    ensures { result ≡ spec.is_other_file run.now source.now module_file.now report.now }
+/// Whether this name is none of these three.
+pub(crate) fn is_other(run: &str, source: &str, module_file: &str, report: &str) -> bool
+    ensures { result ≡ spec.is_other run.now source.now module_file.now report.now }
 {
-    is_plain(run)
-        && (!is_word(source, run) && (!is_word(module_file, run) && !is_word(report, run)))
+    !is_word(source, run) && (!is_word(module_file, run) && !is_word(report, run))
 }
 
 /// The command with the numbers that the options give.
@@ -116,7 +111,7 @@ fn cosim_numbers<'a>(command: Cosim<'a>, options: &Options<'a>) -> Option<Cosim<
 }
 
 /// `synth` of these files with these options.
-fn synth_with<'a>(
+pub(crate) fn synth_with<'a>(
     source: &'a str,
     module_file: &'a str,
     report: &'a str,
@@ -144,7 +139,7 @@ fn synth_with<'a>(
 }
 
 /// `cosim` of these files with these options.
-fn cosim_with<'a>(
+pub(crate) fn cosim_with<'a>(
     source: &'a str,
     module_file: &'a str,
     report: &'a str,
@@ -167,74 +162,4 @@ fn cosim_with<'a>(
         cycles: 1,
     };
     cosim_numbers(command, options)
-}
-
-fn synth_of<'a>(words: &'a [String]) -> Option<Synth<'a>>
-    ensures value { option_map spec.synth (option_map synth_view result) ≡ spec.synth_of (map string_bytes words.now) }
-    ensures range { IfSome result (λ s. HasRange (synth_view s)) }
-    ensures names { IfSome result (λ s. NamesThreeFiles (synth_view s)) }
-{
-    if words.len() < 3 {
-        return None;
-    }
-    let source = words[0].as_str();
-    let module_file = words[1].as_str();
-    let report = words[2].as_str();
-    if !are_three_files(source, module_file, report) {
-        return None;
-    }
-    let options = options_of(&words[3..])?;
-    synth_with(source, module_file, report, &options)
-}
-
-fn cosim_of<'a>(words: &'a [String]) -> Option<Cosim<'a>>
-    ensures { option_map spec.cosim (option_map cosim_view result) ≡ spec.cosim_of (map string_bytes words.now) }
-{
-    if words.len() < 4 {
-        return None;
-    }
-    let source = words[0].as_str();
-    let module_file = words[1].as_str();
-    let report = words[2].as_str();
-    let run = words[3].as_str();
-    if !are_three_files(source, module_file, report)
-        || !is_other_file(run, source, module_file, report)
-    {
-        return None;
-    }
-    let options = options_of(&words[4..])?;
-    cosim_with(source, module_file, report, run, &options)
-}
-
-fn soak_of(words: &[String]) -> Option<u64>
-    ensures { option_map spec.soak result ≡ spec.soak_of (map string_bytes words.now) }
-{
-    if words.len() != 1 {
-        return None;
-    }
-    number_in(0, u64::MAX, words[0].as_str())
-}
-
-fn with_name<'a>(name: &str, words: &'a [String]) -> Option<Command<'a>>
-    ensures value { option_map view result ≡ spec.command_of (name.now ∷ map string_bytes words.now) }
-    ensures range { IfSome result IsInRange }
-{
-    if is_word(name, "synth") {
-        Some(Command::Synth(synth_of(words)?))
-    } else if is_word(name, "cosim") {
-        Some(Command::Cosim(cosim_of(words)?))
-    } else if is_word(name, "soak") {
-        Some(Command::Soak(soak_of(words)?))
-    } else {
-        None
-    }
-}
-
-/// The command that these words are. None where they are no command, or name one file twice.
-pub fn read_words<'a>(words: &'a [String]) -> Option<Command<'a>>
-    ensures value { option_map view result ≡ spec.command_of (map string_bytes words.now) }
-    ensures range { IfSome result IsInRange }
-{
-    let (name, rest) = words.split_first()?;
-    with_name(name.as_str(), rest)
 }

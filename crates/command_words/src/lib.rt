@@ -1,7 +1,11 @@
 //! Which words are a command of the program.
 #![tactic(auto)]
 
+mod clap_command;
+mod clap_matches;
 pub mod command;
 mod number;
 mod options;
+mod plain_form;
+pub mod reading;
 mod word;

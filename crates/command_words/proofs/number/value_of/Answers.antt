@@ -1,4 +1,4 @@
-use Rattle.std.proofs.Common.{◌≡◌, ℕ, ◌≤◌, ◌^◌, Option, subst, rules}
+use Rattle.std.proofs.Common.{ℕ, ◌≤◌, ◌^◌, Option, subst, rules}
 use Rattle.std.specs.Prelude.{IfSome}
 use Rattle.command_words.proofs.Values.{stops}
 use Rattle.command_words.proofs.number.value_of.Goals as goal

@@ -1,4 +1,4 @@
-use Rattle.std.proofs.Common.{rules, arith, ◌≡◌, ◌+◌, ◌<◌, Some, drop, map, length, sym, ap, ◌∙◌}
+use Rattle.std.proofs.Common.{rules, arith, ◌+◌, ◌<◌, Some, drop, map, length, sym, ap, ◌∙◌}
 use Rattle.std.specs.String.{string_bytes}
 use Rattle.command_words.specs.OptionViews.{reading_behind}
 use Rattle.command_words.proofs.Items.{behind}
