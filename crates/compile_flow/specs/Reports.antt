@@ -1,29 +1,56 @@
--- What a report says of the circuit that was built.
-use Rattle.std.specs.Prelude.{◌≡◌, ℕ, ◌^◌, map, length}
+-- What a report says of a program with times and of its circuit.
+use Rattle.std.specs.Prelude.{◌≡◌, ℕ, ◌≤◌, max, true, List, [], map, length}
+use Rattle.std.specs.List.{All, Contains}
+use Rattle.std.specs.declared.cmp.Ordering.{Ordering}
+use Rattle.hls_base.specs.declared.point.Point.{Point}
 use Rattle.hls_base.specs.declared.settings.Settings.{Settings}
-use Rattle.rtl_core.specs.Netlist.{Netlist, Memory}
-use Rattle.rtl_core.specs.Resources.{multipliers, dividers}
-use Rattle.cycle_report.specs.declared.report.MemoryRow.{MemoryRow}
-use Rattle.cycle_report.specs.PlainReport.{PlainUnits, PlainReport}
+use Rattle.hls_base.specs.declared.settings.Units.{Units}
+use Rattle.hls_base.specs.Tallies.{count_in}
+use Rattle.ir_core.specs.declared.cfg.Cfg.{Cfg}
+use Rattle.ir_core.specs.declared.cfg.Node.{Node}
+use Rattle.ir_core.specs.declared.stamp.Untimed.{Untimed}
+use Rattle.ir_lower.specs.Frames.{frame_view}
+use Rattle.clock_ir.specs.declared.timed.Timed.{Timed}
+use Rattle.unit_binding.specs.declared.bind.Request.{Request}
+use Rattle.rtl_core.specs.Netlist.{Netlist}
+use Rattle.cycle_report.specs.FormulaValue.{cycles}
+use Rattle.cycle_report.specs.PlainReport.{PlainLoop, PlainReport}
+use Rattle.report_rows.specs.Costs.{AreRowsOf, node_point}
+use Rattle.report_rows.specs.Initial.{initial_cycles, AreAddressed}
+use Rattle.report_rows.specs.Resources.{shape_of, row_shape, declared_names, built_units}
+use Rattle.program_times.specs.Timing.{AreTimedAs}
 
--- the bits of a memory's words, how many there are, and how many ports it has
-pub record Shape : Type 0 where
-  pub bits : ℕ
-  pub depth : ℕ
-  pub ports : ℕ
+-- the units that the settings allow
+abbrev pub allowed_units : Settings → Units
+allowed_units settings = record { mul = settings.mul; div = settings.div; ports = settings.ports }
 
-abbrev pub shape_of : Memory → Shape
-shape_of m = record { bits = m.bits; depth = 2 ^ m.depth_log; ports = length m.ports }
+-- The program with times, and the rows of its loops. Requests for units are served in the order that is given.
+pub record IsTimed (order : Request → Request → Ordering) (units : Units) (untimed : Cfg Untimed) (timed : Cfg Timed) (rows : List PlainLoop) : Type 0 where
+  pub frame : frame_view timed.frame ≡ frame_view untimed.frame
+  pub first : timed.first ≡ untimed.first
+  pub nodes : AreTimedAs order untimed.frame.memories.items units untimed.nodes.items timed.nodes.items rows
 
-abbrev pub row_shape : MemoryRow → Shape
-row_shape m = record { bits = m.bits; depth = m.depth; ports = m.ports }
+-- a run that comes to the point of a node takes a cycle at least, beside the first
+abbrev pub EachNodeCounts : List (Node Timed) → PlainReport → Type 0
+EachNodeCounts nodes report =
+    (node : Node Timed) (tally : List (Point × ℕ)) → Contains nodes node → 1 ≤ count_in tally (node_point node) → 2 ≤ cycles report.base report.rows tally
 
-abbrev pub built_units : Netlist → PlainUnits
-built_units d = record { mul32 = multipliers 32 d; mul64 = multipliers 64 d; div32 = dividers 32 d; div64 = dividers 64 d }
-
--- the report names what the circuit is built of, and what was asked for
-pub record ReportsDesign (report : PlainReport) (settings : Settings) (design : Netlist) : Type 0 where
+-- The report gives the cycles of the program with these times, and names what the circuit is built of and what was asked for.
+pub record IsReportOf (report : PlainReport) (settings : Settings) (timed : Cfg Timed) (design : Netlist) : Type 0 where
   pub settings_are : report.settings ≡ settings
+  pub base : report.base ≡ 1
+  pub rows : AreRowsOf timed.nodes.items report.rows
+  pub init : AreAddressed timed.frame.memories.items → report.init ≡ initial_cycles timed.frame
   pub units : report.units ≡ built_units design
+  pub names : map (λ m. m.name) report.memories ≡ declared_names timed.frame.memories.items
   pub memories : map row_shape report.memories ≡ map shape_of design.mems
   pub registers : report.registers ≡ length design.regs
+
+-- Of each width there are no more multipliers and dividers than the settings allow, and no memory has more ports, where 0 allows one. Where they are plain no loop is overlapped.
+pub record KeepsSettings (report : PlainReport) (settings : Settings) : Type 0 where
+  pub mul32 : report.units.mul32 ≤ max 1 settings.mul
+  pub mul64 : report.units.mul64 ≤ max 1 settings.mul
+  pub div32 : report.units.div32 ≤ max 1 settings.div
+  pub div64 : report.units.div64 ≤ max 1 settings.div
+  pub ports : All (λ m. m.ports ≤ max 1 settings.ports) report.memories
+  pub plain : settings.plain ≡ true → report.loops ≡ []

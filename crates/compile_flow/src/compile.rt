@@ -1,20 +1,17 @@
-ghost use Rattle.std.specs.Prelude.{IfOk};
+ghost use Rattle.std.specs.Prelude.{◌≡◌, ◌≤◌, ◌↔◌, IsTrue, IfOk, map};
+ghost use Rattle.std.specs.List.{All};
 ghost use Rattle.rtl_core.specs.Netlist.{netlist_of};
-ghost use Rattle.cycle_report.specs.PlainReport.{plain_of};
-ghost use Rattle.compile_flow.specs.Reports.{ReportsDesign};
+ghost use Rattle.cycle_report.specs.PlainReport.{plain_of, loop_of};
+ghost use Rattle.compile_flow.specs.Reports.{allowed_units, IsTimed, EachNodeCounts, IsReportOf, KeepsSettings};
 
-use crate::costs::formula_of;
-use crate::frame::copy_settings;
-use crate::initial::initial_cycles;
-use crate::resources::{Resources, resources_of};
-use crate::timing::{Schedule, timed_program};
+use crate::frame::{copy_frame, copy_settings};
 use c_checked::checked::Checked;
 use c_elaborate::elaborate::elaborate;
 use c_expand::expand::expand;
 use clock_ir::timed::Timed;
-use cycle_report::report::{LoopRow, Report};
+use cycle_report::report::{LoopRow, MemoryRow, Report};
 use fsm_datapath::build::build;
-use hls_base::refusal::Fail;
+use hls_base::refusal::{Fail, impossible};
 use hls_base::settings::{Settings, Units};
 use if_convert::convert::convert;
 use ir_core::cfg::Cfg;
@@ -22,9 +19,14 @@ use ir_core::stamp::Untimed;
 use ir_layout::layout::lay_out;
 use ir_lower::lower::lower;
 use pieces::expanded::Expanded;
+use program_times::nodes::{TimedNodes, timed_nodes};
 use reg_binding::assign::assign;
+use report_rows::costs::formula_of;
+use report_rows::initial::initial_cycles;
+use report_rows::resources::{Resources, resources_of};
 use rtl_core::design::Design;
 use std::alloc::{AllocError, Global};
+use unit_binding::bind::Request;
 use value_number::number::number;
 
 /// A compiled program: its flat form, without times and with them, its circuit, and its report.
@@ -55,12 +57,38 @@ fn flat_program(
 }
 
 /// The units that the settings allow.
-fn units_of(settings: &Settings) -> Units {
+fn units_of(settings: &Settings) -> Units
+    ensures { result ≡ allowed_units settings.now }
+{
     Units {
         mul: settings.mul,
         div: settings.div,
         ports: settings.ports,
     }
+}
+
+/// A program with times, and what the report says of its overlapped loops.
+#[derive(Debug, Drop)]
+pub struct Schedule {
+    pub timed: Cfg<Timed>,
+    pub loops: Vec<LoopRow>,
+}
+
+/// Gives the operations of each block and loop their times.
+fn timed_program(
+    alloc: Global,
+    untimed: &Cfg<Untimed>,
+    units: Units,
+) -> Result<Schedule, AllocError>
+    ensures { IfOk result (λ made. IsTimed ⟦<Request as Ord>⟧.cmp units untimed.now made.timed (map loop_of made.loops.items)) }
+{
+    let TimedNodes { nodes, loops } = timed_nodes(alloc, &untimed.nodes, &untimed.frame.memories, units)?;
+    let timed = Cfg {
+        frame: copy_frame(alloc, &untimed.frame)?,
+        nodes,
+        first: untimed.first,
+    };
+    Ok(Schedule { timed, loops })
 }
 
 /// What is said of a program with these times, these overlapped loops, and this circuit.
@@ -71,12 +99,13 @@ fn report_of(
     design: &Design,
     settings: &Settings,
 ) -> Result<Report, AllocError>
-    ensures { IfOk result (λ r. ReportsDesign (plain_of r) settings.now (netlist_of design.now)) }
+    ensures report { IfOk result (λ r. IsReportOf (plain_of r) settings.now timed.now (netlist_of design.now)) }
+    ensures loops { IfOk result (λ r. r.loops ≡ loops) }
 {
     let Resources { units, memories } = resources_of(alloc, &timed.frame, design)?;
     Ok(Report {
         settings: copy_settings(alloc, settings)?,
-        formula: formula_of(alloc, timed)?,
+        formula: formula_of(alloc, &timed.nodes)?,
         init: initial_cycles(&timed.frame),
         loops,
         mul32: units.mul32,
@@ -88,13 +117,37 @@ fn report_of(
     })
 }
 
+/// Whether all memories have at most so many ports.
+fn have_ports(memories: &[MemoryRow], ports: u8) -> bool
+    ensures { IsTrue result ↔ All (λ m. m.ports ≤ ports) memories.now }
+{
+    memories.iter().all(|memory| memory.ports <= ports)
+}
+
+/// Whether there are as few units as the settings allow, and where they are plain no overlapped loop. Operations are bound to no more units than that, and plain programs have no loop nodes.
+fn keeps_settings(report: &Report, settings: &Settings) -> bool
+    ensures { IsTrue result → KeepsSettings (plain_of report.now) settings.now }
+{
+    let mul = u32::from(settings.mul).max(1);
+    let div = u32::from(settings.div).max(1);
+    report.mul32 <= mul
+        && report.mul64 <= mul
+        && report.div32 <= div
+        && report.div64 <= div
+        && have_ports(&report.memories, settings.ports.max(1))
+        && (!settings.plain || report.loops.is_empty())
+}
+
 /// Compiles an expanded program.
 pub fn compile_expanded(
     alloc: Global,
     expanded: &Expanded,
     settings: &Settings,
 ) -> Result<Compiled, AllocError>
-    ensures { IfOk result (λ c. ReportsDesign (plain_of c.report) settings.now (netlist_of c.design)) }
+    ensures report { IfOk result (λ c. IsReportOf (plain_of c.report) settings.now c.timed (netlist_of c.design)) }
+    ensures timed { IfOk result (λ c. IsTimed ⟦<Request as Ord>⟧.cmp (allowed_units settings.now) c.untimed c.timed (plain_of c.report).loops) }
+    ensures kept { IfOk result (λ c. KeepsSettings (plain_of c.report) settings.now) }
+    ensures longer { IfOk result (λ c. EachNodeCounts c.timed.nodes.items (plain_of c.report)) }
 {
     let units = units_of(settings);
     let untimed = flat_program(alloc, expanded, settings)?;
@@ -102,6 +155,9 @@ pub fn compile_expanded(
     let registers = assign(alloc, &timed)?;
     let design = build(alloc, &timed, &registers, units)?;
     let report = report_of(alloc, &timed, loops, &design, settings)?;
+    if !keeps_settings(&report, settings) {
+        return Err(impossible());
+    }
     Ok(Compiled {
         untimed,
         timed,
@@ -112,7 +168,10 @@ pub fn compile_expanded(
 
 /// Compiles a program without faults. It is refused where it is too large once its calls are expanded.
 pub fn compile(alloc: Global, checked: &Checked, settings: &Settings) -> Result<Compiled, Fail>
-    ensures { IfOk result (λ c. ReportsDesign (plain_of c.report) settings.now (netlist_of c.design)) }
+    ensures report { IfOk result (λ c. IsReportOf (plain_of c.report) settings.now c.timed (netlist_of c.design)) }
+    ensures timed { IfOk result (λ c. IsTimed ⟦<Request as Ord>⟧.cmp (allowed_units settings.now) c.untimed c.timed (plain_of c.report).loops) }
+    ensures kept { IfOk result (λ c. KeepsSettings (plain_of c.report) settings.now) }
+    ensures longer { IfOk result (λ c. EachNodeCounts c.timed.nodes.items (plain_of c.report)) }
 {
     let expanded = expanded(alloc, checked)?;
     Ok(compile_expanded(alloc, &expanded, settings)?)

@@ -1,5 +1,6 @@
 //! Copies.
-ghost use Rattle.std.specs.Prelude.{◌≡◌, IfOk};
+ghost use Rattle.std.specs.Prelude.{◌≡◌, IfOk, map};
+ghost use Rattle.ir_lower.specs.Frames.{memory_view, frame_view};
 
 use hls_base::settings::Settings;
 use hls_base::words::Words;
@@ -20,14 +21,18 @@ pub fn copy_settings(alloc: Global, settings: &Settings) -> Result<Settings, All
     })
 }
 
-fn copy_words(alloc: Global, words: &Option<Words>) -> Result<Option<Words>, AllocError> {
+fn copy_words(alloc: Global, words: &Option<Words>) -> Result<Option<Words>, AllocError>
+    ensures { IfOk result (λ copy. copy ≡ words.now) }
+{
     match words {
         Some(words) => Ok(Some(words.copy(alloc)?)),
         None => Ok(None),
     }
 }
 
-fn copy_memory(alloc: Global, memory: &Memory) -> Result<Memory, AllocError> {
+fn copy_memory(alloc: Global, memory: &Memory) -> Result<Memory, AllocError>
+    ensures { IfOk result (λ copy. memory_view copy ≡ memory_view memory.now) }
+{
     Ok(Memory {
         name: memory.name.copy(alloc)?,
         bits: memory.bits,
@@ -38,7 +43,9 @@ fn copy_memory(alloc: Global, memory: &Memory) -> Result<Memory, AllocError> {
     })
 }
 
-fn copy_memories(alloc: Global, memories: &[Memory]) -> Result<Vec<Memory>, AllocError> {
+fn copy_memories(alloc: Global, memories: &[Memory]) -> Result<Vec<Memory>, AllocError>
+    ensures { IfOk result (λ copies. map memory_view copies.items ≡ map memory_view memories.now) }
+{
     let mut copies = Vec::with_capacity(alloc, memories.len())?;
     for memory in memories {
         copies.push(copy_memory(alloc, memory)?)?;
@@ -47,7 +54,9 @@ fn copy_memories(alloc: Global, memories: &[Memory]) -> Result<Vec<Memory>, Allo
 }
 
 /// Another owner of the same frame.
-pub fn copy_frame(alloc: Global, frame: &Frame) -> Result<Frame, AllocError> {
+pub fn copy_frame(alloc: Global, frame: &Frame) -> Result<Frame, AllocError>
+    ensures { IfOk result (λ copy. frame_view copy ≡ frame_view frame.now) }
+{
     Ok(Frame {
         name: frame.name.copy(alloc)?,
         params: Vec::from_slice(alloc, frame.params.as_slice())?,

@@ -2,8 +2,4 @@
 #![tactic(auto)]
 
 pub mod compile;
-mod costs;
 mod frame;
-mod initial;
-mod resources;
-mod timing;

@@ -1,8 +1,8 @@
 //! What a circuit is built of.
-ghost use Rattle.std.specs.Prelude.{◌≡◌, IfOk, map};
+ghost use Rattle.std.specs.Prelude.{◌≡◌, IfOk, map, length, take};
 ghost use Rattle.rtl_core.specs.Netlist.{netlist_of, memory_of};
 ghost use Rattle.rtl_core.specs.Resources.{multipliers, dividers};
-ghost use Rattle.compile_flow.specs.Reports.{shape_of, row_shape};
+ghost use Rattle.report_rows.specs.Resources.{shape_of, row_shape, declared_names};
 
 use cycle_report::report::MemoryRow;
 use hls_base::refusal::impossible;
@@ -53,7 +53,8 @@ fn unit_counts(design: &Design) -> Result<UnitCounts, AllocError>
 
 /// The memory with the name that the program gives it. A circuit's memories have at most 16 address bits and at most two ports.
 fn memory_row(alloc: Global, name: &Text, built: &Mem) -> Result<MemoryRow, AllocError>
-    ensures { IfOk result (λ m. row_shape m ≡ shape_of (memory_of built.now)) }
+    ensures shape { IfOk result (λ m. row_shape m ≡ shape_of (memory_of built.now)) }
+    ensures name { IfOk result (λ m. m.name ≡ name.now) }
 {
     let Some(depth) = 2u32.checked_pow(u32::from(built.depth_log)) else {
         return Err(impossible());
@@ -70,7 +71,9 @@ fn memory_row(alloc: Global, name: &Text, built: &Mem) -> Result<MemoryRow, Allo
 }
 
 /// The names of the memories that are no tables.
-fn memory_names<'m>(alloc: Global, memories: &'m [Memory]) -> Result<Vec<&'m Text>, AllocError> {
+fn memory_names<'m>(alloc: Global, memories: &'m [Memory]) -> Result<Vec<&'m Text>, AllocError>
+    ensures { IfOk result (λ v. map (λ name. name.now) v.items ≡ declared_names memories.now) }
+{
     let mut names = Vec::new(alloc);
     for memory in memories {
         if memory.table.is_none() {
@@ -82,7 +85,8 @@ fn memory_names<'m>(alloc: Global, memories: &'m [Memory]) -> Result<Vec<&'m Tex
 
 /// A row for each memory of the circuit, which are those of the program without its tables.
 fn memory_rows(alloc: Global, names: &[&Text], built: &[Mem]) -> Result<Vec<MemoryRow>, AllocError>
-    ensures { IfOk result (λ v. map row_shape v.items ≡ map shape_of (map memory_of built.now)) }
+    ensures shapes { IfOk result (λ v. map row_shape v.items ≡ map shape_of (map memory_of built.now)) }
+    ensures names { IfOk result (λ v. map (λ row. row.name) v.items ≡ map (λ name. name.now) names.now) }
 {
     if names.len() != built.len() {
         return Err(impossible());
@@ -104,6 +108,7 @@ pub fn resources_of(alloc: Global, frame: &Frame, design: &Design) -> Result<Res
     ensures div32 { IfOk result (λ r. r.units.div32 ≡ dividers 32 (netlist_of design.now)) }
     ensures div64 { IfOk result (λ r. r.units.div64 ≡ dividers 64 (netlist_of design.now)) }
     ensures memories { IfOk result (λ r. map row_shape r.memories.items ≡ map shape_of (netlist_of design.now).mems) }
+    ensures names { IfOk result (λ r. map (λ row. row.name) r.memories.items ≡ declared_names frame.now.memories.items) }
 {
     let units = unit_counts(design)?;
     let names = memory_names(alloc, &frame.memories)?;

@@ -1,0 +1,6 @@
+use Rattle.std.proofs.Common.{◌≡◌, []}
+use Rattle.report_rows.specs.Costs.{merged_behind}
+use Rattle.report_rows.proofs.costs.merged.Given as goal
+
+abbrev pub invariant-loop-cost : goal.invariant-loop-cost
+invariant-loop-cost l = l.rows.items ≡ merged_behind [] l.yielded

@@ -1,0 +1,4 @@
+pub mod Points
+pub mod Costs
+pub mod Initial
+pub mod Resources
