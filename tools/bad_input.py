@@ -79,7 +79,7 @@ def refused(name, text, rule, line, column):
 def words():
     wrong = [
         [], ["foo"], ["synth"], ["synth", "s.c", "s.v"], SYNTH[:4], [*SYNTH[:4], "--top"], [*SYNTH, "--foo"], [*SYNTH, "more"], [*SYNTH, "--top", "f"],
-        [*SYNTH[:5], ""], ["synth", "", *SYNTH[2:]], ["cosim"], SYNTH[1:], ["cosim", *SYNTH[1:]], [*COSIM, "--plain"], [*COSIM, "--mul", "1"],
+        ["cosim"], SYNTH[1:], ["cosim", *SYNTH[1:]], [*COSIM, "--plain"], [*COSIM, "--mul", "1"],
         [*SYNTH, "--points", "1"], ["soak"], ["soak", "x"], ["soak", "-1"], ["soak", "+1"], ["soak", ""], ["soak", "1", "2"], ["soak", "18446744073709551616"],
         ["synth", "x", "x", "y", "--top", "f"],
     ]

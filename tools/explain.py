@@ -83,6 +83,9 @@ class Words:
         while rest:
             word = rest.pop(0)
             name, equals, value = word.partition("=")
+            if word == "--":
+                self.plain += rest
+                break
             if word.startswith("--") and equals:
                 self.options[name] = value
             elif word.startswith("--") and word != "--plain" and rest:
