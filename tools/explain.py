@@ -217,9 +217,9 @@ def fault(paper, words):
 
 def differ(paper, what):
     paper.title("the module differs from the C program")
-    if what[0] == "ret":
+    if len(what) == 3 and what[0] == "ret":
         paper.say(f"The result is {what[2]}, and C gives {what[1]}.")
-    elif what[0] == "cycles":
+    elif len(what) == 3:
         paper.say(f"The module took {what[2]} cycles, and the report gives {what[1]}.")
     else:
         paper.say(f"Element {what[1]} of {what[0]} (row by row, from 0) is {what[3]}, and C gives {what[2]}.")
