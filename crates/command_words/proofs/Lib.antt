@@ -2,4 +2,4 @@ mod Values
 mod Items
 mod Chains
 mod Parses
-mod Examples
+mod PlainForm
