@@ -7,4 +7,5 @@ pub mod Labels
 pub mod Limits
 pub mod Expressions
 pub mod Statements
+pub mod Recursion
 pub mod Programs

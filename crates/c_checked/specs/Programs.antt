@@ -6,9 +6,10 @@ use Rattle.c_tree.specs.Tree as tree
 use Rattle.c_tree.specs.Tree.{FunctionTree, ItemTree, ProgramTree}
 use Rattle.c_checked.specs.Faults.{fault_if}
 use Rattle.c_checked.specs.Names.{Declared}
-use Rattle.c_checked.specs.Calls.{with_function, declaration_faults, callers, recursion_faults}
+use Rattle.c_checked.specs.Calls.{with_function, declaration_faults}
 use Rattle.c_checked.specs.Limits.{limit_faults, new_function_places, file_arrays, file_objects, kept_faults}
 use Rattle.c_checked.specs.Statements.{with_objects, objects_faults, function_faults}
+use Rattle.c_checked.specs.Recursion.{callers, recursion_faults}
 
 -- the names of the functions that have a body, in order
 abbrev pub body_names : List ItemTree → List (List ℕ)
@@ -44,7 +45,7 @@ top_faults top p = fault_if (not (is_in top (body_names p.items))) 19 p.end
 abbrev pub program_faults : ProgramTree → List ℕ → List Refusal
 program_faults p top =
     items_faults (body_names p.items) [] [] p.items
-    ++ (recursion_faults (callers p.items) 0 (callers p.items)
+    ++ (recursion_faults (callers [] p.items) (callers [] p.items)
     ++ (limit_faults 64 33 (new_function_places [] p.items)
     ++ (limit_faults 32 35 (file_arrays p.items)
     ++ (kept_faults 0 (file_objects p.items)

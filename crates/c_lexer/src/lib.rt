@@ -2,7 +2,7 @@
 #![tactic(auto)]
 
 ghost use Rattle.std.specs.Prelude.{◌≡◌, ◌≤◌, IfOk, length};
-ghost use Rattle.c_token.specs.SourceText.{Spells, FirstFault, source_limit};
+ghost use Rattle.c_token.specs.SourceText.{Spells, FirstFault, SpellsOnce, source_limit};
 ghost use Rattle.hls_base.specs.TextPlaces.{text_start, place_after};
 ghost use Rattle.hls_base.specs.Refusals.{IfRefused};
 
@@ -33,9 +33,13 @@ pub fn end_of(source: &[u8]) -> Place
 }
 
 /// The tokens of a source, or its first fault. No token is a `TypeWord`.
+#[tactic(auto, using(c_token::proofs::Unique::spelled_once))]
 pub fn lex(alloc: Global, source: &[u8]) -> Result<Vec<Token>, Fail>
     ensures spelled { IfOk result (λ tokens. Spells source.now tokens.items) }
     ensures refused { IfRefused result (λ refusal. FirstFault source.now refusal) }
+
+    // what holds of the relations that these clauses speak of
+    ensures once { SpellsOnce source.now }
 {
     if source.len() > SOURCE_LIMIT {
         let (front, _) = source.split_at(SOURCE_LIMIT);
@@ -49,6 +53,3 @@ pub fn lex(alloc: Global, source: &[u8]) -> Result<Vec<Token>, Fail>
     }
     Ok(tokens)
 }
-
-#[cfg(test)]
-mod tests;

@@ -23,7 +23,7 @@ pub mod Statements
 pub mod StatementsAgain
 pub mod Items
 pub mod PrintedPrograms
-pub mod PrintedExample
 pub mod NoChange
 pub mod GivenTokens
 pub mod Replaced
+pub mod FaultOnce

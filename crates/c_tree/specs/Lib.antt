@@ -11,4 +11,3 @@ pub mod Rows
 pub mod StatementRows
 pub mod Behind
 pub mod RowText
-pub mod PrintedExample

@@ -72,3 +72,10 @@ pub data IsFaultOf (tokens : List Terminal) (end : Place) (r : Refusal) : Type 0
 -- a program within the limits
 abbrev pub IsProgram : List Terminal → Place → ProgramTree → Type 0
 IsProgram tokens end program = DerivesProgram tokens end program × NoneBeyond tokens (length tokens)
+
+-- ---- what holds of these relations
+
+-- Tokens have at most one fault, and none where they are a program within the limits.
+pub record FaultsOnce (tokens : List Terminal) (end : Place) : Type 0 where
+  pub one_fault : (r q : Refusal) → IsFaultOf tokens end r → IsFaultOf tokens end q → q ≡ r
+  pub never_both : (program : ProgramTree) (r : Refusal) → IsProgram tokens end program → ¬ IsFaultOf tokens end r

@@ -10,5 +10,3 @@ pub mod print;
 pub mod program;
 pub mod specifier;
 pub mod statement;
-#[cfg(test)]
-mod tests;

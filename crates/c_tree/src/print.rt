@@ -12,8 +12,6 @@ mod kind;
 mod object;
 pub mod row;
 mod statement;
-#[cfg(test)]
-mod tests;
 mod text;
 
 use crate::print::item::push_program;

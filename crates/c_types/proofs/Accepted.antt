@@ -10,7 +10,7 @@ use Rattle.c_tree.specs.View.{body_of}
 use Rattle.c_tree.specs.Tree as tree
 use Rattle.c_tree.specs.Tree.{ItemTree, FunctionTree, ProgramTree}
 use Rattle.c_checked.specs.Faults.{is_lesser, lesser, least, IsLeast, fault_if}
-use Rattle.c_checked.specs.Calls.{callers, recursion_faults}
+use Rattle.c_checked.specs.Recursion.{callers, recursion_faults}
 use Rattle.c_checked.specs.Limits.{limit_faults, new_function_places, file_arrays, file_objects, kept_faults}
 use Rattle.c_checked.specs.Programs.{items_faults, body_names, top_faults, program_faults, is_empty, body_name_of, is_body_of, top_name, is_faultless, is_well_formed}
 use Rattle.c_types.proofs.Least.{less-trans, less-trans-not}
@@ -94,7 +94,7 @@ top_is_defined p top e = not_broken (is_in top (body_names p.items)) 19 p.end
     (last_empty (kept_faults 0 (file_objects p.items)) (top_faults top p)
     (last_empty (limit_faults 32 35 (file_arrays p.items)) (kept_faults 0 (file_objects p.items) ++ top_faults top p)
     (last_empty (limit_faults 64 33 (new_function_places [] p.items)) (limit_faults 32 35 (file_arrays p.items) ++ (kept_faults 0 (file_objects p.items) ++ top_faults top p))
-    (last_empty (recursion_faults (callers p.items) 0 (callers p.items)) (limit_faults 64 33 (new_function_places [] p.items) ++ (limit_faults 32 35 (file_arrays p.items) ++ (kept_faults 0 (file_objects p.items) ++ top_faults top p)))
+    (last_empty (recursion_faults (callers [] p.items) (callers [] p.items)) (limit_faults 64 33 (new_function_places [] p.items) ++ (limit_faults 32 35 (file_arrays p.items) ++ (kept_faults 0 (file_objects p.items) ++ top_faults top p)))
     (last_empty (items_faults (body_names p.items) [] [] p.items) _ e)))))
 
 pub well_formed : (p : ProgramTree) (top : List ℕ) (index : ℕ) → top_name p index ≡ Some top → program_faults p top ≡ [] → IsTrue (is_well_formed p index)

@@ -35,23 +35,23 @@ declare_tree os = ap stmt_of (sym (s.rolls-Declare os)) ∙ fold-roll-Stmt StmtT
 act_tree : (actions : Vec Action Global) → stmt_of (s.Act actions) ≡ tree.act (map action_of actions.items)
 act_tree actions = ap stmt_of (sym (s.rolls-Act actions)) ∙ fold-roll-Stmt StmtTree ElseTree stmt_step else_step (Stmt-F.Act actions)
 
-if_tree : (test : Expr) (body : Box Stmt Global) (other : Option Else) (at : Place) → stmt_of (s.If test body other at) ≡ tree.if_ (tree_of test) (stmt_of body.value) (else_part (option_map else_of other)) at
+pub if_tree : (test : Expr) (body : Box Stmt Global) (other : Option Else) (at : Place) → stmt_of (s.If test body other at) ≡ tree.if_ (tree_of test) (stmt_of body.value) (else_part (option_map else_of other)) at
 if_tree test body None at = ap stmt_of (sym (s.rolls-If test body None at)) ∙ fold-roll-Stmt StmtTree ElseTree stmt_step else_step (Stmt-F.If test body None at)
 if_tree test body (Some e) at = ap stmt_of (sym (s.rolls-If test body (Some e) at)) ∙ fold-roll-Stmt StmtTree ElseTree stmt_step else_step (Stmt-F.If test body (Some e) at)
 
-switch_tree : (test : Expr) (body : Vec Stmt Global) (at : Place) → stmt_of (s.Switch test body at) ≡ tree.switch_ (tree_of test) (stmts_of body.items) at
+pub switch_tree : (test : Expr) (body : Vec Stmt Global) (at : Place) → stmt_of (s.Switch test body at) ≡ tree.switch_ (tree_of test) (stmts_of body.items) at
 switch_tree test body at = ap stmt_of (sym (s.rolls-Switch test body at)) ∙ fold-roll-Stmt StmtTree ElseTree stmt_step else_step (Stmt-F.Switch test body at)
 
-case_tree : (value : Option Expr) (body : Box Stmt Global) (at : Place) → stmt_of (s.Case value body at) ≡ tree.case_ (option_map tree_of value) (stmt_of body.value) at
+pub case_tree : (value : Option Expr) (body : Box Stmt Global) (at : Place) → stmt_of (s.Case value body at) ≡ tree.case_ (option_map tree_of value) (stmt_of body.value) at
 case_tree value body at = ap stmt_of (sym (s.rolls-Case value body at)) ∙ fold-roll-Stmt StmtTree ElseTree stmt_step else_step (Stmt-F.Case value body at)
 
-while_tree : (test : Expr) (body : Box Stmt Global) (at : Place) → stmt_of (s.While test body at) ≡ tree.while_ (tree_of test) (stmt_of body.value) at
+pub while_tree : (test : Expr) (body : Box Stmt Global) (at : Place) → stmt_of (s.While test body at) ≡ tree.while_ (tree_of test) (stmt_of body.value) at
 while_tree test body at = ap stmt_of (sym (s.rolls-While test body at)) ∙ fold-roll-Stmt StmtTree ElseTree stmt_step else_step (Stmt-F.While test body at)
 
-do_tree : (body : Box Stmt Global) (test : Expr) (at : Place) → stmt_of (s.Do body test at) ≡ tree.do_ (stmt_of body.value) (tree_of test) at
+pub do_tree : (body : Box Stmt Global) (test : Expr) (at : Place) → stmt_of (s.Do body test at) ≡ tree.do_ (stmt_of body.value) (tree_of test) at
 do_tree body test at = ap stmt_of (sym (s.rolls-Do body test at)) ∙ fold-roll-Stmt StmtTree ElseTree stmt_step else_step (Stmt-F.Do body test at)
 
-for_tree : (init : Option (Box Stmt Global)) (test : Option Expr) (step : Vec Action Global) (body : Box Stmt Global) (at : Place) →
+pub for_tree : (init : Option (Box Stmt Global)) (test : Option Expr) (step : Vec Action Global) (body : Box Stmt Global) (at : Place) →
     stmt_of (s.For init test step body at) ≡ tree.for_ (first_part (option_map (λ p. stmt_of p.value) init)) (option_map tree_of test) (map action_of step.items) (stmt_of body.value) at
 for_tree None test step body at = ap stmt_of (sym (s.rolls-For None test step body at)) ∙ fold-roll-Stmt StmtTree ElseTree stmt_step else_step (Stmt-F.For None test step body at)
 for_tree (Some part) test step body at = ap stmt_of (sym (s.rolls-For (Some part) test step body at)) ∙ fold-roll-Stmt StmtTree ElseTree stmt_step else_step (Stmt-F.For (Some part) test step body at)

@@ -26,7 +26,7 @@ use hls_base::text::Text;
 use std::alloc::{AllocError, Global};
 
 /// The types of parameters.
-fn shapes_of(alloc: Global, params: &[Param]) -> Result<Vec<Shape>, AllocError>
+pub fn shapes_of(alloc: Global, params: &[Param]) -> Result<Vec<Shape>, AllocError>
     ensures { IfOk result (λ ss. ss.items ≡ param_shapes (map param_of params.now)) }
 {
     let mut shapes = Vec::new(alloc);

@@ -6,6 +6,7 @@ mod arrays;
 mod called;
 mod calls;
 mod conflicts;
+mod declared;
 mod expressions;
 mod faults;
 mod functions;
@@ -18,5 +19,3 @@ pub mod program;
 mod recursion;
 mod statements;
 mod steps;
-#[cfg(test)]
-mod tests;

@@ -2,7 +2,7 @@
 ghost use Rattle.std.specs.Prelude.{◌≡◌, ◌≤◌, ◌<◌, ◌+◌, ◌++◌, ◌==◌, ◌&&◌, ℕ, List, [], false, nat_le, length, slice_index_or, OnOk, IfOk};
 ghost use Rattle.std.specs.Vec.{vec_len};
 ghost use Rattle.c_checked.specs.Faults.{least};
-ghost use Rattle.c_checked.specs.Calls.{number_of, call_links, links, reaches, round_faults, recursion_faults};
+ghost use Rattle.c_checked.specs.Recursion.{number_of, body_of, call_links, links, reaches, stands_first, round_faults, recursion_faults};
 ghost use Rattle.c_types.specs.Linked.{AreWithin, AreBelow, Marks, sources, HasSources, RowsAreBelow, is_among, calls_one, Spreads};
 
 use crate::called::{Called, Caller};
@@ -12,7 +12,7 @@ use hls_base::refusal::Refusal;
 use hls_base::text::Text;
 use std::alloc::{AllocError, Global};
 
-/// The number of a function, in the order of the bodies. One without a body has the number behind them.
+/// The number of the first item of a function. One without an item has the number behind them.
 fn number(callers: &[Caller], name: &Text) -> usize
     ensures value { result ≡ number_of callers.now name.now }
     ensures bound { result ≤ length callers.now }
@@ -23,6 +23,27 @@ fn number(callers: &[Caller], name: &Text) -> usize
         }
     }
     callers.len()
+}
+
+/// The number of the item with a function's body. One without a body has the number behind them.
+fn body_number(callers: &[Caller], name: &Text) -> usize
+    ensures { result ≡ body_of callers.now name.now }
+{
+    for (i, caller) in callers.iter().enumerate() {
+        if caller.has_body && is_same_name(name, &caller.name) {
+            return i;
+        }
+    }
+    callers.len()
+}
+
+/// Whether both functions have bodies, and that of f stands at or before that of g.
+fn stands_first(callers: &[Caller], f: &Text, g: &Text) -> bool
+    ensures { result ≡ stands_first callers.now f.now g.now }
+{
+    let called = body_number(callers, f);
+    let calling = body_number(callers, g);
+    called <= calling && calling < callers.len()
 }
 
 /// Adds who is called by the function with this number.
@@ -169,47 +190,41 @@ fn reaching(
     Ok(wave.marks)
 }
 
-/// Whether the callee is marked and its body stands at or before the one with this index.
-fn comes_round(marks: &[bool], callee: usize, index: usize) -> bool
-    requires { callee < length marks.now }
-    ensures { result ≡ (nat_le callee index && slice_index_or marks.now callee false) }
+/// Whether a call of f in g leads round. The functions that come to g are marked.
+fn leads_round(callers: &[Caller], marks: &[bool], f: &Text, g: &Text) -> bool
+    requires { Marks (links callers.now callers.now) (length callers.now + 1) (length callers.now) (number_of callers.now g.now) marks.now }
+    ensures { result ≡ (stands_first callers.now f.now g.now && reaches (links callers.now callers.now) (length callers.now) (number_of callers.now f.now) (number_of callers.now g.now)) }
 {
-    callee <= index && marks[callee]
+    let callee = number(callers, f);
+    stands_first(callers, f, g) && marks[callee]
 }
 
-/// The least call that leads round, in the body with this index.
-fn round_fault(
-    callers: &[Caller],
-    marks: &[bool],
-    index: usize,
-    target: usize,
-    calls: &[Called],
-) -> Option<Refusal>
-    requires { Marks (links callers.now callers.now) (length callers.now + 1) (length callers.now) target marks.now }
-    ensures { result ≡ least (round_faults callers.now index target calls.now) }
+/// The least of these calls in function g that leads round.
+fn round_fault(callers: &[Caller], marks: &[bool], g: &Text, calls: &[Called]) -> Option<Refusal>
+    requires { Marks (links callers.now callers.now) (length callers.now + 1) (length callers.now) (number_of callers.now g.now) marks.now }
+    ensures { result ≡ least (round_faults callers.now g.now calls.now) }
 {
     let mut worst = None;
     for call in calls {
-        let callee = number(callers, &call.name);
-        let round = comes_round(marks, callee, index);
+        let round = leads_round(callers, marks, &call.name, g);
         worst = lesser(worst, fault_if(round, 18, call.at));
     }
     worst
 }
 
-/// The least call that leads round. It takes time by the functions, times the functions and the calls.
+/// The least call that leads round. It takes time by the items, times the items and the calls.
 pub fn recursion_fault(alloc: Global, callers: &[Caller]) -> Result<Option<Refusal>, AllocError>
-    ensures { IfOk result (λ r. r ≡ least (recursion_faults callers.now 0 callers.now)) }
+    ensures { IfOk result (λ r. r ≡ least (recursion_faults callers.now callers.now)) }
 {
     let linked = links_of(alloc, callers)?;
     let rows = all_sources(alloc, &linked, callers.len() + 1)?;
     let mut worst = None;
-    for (i, caller) in callers.iter().enumerate() {
+    for caller in callers {
         let target = number(callers, &caller.name);
         let marks = reaching(alloc, &rows, callers.len(), target)?;
         worst = lesser(
             worst,
-            round_fault(callers, &marks, i, target, &caller.calls),
+            round_fault(callers, &marks, &caller.name, &caller.calls),
         );
     }
     Ok(worst)

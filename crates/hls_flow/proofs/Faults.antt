@@ -13,7 +13,7 @@ use Rattle.c_checked.specs.Faults.{IsLeast}
 use Rattle.c_checked.specs.Programs.{program_faults}
 use Rattle.hls_flow.specs.FirstFault as f
 use Rattle.hls_flow.specs.FirstFault.{end_of, IsReplaced, IsProgramOf, IsSumSource, IsAccepted, IsFaultBefore, IsFirstFault}
-use Rattle.hls_flow.proofs.Grammar.{no_fault}
+use Rattle.c_tree.proofs.FaultOnce.{no_fault}
 
 -- ---- a source
 

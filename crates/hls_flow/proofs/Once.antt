@@ -14,7 +14,7 @@ use Rattle.c_checked.specs.Programs.{program_faults}
 use Rattle.hls_flow.specs.FirstFault as f
 use Rattle.hls_flow.specs.FirstFault.{end_of, IsReplaced, IsTheProgramOf, IsFaultBefore, IsTooLarge, IsFirstFault}
 use Rattle.hls_flow.proofs.Faults.{one_list, program_has_no_fault, no_least}
-use Rattle.hls_flow.proofs.FaultOnce.{one_fault}
+use Rattle.c_tree.proofs.FaultOnce.{one_fault}
 use Rattle.hls_flow.proofs.LeastOnce.{one_least}
 use Rattle.hls_flow.proofs.BodyOnce.{HasBody, one_body}
 

@@ -1,5 +1,5 @@
 use Rattle.std.proofs.Common.{◌≡◌, ◌++◌, drop}
-use Rattle.c_checked.specs.Calls.{links}
+use Rattle.c_checked.specs.Recursion.{links}
 use Rattle.c_types.proofs.recursion.links_of.Given as goal
 
 abbrev pub invariant-loop-caller : goal.invariant-loop-caller

@@ -1,12 +1,13 @@
--- A list of tokens has at most one fault.
-use Rattle.std.proofs.Common.{◌≡◌, ℕ, suc, ◌+◌, ◌<◌, List, [], ◌∷◌, ◌++◌, length, refl, sym, subst, ap, ◌∙◌, arith, inl, inr, append_assoc, length-append}
+-- A list of tokens has at most one fault, and none where it is a program within the limits.
+use Rattle.std.proofs.Common.{◌≡◌, ℕ, suc, ◌+◌, ◌<◌, List, [], ◌∷◌, ◌++◌, length, refl, sym, subst, ap, ◌∙◌, arith, inl, inr, append_assoc, append-nil, length-append}
 use Rattle.std.proofs.lemmas.Bool.{cases_order}
 use Rattle.hls_base.specs.declared.place.Place.{Place}
 use Rattle.hls_base.specs.declared.refusal.Refusal.{Refusal}
 use Rattle.c_tree.specs.Terminals.{Terminal}
+use Rattle.c_tree.specs.Tree.{ProgramTree}
 use Rattle.c_tree.specs.Grammar.{DerivesItems}
 use Rattle.c_tree.specs.Refusal as r
-use Rattle.c_tree.specs.Refusal.{Begins, Stops, Reaches, refusal, IsBeyond, NoneBeyond, AtStop, IsFaultOf}
+use Rattle.c_tree.specs.Refusal.{Begins, Stops, Reaches, refusal, IsBeyond, NoneBeyond, AtStop, IsFaultOf, IsProgram, FaultsOnce}
 
 -- ---- two fronts of one list
 
@@ -95,3 +96,35 @@ one_fault tokens end a b (r.at_stop seen left reaches none stop) (r.at_stop othe
     let same = reaches_once tokens others seen right left reach reaches in
     let here : AtStop seen right end b = subst (λ z. AtStop z right end b) same.0 halt in
     one_stop seen left end a b stop (subst (λ z. AtStop seen z end b) same.1 here)
+
+-- ---- a program has no fault
+
+-- as far as some program goes, tokens of a program go to their end
+nothing_left : (tokens seen left : List Terminal) (end : Place) (program : ProgramTree) → IsProgram tokens end program → Reaches tokens seen left → left ≡ []
+nothing_left tokens seen [] end program is reaches = refl
+nothing_left tokens seen (t ∷ rest) end program is reaches =
+    let whole : tokens ≡ (seen ++ t ∷ []) ++ rest = reaches.split ∙ sym (append_assoc seen (t ∷ []) rest) in
+    absurd (reaches.stops (rest, program.items, rw (sym whole) is.0.0))
+
+all_seen : (tokens seen left : List Terminal) → tokens ≡ seen ++ left → left ≡ [] → seen ≡ tokens
+all_seen tokens seen left split none = sym (append-nil seen) ∙ (ap (λ x. seen ++ x) (sym none) ∙ sym split)
+
+pub no_fault : (tokens : List Terminal) (end : Place) (program : ProgramTree) (fault : Refusal) → IsProgram tokens end program → IsFaultOf tokens end fault → ⊥
+no_fault tokens end program fault is (r.beyond_limit seen left before behind t reaches split beyond none e) =
+    let same : seen ≡ tokens = all_seen tokens seen left reaches.split (nothing_left tokens seen left end program is reaches) in
+    let long : length seen ≡ length before + suc (length behind) = ap length split ∙ length-append before (t ∷ behind) in
+    let here : IsBeyond tokens (length before) = subst (λ x. IsBeyond x (length before)) same beyond in
+    let below : length before < length tokens = omega (arith, ap length same) in
+    is.1 (length before) below here
+no_fault tokens end program fault is (r.at_stop seen left reaches none stop) =
+    let empty : left ≡ [] = nothing_left tokens seen left end program is reaches in
+    let same : seen ≡ tokens = all_seen tokens seen left reaches.split empty in
+    let there : AtStop seen [] end fault = subst (λ x. AtStop seen x end fault) empty stop in
+    let whole : AtStop tokens [] end fault = subst (λ x. AtStop x [] end fault) same there in
+    whole.0 program.items is.0.0
+
+pub faults_once : (tokens : List Terminal) (end : Place) → FaultsOnce tokens end
+faults_once tokens end = record {
+  one_fault = λ r q a b. one_fault tokens end r q a b;
+  never_both = λ program r is faulty. no_fault tokens end program r is faulty;
+}
