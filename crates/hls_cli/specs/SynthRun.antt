@@ -6,7 +6,7 @@ use Rattle.hls_flow.specs.FirstFault.{IsAccepted, IsFirstFault}
 use Rattle.hls_flow.specs.Synthesis.{IsSynthesis}
 use Rattle.command_words.specs.Commands.{Synth, Cosim}
 use Rattle.hls_cli.specs.Words.{IsSynth, IsCosim, IsUsage, IsComparison, settings_of}
-use Rattle.hls_cli.specs.Lines.{made_line, refusal_line, usage_line}
+use Rattle.hls_cli.specs.Lines.{made_line, memory_line, refusal_line, usage_line}
 
 -- what is read of a source: one byte more than the largest source has
 abbrev pub read_bytes : ℕ
@@ -62,8 +62,9 @@ pub record Outside : Type 0 where
 abbrev pub outside : Option Files → Option Files → Option (List ℕ) → Option (List ℕ) → Outside
 outside old_files new_files old_bytes new_bytes = record { old_files = old_files; new_files = new_files; old_bytes = old_bytes; new_bytes = new_bytes }
 
--- The run ended for a fault or for want of memory, and put a prefix of the line that says so: before any line of an answer, or after a prefix of the line of the answer that its whole work gave.
+-- The run ended for a fault or for want of memory, and put a prefix of the line that says so: before any line of an answer, or after a prefix of the line of the answer that its whole work gave. Memory may be wanting for the reading of the words already.
 pub data IsCutOff (words : List (List ℕ)) (last : List ℕ) (o : Outside) : Type 0 where
+  unread : last ≡ memory_line → WhereTold SameFiles o.old_files o.new_files → WhereTold (PutsPrefix last) o.old_bytes o.new_bytes → IsCutOff words last o
   stopped : (c : Synth) → IsSynth words c → WhereTold (IsStopped c) o.old_files o.new_files → WhereTold (PutsPrefix last) o.old_bytes o.new_bytes → IsCutOff words last o
   at_usage : IsUsage words → WhereTold SameFiles o.old_files o.new_files → WhereTold (PutsCutLine usage_line last) o.old_bytes o.new_bytes → IsCutOff words last o
   at_refusal : (c : Synth) (fault : Refusal) → IsSynth words c → WhereTold (IsRefused c fault) o.old_files o.new_files

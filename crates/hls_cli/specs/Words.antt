@@ -2,7 +2,8 @@
 use Rattle.std.specs.Prelude.{◌≡◌, ◌⊎◌, ℕ, List, Some, None}
 use Rattle.hls_base.specs.declared.settings.Settings.{Settings}
 use Rattle.command_words.specs.Commands as command
-use Rattle.command_words.specs.Commands.{Synth, Cosim, command_of}
+use Rattle.command_words.specs.Commands.{Synth, Cosim}
+use Rattle.command_words.specs.Reading.{command_of}
 
 -- the words are `synth` with these files and options
 abbrev pub IsSynth : List (List ℕ) → Synth → Type 0

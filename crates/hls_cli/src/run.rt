@@ -7,7 +7,8 @@ ghost use Rattle.hls_cli.specs.SynthRun.{outside, RanToModule, RanToRefusal, Ran
 
 use crate::lines::{FAULT, MEMORY, USAGE};
 use crate::work::{work_cosim, work_soak, work_synth};
-use command_words::command::{Command, read_words};
+use command_words::command::Command;
+use command_words::reading::read_words;
 use hls_base::outside::{Shelf, ShelfError, Sink, SinkError};
 use std::alloc::Global;
 
@@ -29,22 +30,23 @@ pub fn run<F: Shelf, K: Sink>(alloc: Global, words: &[String], shelf: &mut F, ou
     // A source that is accepted is compiled, unless a fault or want of memory comes.
     ensures complete { IsComplete (map string_bytes words.now) (F.files shelf.old) → (¬ HasRisen (F.faults shelf.old) (F.faults shelf.new)) → (¬ HasRisen (K.faults out.old) (K.faults out.new)) → (result ≡ 0) ⊎ (result ≡ 4) }
 {
-    match read_words(words) {
-        Some(Command::Synth(command)) => match work_synth(alloc, &command, shelf) {
+    match read_words(alloc, words) {
+        Ok(Some(Command::Synth(command))) => match work_synth(alloc, &command, shelf) {
             Ok(answer) => finish(answer.status, answer.lines.as_bytes(), out),
             Err(ShelfError::Failed) => stop_for_fault(out),
             Err(ShelfError::Memory) => stop_for_memory(out),
         },
-        Some(Command::Cosim(command)) => match work_cosim(alloc, &command, shelf) {
+        Ok(Some(Command::Cosim(command))) => match work_cosim(alloc, &command, shelf) {
             Ok(answer) => finish(answer.status, answer.lines.as_bytes(), out),
             Err(ShelfError::Failed) => stop_for_fault(out),
             Err(ShelfError::Memory) => stop_for_memory(out),
         },
-        Some(Command::Soak(number)) => match work_soak(alloc, number) {
+        Ok(Some(Command::Soak(number))) => match work_soak(alloc, number) {
             Ok(answer) => finish(answer.status, answer.lines.as_bytes(), out),
             Err(_) => stop_for_memory(out),
         },
-        None => finish(2, USAGE, out),
+        Ok(None) => finish(2, USAGE, out),
+        Err(_) => stop_for_memory(out),
     }
 }
 
