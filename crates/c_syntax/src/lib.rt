@@ -5,7 +5,7 @@ ghost use Rattle.std.specs.Prelude.{◌≡◌, IfOk};
 ghost use Rattle.hls_base.specs.Refusals.{IfRefused};
 ghost use Rattle.c_tree.specs.Tree.{ProgramTree};
 ghost use Rattle.c_tree.specs.Terminals.{terminals};
-ghost use Rattle.c_tree.specs.Refusal.{IsFaultOf, IsProgram, refusal};
+ghost use Rattle.c_tree.specs.Refusal.{IsFaultOf, IsProgram, FaultsOnce, refusal};
 ghost use Rattle.c_syntax.specs.Sorts.{sort_of, rule_of_sort};
 ghost use Rattle.c_syntax.specs.Faults.{rule_at_stop};
 
@@ -20,8 +20,6 @@ mod sign;
 mod sort;
 mod statement;
 mod step;
-#[cfg(test)]
-mod tests;
 mod words;
 
 use crate::advance::{Advance, is_complete, take_token};
@@ -61,9 +59,13 @@ fn stop_at(token: &Token, sort: Sort, open_before: u8) -> Refusal
 }
 
 /// Whether the tokens are a program within the limits. If not, its fault: the first token that no program has there (rule 20, 23 or 6), or that is too deep or an operator too many (rule 32).
+#[tactic(auto, using(c_tree::proofs::FaultOnce::faults_once))]
 pub fn find_fault(alloc: Global, tokens: &[Token], end: Place) -> Result<(), Fail>
     ensures accepted { IfOk result (λ _. (program : ProgramTree) × IsProgram (terminals tokens.now) end program) }
     ensures refused { IfRefused result (IsFaultOf (terminals tokens.now) end) }
+
+    // what holds of the relations that these clauses speak of
+    ensures once { FaultsOnce (terminals tokens.now) end }
 {
     let mut stack = Stack::new(alloc)?;
     let mut depths = Depths::new(alloc);
