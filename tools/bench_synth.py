@@ -4,7 +4,7 @@
     tools/bench_synth.py [NAME ..]   all cases, or those whose names begin so
 
 Each time is given beside that of a straight line of weight 1,000 in the same run, since the machine may do other work meanwhile.
-The least of three runs counts, and the first one where it takes above a second. HLS names the program, else it is the one that ./hls built.
+The least of three runs counts, and the first one where it takes above a second. In a build with run-time checks `cosim` takes ten minutes. HLS names the program, else it is the one that ./hls built.
 """
 import os
 import pathlib
