@@ -26,7 +26,6 @@ use report_rows::initial::initial_cycles;
 use report_rows::resources::{Resources, resources_of};
 use rtl_core::design::Design;
 use std::alloc::{AllocError, Global};
-use unit_binding::bind::Request;
 use value_number::number::number;
 
 /// A compiled program: its flat form, without times and with them, its circuit, and its report.
@@ -80,9 +79,14 @@ fn timed_program(
     untimed: &Cfg<Untimed>,
     units: Units,
 ) -> Result<Schedule, AllocError>
-    ensures { IfOk result (λ made. IsTimed ⟦<Request as Ord>⟧.cmp units untimed.now made.timed (map loop_of made.loops.items)) }
+    ensures { IfOk result (λ made. IsTimed units untimed.now made.timed (map loop_of made.loops.items)) }
 {
-    let TimedNodes { nodes, loops } = timed_nodes(alloc, &untimed.nodes, &untimed.frame.memories, units)?;
+    let TimedNodes { nodes, loops } = timed_nodes(
+        alloc,
+        &untimed.nodes,
+        &untimed.frame.memories,
+        units,
+    )?;
     let timed = Cfg {
         frame: copy_frame(alloc, &untimed.frame)?,
         nodes,
@@ -145,7 +149,7 @@ pub fn compile_expanded(
     settings: &Settings,
 ) -> Result<Compiled, AllocError>
     ensures report { IfOk result (λ c. IsReportOf (plain_of c.report) settings.now c.timed (netlist_of c.design)) }
-    ensures timed { IfOk result (λ c. IsTimed ⟦<Request as Ord>⟧.cmp (allowed_units settings.now) c.untimed c.timed (plain_of c.report).loops) }
+    ensures timed { IfOk result (λ c. IsTimed (allowed_units settings.now) c.untimed c.timed (plain_of c.report).loops) }
     ensures kept { IfOk result (λ c. KeepsSettings (plain_of c.report) settings.now) }
     ensures longer { IfOk result (λ c. EachNodeCounts c.timed.nodes.items (plain_of c.report)) }
 {
@@ -169,7 +173,7 @@ pub fn compile_expanded(
 /// Compiles a program without faults. It is refused where it is too large once its calls are expanded.
 pub fn compile(alloc: Global, checked: &Checked, settings: &Settings) -> Result<Compiled, Fail>
     ensures report { IfOk result (λ c. IsReportOf (plain_of c.report) settings.now c.timed (netlist_of c.design)) }
-    ensures timed { IfOk result (λ c. IsTimed ⟦<Request as Ord>⟧.cmp (allowed_units settings.now) c.untimed c.timed (plain_of c.report).loops) }
+    ensures timed { IfOk result (λ c. IsTimed (allowed_units settings.now) c.untimed c.timed (plain_of c.report).loops) }
     ensures kept { IfOk result (λ c. KeepsSettings (plain_of c.report) settings.now) }
     ensures longer { IfOk result (λ c. EachNodeCounts c.timed.nodes.items (plain_of c.report)) }
 {

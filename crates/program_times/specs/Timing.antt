@@ -2,7 +2,8 @@
 use Rattle.std.specs.Prelude.{◌≡◌, ℕ, ◌-◌, ◌*◌, ◌<◌, ◌==◌, List, [], ◌∷◌, ◌++◌, map, Option, Some, None, Vec}
 use Rattle.std.specs.declared.alloc.Global.{Global}
 use Rattle.std.specs.declared.cmp.Ordering.{Ordering}
-use Rattle.std.specs.Ordering.{is_lt}
+use Rattle.std.specs.declared.cmp.Ordering.TheVariants.{Less, Greater}
+use Rattle.std.specs.Ordering.{is_lt, nat_cmp, ordering_then}
 use Rattle.std.specs.List.{All, sum_by, filter}
 use Rattle.std.specs.List.Sorted.{IsPermutation, IsSortedBy}
 use Rattle.hls_base.specs.declared.settings.Units.{Units}
@@ -13,6 +14,8 @@ use Rattle.ir_core.specs.declared.cfg.Memory.{Memory}
 use Rattle.ir_core.specs.declared.cfg.Node.{Node}
 use Rattle.ir_core.specs.declared.cfg.Node.TheVariants as n
 use Rattle.ir_core.specs.declared.stamp.Untimed.{Untimed}
+use Rattle.ir_operation.specs.declared.timing.UnitClass.{UnitClass}
+use Rattle.ir_operation.specs.declared.timing.UnitClass.TheVariants as u
 use Rattle.clock_ir.specs.declared.timed.Timed.{Timed}
 use Rattle.dep_graph.specs.declared.edge.Edge.{Edge}
 use Rattle.dep_graph.specs.Dependences.{edges_of}
@@ -61,17 +64,35 @@ pub record ShowsLeast (row : PlainLoop) : Type 0 where
 
 -- ---- nodes with times
 
-module _ (order : Request → Request → Ordering) (memories : List Memory) (units : Units) where
+-- multipliers, then dividers, each by their width, then the ports of each array
+abbrev pub class_order : UnitClass → UnitClass → Ordering
+class_order (u.Multiplier x) (u.Multiplier y) = nat_cmp x y
+class_order (u.Multiplier x) (u.Divider y) = Less
+class_order (u.Multiplier x) (u.Port y) = Less
+class_order (u.Divider x) (u.Multiplier y) = Greater
+class_order (u.Divider x) (u.Divider y) = nat_cmp x y
+class_order (u.Divider x) (u.Port y) = Less
+class_order (u.Port x) (u.Multiplier y) = Greater
+class_order (u.Port x) (u.Divider y) = Greater
+class_order (u.Port x) (u.Port y) = nat_cmp x.0 y.0
+
+-- requests for units are served by class, then by the time at which they could start, then by number
+abbrev pub request_order : Request → Request → Ordering
+request_order p q =
+    ordering_then (class_order p.class q.class)
+    (ordering_then (nat_cmp p.time q.time) (ordering_then (nat_cmp p.op q.op) (nat_cmp p.occupancy q.occupancy)))
+
+module _ (memories : List Memory) (units : Units) where
   -- a block keeps its edges within the iteration, and the order of its units
   abbrev pub IsTimedBlock : Block Untimed → Block Timed → Type 0
   IsTimedBlock block timed =
-      (binding : Binding) × (IsBoundBy order block.body memories (edges_within block.body) units binding
+      (binding : Binding) × (IsBoundBy request_order block.body memories (edges_within block.body) units binding
       × IsScheduled block (edges_within block.body) binding timed)
 
   -- a loop keeps all its edges, and the order of its units, at the least interval; the report has its row
   abbrev pub IsTimedLoop : Loop Untimed → Loop Timed → PlainLoop → Type 0
   IsTimedLoop region timed row =
-      (binding : Binding) × ((made : Pipelined) × (IsBoundBy order region.body memories (edges_of region.body) units binding
+      (binding : Binding) × ((made : Pipelined) × (IsBoundBy request_order region.body memories (edges_of region.body) units binding
       × HasLeastInterval region (edges_of region.body) binding made
       × (timed ≡ made.region)
       × (row ≡ loop_row made)))
@@ -91,10 +112,10 @@ module _ (order : Request → Request → Ordering) (memories : List Memory) (un
   AreTimed (node ∷ nodes) (timed ∷ more) rows =
       (own : List PlainLoop) × ((rest : List PlainLoop) × ((rows ≡ own ++ rest) × IsTimedNode node timed own × AreTimed nodes more rest))
 
--- The nodes with their times, and the rows of the loops in the order of their points. Requests for units are served in the order that is given.
-pub record AreTimedAs (order : Request → Request → Ordering) (memories : List Memory) (units : Units) (nodes : List (Node Untimed)) (timed : List (Node Timed)) (rows : List PlainLoop) : Type 0 where
+-- The nodes with their times, and the rows of the loops in the order of their points.
+pub record AreTimedAs (memories : List Memory) (units : Units) (nodes : List (Node Untimed)) (timed : List (Node Timed)) (rows : List PlainLoop) : Type 0 where
   pub found : List PlainLoop
-  pub each : AreTimed order memories units nodes timed found
+  pub each : AreTimed memories units nodes timed found
   pub moved : IsPermutation found rows
   pub sorted : IsSortedBy (λ x y. is_lt (point_order x.point y.point)) rows
   pub least : All ShowsLeast rows

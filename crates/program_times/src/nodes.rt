@@ -7,7 +7,6 @@ ghost use Rattle.cycle_report.specs.PlainReport.{loop_of};
 ghost use Rattle.report_rows.specs.Points.{point_order};
 ghost use Rattle.program_times.specs.Timing.{printed_edge, printed_cycle, IsTimedBlock, IsTimedLoop, IsTimedNode, AreTimed, AreTimedAs};
 
-use report_rows::points::compare;
 use block_schedule::schedule::schedule;
 use clock_ir::timed::Timed;
 use cycle_report::report::{Edge4, LoopRow};
@@ -17,8 +16,9 @@ use hls_base::settings::Units;
 use ir_core::cfg::{Block, Loop, Memory, Node};
 use ir_core::stamp::Untimed;
 use modulo_loop::pipeline::pipeline;
+use report_rows::points::compare;
 use std::alloc::{AllocError, Global};
-use unit_binding::bind::{Request, bind};
+use unit_binding::bind::bind;
 
 /// Nodes with times, and what the report says of the overlapped loops.
 #[derive(Debug, Drop)]
@@ -46,7 +46,7 @@ fn timed_block(
     memories: &[Memory],
     units: Units,
 ) -> Result<Block<Timed>, AllocError>
-    ensures { IfOk result (IsTimedBlock ⟦<Request as Ord>⟧.cmp memories.now units block.now) }
+    ensures { IfOk result (IsTimedBlock memories.now units block.now) }
 {
     let all = edges(alloc, &block.body)?;
     let within = within_iteration(alloc, all.as_slice())?;
@@ -88,7 +88,7 @@ fn timed_loop(
     memories: &[Memory],
     units: Units,
 ) -> Result<(Loop<Timed>, LoopRow), AllocError>
-    ensures { IfOk result (λ made. IsTimedLoop ⟦<Request as Ord>⟧.cmp memories.now units region.now made.0 (loop_of made.1)) }
+    ensures { IfOk result (λ made. IsTimedLoop memories.now units region.now made.0 (loop_of made.1)) }
 {
     let all = edges(alloc, &region.body)?;
     let constraints = all.as_slice();
@@ -110,7 +110,7 @@ fn timed_node(
     memories: &[Memory],
     units: Units,
 ) -> Result<(Node<Timed>, Option<LoopRow>), AllocError>
-    ensures { IfOk result (λ made. IsTimedNode ⟦<Request as Ord>⟧.cmp memories.now units node.now made.0 (map loop_of (option_to_list made.1))) }
+    ensures { IfOk result (λ made. IsTimedNode memories.now units node.now made.0 (map loop_of (option_to_list made.1))) }
 {
     match node {
         Node::Plain(block) => {
@@ -140,7 +140,7 @@ fn all_timed(
     memories: &[Memory],
     units: Units,
 ) -> Result<TimedNodes, AllocError>
-    ensures { IfOk result (λ made. AreTimed ⟦<Request as Ord>⟧.cmp memories.now units nodes.now made.nodes.items (map loop_of made.loops.items)) }
+    ensures { IfOk result (λ made. AreTimed memories.now units nodes.now made.nodes.items (map loop_of made.loops.items)) }
 {
     let mut timed = Vec::with_capacity(alloc, nodes.len())?;
     let mut loops = Vec::new(alloc);
@@ -172,7 +172,7 @@ pub fn timed_nodes(
     memories: &[Memory],
     units: Units,
 ) -> Result<TimedNodes, AllocError>
-    ensures { IfOk result (λ made. AreTimedAs ⟦<Request as Ord>⟧.cmp memories.now units nodes.now made.nodes.items (map loop_of made.loops.items)) }
+    ensures { IfOk result (λ made. AreTimedAs memories.now units nodes.now made.nodes.items (map loop_of made.loops.items)) }
 {
     let TimedNodes { nodes, loops } = all_timed(alloc, nodes, memories, units)?;
     Ok(TimedNodes {

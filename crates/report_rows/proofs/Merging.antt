@@ -28,9 +28,10 @@ Ascends (cost ∷ costs) = All (λ later. NotAfter cost.point later.point) costs
 
 ascends : (costs : List Cost) → ((i j : ℕ) (d : Cost) → i ≤ j → j < length costs → NotAfter (slice_index_or costs i d).point (slice_index_or costs j d).point) → Ascends costs
 ascends [] h = tt
-ascends (cost ∷ costs) h =
-    (λ k d l. h 0 (suc k) d (omega arith) (omega arith),
-    ascends costs (λ i j d a b. h (suc i) (suc j) d (omega arith) (omega arith)))
+ascends (cost ∷ costs) h = (
+  λ k d l. h 0 (suc k) d (omega arith) (omega arith),
+  ascends costs (λ i j d a b. h (suc i) (suc j) d (omega arith) (omega arith)),
+)
 
 abbrev comes_first : Cost → Cost → Bool
 comes_first x y = is_lt (point_order x.point y.point)
@@ -38,7 +39,7 @@ comes_first x y = is_lt (point_order x.point y.point)
 ascends_sorted : (costs : List Cost) → IsSortedBy comes_first costs → Ascends costs
 ascends_sorted costs up =
     ascends costs (λ i j d a b. not_after (slice_index_or costs i d).point (slice_index_or costs j d).point
-        (sorted_far comes_first (ranks_by point_total (λ (c : Cost). c.point)) costs up i j d a b))
+    (sorted_far comes_first (ranks_by point_total (λ (c : Cost). c.point)) costs up i j d a b))
 
 -- ---- one more row
 
@@ -66,10 +67,11 @@ rows_rise : (rows : List Cost) (cost : Cost) → Rises rows → All (λ row. Not
 rows_rise [] cost r h = (All-nil (λ (later : Cost). IsBefore cost.point later.point), tt)
 rows_rise (last ∷ []) cost r h = last_rises last cost (point_order last.point cost.point) refl (All-head (λ (row : Cost). NotAfter row.point cost.point) last [] h)
 rows_rise (row ∷ next ∷ rows) cost r h =
-    let later : All (λ row. NotAfter row.point cost.point) (next ∷ rows) = All-tail (λ (row : Cost). NotAfter row.point cost.point) row (next ∷ rows) h in
-    (rows_keep (λ (p : Point). IsBefore row.point p) (next ∷ rows) cost r.0
-        (before_then row.point next.point cost.point (All-head (λ (later : Cost). IsBefore row.point later.point) next rows r.0) (All-head (λ (row : Cost). NotAfter row.point cost.point) next rows later)),
-    rows_rise (next ∷ rows) cost r.1 later)
+    let later : All (λ row. NotAfter row.point cost.point) (next ∷ rows) = All-tail (λ (row : Cost). NotAfter row.point cost.point) row (next ∷ rows) h in (
+      rows_keep (λ (p : Point). IsBefore row.point p) (next ∷ rows) cost r.0
+          (before_then row.point next.point cost.point (All-head (λ (later : Cost). IsBefore row.point later.point) next rows r.0) (All-head (λ (row : Cost). NotAfter row.point cost.point) next rows later)),
+      rows_rise (next ∷ rows) cost r.1 later,
+    )
 
 abbrev IsSome : Cost → Type 0
 IsSome cost = 0 < cost.cost
@@ -122,8 +124,12 @@ module _ (weight : Point → ℕ) where
   node_sum : (node : Node Timed) → weighed weight (some_costs node) ≡ weighed weight (node_costs node)
   node_sum (n.Plain block) = omega (arith, some_sum block.point block.length)
   node_sum (n.Looped region) =
-      omega (arith, some_sum region.point region.ii, some_sum (end_of region.point) (region.exit + 2),
-          sum_by-append part (some_cost region.point region.ii) (some_cost (end_of region.point) (region.exit + 2)))
+      omega (
+        arith,
+        some_sum region.point region.ii,
+        some_sum (end_of region.point) (region.exit + 2),
+        sum_by-append part (some_cost region.point region.ii) (some_cost (end_of region.point) (region.exit + 2)),
+      )
 
   nodes_sum : (nodes : List (Node Timed)) → weighed weight (flat_map some_costs nodes) ≡ weighed weight (costs_of nodes)
   nodes_sum [] = refl
@@ -195,11 +201,15 @@ product (suc a) b p q = omega arith
 
 pub each_counts : (nodes : List (Node Timed)) (rows : List Cost) → AreRowsOf nodes rows → EachCounts nodes rows
 each_counts nodes rows are node tally (k, l, e) counts passed =
-    omega (arith, are.sums (count_in tally), by_node (count_in tally) nodes,
-        get_or-le-sum_by (λ (node : Node Timed). weighed (count_in tally) (node_costs node)) nodes k node l,
-        ap (λ (node : Node Timed). weighed (count_in tally) (node_costs node)) e,
-        own_part (count_in tally) node,
-        product (own_cost node) (count_in tally (node_point node)) counts passed)
+    omega (
+      arith,
+      are.sums (count_in tally),
+      by_node (count_in tally) nodes,
+      get_or-le-sum_by (λ (node : Node Timed). weighed (count_in tally) (node_costs node)) nodes k node l,
+      ap (λ (node : Node Timed). weighed (count_in tally) (node_costs node)) e,
+      own_part (count_in tally) node,
+      product (own_cost node) (count_in tally (node_point node)) counts passed,
+    )
 
 -- ---- a last row and one more cost
 

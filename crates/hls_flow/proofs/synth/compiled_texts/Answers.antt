@@ -8,5 +8,5 @@ returns c = record {
   report_is = c.in_ok-report.ensures;
   design = netlist_of c.in_ok-compiled.compiled.design;
   module_is = c.in_ok-module.ensures.text;
-  resources = c.in_ok-compiled.ensures;
+  resources = c.in_ok-compiled.ensures.report.built;
 }

@@ -10,7 +10,16 @@ powers = 2 ∷ 4 ∷ 8 ∷ 16 ∷ 32 ∷ 64 ∷ 128 ∷ 256 ∷ 512 ∷ 1024 ∷
 
 pub loop-power-preserved : goal.loop-power-preserved
 loop-power-preserved c = elim c.if-power-length.branch [
-    then-power-length w ↦ omega (arith, w.bits-is, c.loop-power.invariant,
-        count_by_more_yes (λ power. nat_lt power c.args.length) powers c.loop-power.power-index 0 c.loop-power-test.true (lt-ltb (get_or powers c.loop-power.power-index 0) c.args.length w.if-power-length.true))
-  | else-power-length w ↦ omega (arith, w.bits-is, c.loop-power.invariant,
-        count_by_more_no (λ power. nat_lt power c.args.length) powers c.loop-power.power-index 0 c.loop-power-test.true (le-ltb (get_or powers c.loop-power.power-index 0) c.args.length w.if-power-length.false)) ]
+  | then-power-length w ↦ omega (
+    arith,
+    w.bits-is,
+    c.loop-power.invariant,
+    count_by_more_yes (λ power. nat_lt power c.args.length) powers c.loop-power.power-index 0 c.loop-power-test.true (lt-ltb (get_or powers c.loop-power.power-index 0) c.args.length w.if-power-length.true),
+  )
+  | else-power-length w ↦ omega (
+    arith,
+    w.bits-is,
+    c.loop-power.invariant,
+    count_by_more_no (λ power. nat_lt power c.args.length) powers c.loop-power.power-index 0 c.loop-power-test.true (le-ltb (get_or powers c.loop-power.power-index 0) c.args.length w.if-power-length.false),
+  )
+]
