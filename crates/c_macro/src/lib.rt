@@ -38,6 +38,3 @@ pub fn replace(alloc: Global, tokens: &[Token]) -> Result<Vec<Token>, Fail>
     }
     Ok(reader.into_tokens())
 }
-
-#[cfg(test)]
-mod tests;

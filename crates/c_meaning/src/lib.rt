@@ -13,6 +13,4 @@ pub mod object;
 pub mod outcome;
 pub mod run;
 pub mod store;
-#[cfg(test)]
-mod tests;
 pub mod value;

@@ -7,5 +7,3 @@ mod lines;
 pub mod print;
 pub mod read;
 pub mod report;
-#[cfg(test)]
-mod tests;

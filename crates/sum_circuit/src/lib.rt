@@ -2,5 +2,3 @@
 #![tactic(auto)]
 
 pub mod circuit;
-#[cfg(test)]
-mod tests;

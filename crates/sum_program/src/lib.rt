@@ -4,5 +4,3 @@
 mod form;
 pub mod program;
 pub mod read;
-#[cfg(test)]
-mod tests;

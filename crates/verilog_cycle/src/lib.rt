@@ -8,7 +8,5 @@ mod expression;
 mod program;
 mod run;
 pub mod sim;
-#[cfg(test)]
-mod tests;
 mod values;
 mod word;

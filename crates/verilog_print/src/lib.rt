@@ -5,5 +5,3 @@ mod blocks;
 mod declarations;
 mod expressions;
 pub mod printer;
-#[cfg(test)]
-mod tests;

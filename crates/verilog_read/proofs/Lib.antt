@@ -51,4 +51,3 @@ pub mod OnePlacing
 pub mod OneFault
 pub mod Texts
 pub mod Examples
-pub mod PrintableNames

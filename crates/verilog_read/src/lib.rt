@@ -26,8 +26,6 @@ mod module;
 mod names;
 mod number;
 mod parser;
-#[cfg(test)]
-mod tests;
 mod token;
 mod widths;
 
