@@ -1,0 +1,4 @@
+pub mod Addresses
+pub mod FunctionPins
+pub mod Host
+pub mod ModuleRun

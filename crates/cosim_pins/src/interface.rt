@@ -1,8 +1,16 @@
 //! The pins of a function's module.
+ghost use Rattle.std.specs.Prelude.{◌≡◌, ◌↔◌, ◌++◌, ◌∷◌, [], IfOk, OnOk, IsTrue, codes, decimal, map};
+ghost use Rattle.c_tree.specs.View.{param_of, function_of};
+ghost use Rattle.rtl_core.specs.declared.design.Pin.{Pin};
+ghost use Rattle.rtl_core.specs.Netlist.{netlist_of};
+ghost use Rattle.rtl_core.specs.Interface.{pin, argument_pins, input_pins, output_pins, outer};
+ghost use Rattle.cosim_pins.specs.FunctionPins.{scalar_bits, array_shapes, interface_of, plain, shape_of, HasPins};
+
 use c_meaning::lengths::lengths;
 use c_tree::function::{Function, Param};
 use c_value::kind::width;
 use hls_base::text::Text;
+use itoa::Buffer;
 use rtl_core::design::{Design, OutPin, Pin};
 use std::alloc::{AllocError, Global};
 
@@ -21,78 +29,110 @@ pub struct Interface {
     pub result: Option<u8>,
 }
 
-fn add_param(alloc: Global, interface: &mut Interface, param: &Param) -> Result<(), AllocError> {
-    let bits = width(param.object.kind);
-    if param.object.lengths.is_empty() {
-        interface.scalars.push(bits)?;
-    } else {
-        let lengths = lengths(alloc, &param.object)?;
-        interface.arrays.push(HostArray { bits, lengths })?;
+/// Adds the pins and arrays of these parameters.
+fn add_params(
+    alloc: Global,
+    scalars: &mut Vec<u8>,
+    arrays: &mut Vec<HostArray>,
+    params: &[Param],
+) -> Result<(), AllocError>
+    ensures scalars { OnOk result (scalars.new.items ≡ scalars.old.items ++ scalar_bits (map param_of params.now)) }
+    ensures arrays { OnOk result (map shape_of arrays.new.items ≡ map shape_of arrays.old.items ++ array_shapes (map param_of params.now)) }
+{
+    for param in params {
+        let bits = width(param.object.kind);
+        if param.object.lengths.is_empty() {
+            scalars.push(bits)?;
+        } else {
+            let lengths = lengths(alloc, &param.object)?;
+            arrays.push(HostArray { bits, lengths })?;
+        }
     }
     Ok(())
 }
 
 /// The interface of a function.
-pub fn interface_of(alloc: Global, function: &Function) -> Result<Interface, AllocError> {
+pub fn interface_of(alloc: Global, function: &Function) -> Result<Interface, AllocError>
+    ensures { IfOk result (λ i. plain i ≡ interface_of (function_of function.now)) }
+{
     let result = match function.result {
         Some(kind) => Some(width(kind)),
         None => None,
     };
-    let mut interface = Interface {
-        scalars: Vec::new(alloc),
-        arrays: Vec::new(alloc),
+    let mut scalars = Vec::new(alloc);
+    let mut arrays = Vec::new(alloc);
+    add_params(alloc, &mut scalars, &mut arrays, &function.params)?;
+    Ok(Interface {
+        scalars,
+        arrays,
         result,
-    };
-    for param in &function.params {
-        add_param(alloc, &mut interface, param)?;
-    }
-    Ok(interface)
+    })
 }
 
-fn add_pin(alloc: Global, pins: &mut Vec<Pin>, name: &[u8], bits: u8) -> Result<(), AllocError> {
+fn named(alloc: Global, name: &[u8], bits: u8) -> Result<Pin, AllocError>
+    ensures { IfOk result (λ p. p ≡ pin name.now bits) }
+{
     let name = Text::from_slice(alloc, name)?;
-    pins.push(Pin { name, bits })?;
+    Ok(Pin { name, bits })
+}
+
+fn argument(alloc: Global, number: u64, bits: u8) -> Result<Pin, AllocError>
+    ensures { IfOk result (λ p. p ≡ pin (codes "arg_" ++ decimal number) bits) }
+{
+    let mut bytes = Vec::from_slice(alloc, b"arg_")?;
+    bytes.extend_from_slice(Buffer::new().format(number).as_bytes())?;
+    let name = Text::new(bytes);
+    Ok(Pin { name, bits })
+}
+
+fn push_arguments(alloc: Global, all: &mut Vec<Pin>, scalars: &[u8]) -> Result<(), AllocError>
+    ensures { OnOk result (all.new.items ≡ all.old.items ++ argument_pins 0 scalars.now) }
+{
+    for k in 0..scalars.len() {
+        all.push(argument(alloc, k as u64, scalars[k])?)?;
+    }
     Ok(())
 }
 
-/// The inputs that every module has.
-fn fixed_inputs(alloc: Global) -> Result<Vec<Pin>, AllocError> {
-    let mut pins = Vec::new(alloc);
-    add_pin(alloc, &mut pins, b"reset", 1)?;
-    add_pin(alloc, &mut pins, b"start", 1)?;
-    add_pin(alloc, &mut pins, b"h_en", 1)?;
-    add_pin(alloc, &mut pins, b"h_we", 1)?;
-    add_pin(alloc, &mut pins, b"h_sel", 5)?;
-    add_pin(alloc, &mut pins, b"h_addr", 16)?;
-    add_pin(alloc, &mut pins, b"h_wdata", 64)?;
-    Ok(pins)
+fn inputs_of(alloc: Global, interface: &Interface) -> Result<Vec<Pin>, AllocError>
+    ensures { IfOk result (λ v. v.items ≡ input_pins (plain interface.now)) }
+{
+    let mut all = vec![in alloc;
+        named(alloc, b"reset", 1)?,
+        named(alloc, b"start", 1)?,
+        named(alloc, b"h_en", 1)?,
+        named(alloc, b"h_we", 1)?,
+        named(alloc, b"h_sel", 5)?,
+        named(alloc, b"h_addr", 16)?,
+        named(alloc, b"h_wdata", 64)?,
+    ]?;
+    push_arguments(alloc, &mut all, &interface.scalars)?;
+    Ok(all)
 }
 
-fn input_pins(alloc: Global, interface: &Interface) -> Result<Vec<Pin>, AllocError> {
-    let mut pins = fixed_inputs(alloc)?;
-    for k in 0..interface.scalars.len() {
-        let name = format!(in alloc; "arg_{k}")?;
-        add_pin(alloc, &mut pins, name.as_bytes(), interface.scalars[k])?;
-    }
-    Ok(pins)
-}
-
-fn output_pins(alloc: Global, interface: &Interface) -> Result<Vec<Pin>, AllocError> {
-    let mut pins = Vec::new(alloc);
-    add_pin(alloc, &mut pins, b"ready", 1)?;
-    add_pin(alloc, &mut pins, b"done", 1)?;
-    add_pin(alloc, &mut pins, b"h_rdata", 64)?;
+fn outputs_of(alloc: Global, interface: &Interface) -> Result<Vec<Pin>, AllocError>
+    ensures { IfOk result (λ v. v.items ≡ output_pins (plain interface.now)) }
+{
+    let mut all = vec![in alloc;
+        named(alloc, b"ready", 1)?,
+        named(alloc, b"done", 1)?,
+        named(alloc, b"h_rdata", 64)?,
+    ]?;
     if let Some(bits) = interface.result {
-        add_pin(alloc, &mut pins, b"ret", bits)?;
+        all.push(named(alloc, b"ret", bits)?)?;
     }
-    Ok(pins)
+    Ok(all)
 }
 
-fn is_pin(name: &Text, bits: u8, wanted: &Pin) -> bool {
+fn is_pin(name: &Text, bits: u8, wanted: &Pin) -> bool
+    ensures { IsTrue result ↔ (pin name.now bits ≡ wanted.now) }
+{
     bits == wanted.bits && name.is_same(wanted.name.items())
 }
 
-fn have_inputs(inputs: &[Pin], wanted: &[Pin]) -> bool {
+fn have_inputs(inputs: &[Pin], wanted: &[Pin]) -> bool
+    ensures { IsTrue result ↔ (inputs.now ≡ wanted.now) }
+{
     if inputs.len() != wanted.len() {
         return false;
     }
@@ -105,7 +145,9 @@ fn have_inputs(inputs: &[Pin], wanted: &[Pin]) -> bool {
     true
 }
 
-fn have_outputs(outputs: &[OutPin], wanted: &[Pin]) -> bool {
+fn have_outputs(outputs: &[OutPin], wanted: &[Pin]) -> bool
+    ensures { IsTrue result ↔ (map outer outputs.now ≡ wanted.now) }
+{
     if outputs.len() != wanted.len() {
         return false;
     }
@@ -119,8 +161,10 @@ fn have_outputs(outputs: &[OutPin], wanted: &[Pin]) -> bool {
 }
 
 /// Whether a circuit has exactly the pins of this interface.
-pub fn has_pins(alloc: Global, design: &Design, interface: &Interface) -> Result<bool, AllocError> {
-    let inputs = input_pins(alloc, interface)?;
-    let outputs = output_pins(alloc, interface)?;
+pub fn has_pins(alloc: Global, design: &Design, interface: &Interface) -> Result<bool, AllocError>
+    ensures { IfOk result (λ has. IsTrue has ↔ HasPins (netlist_of design.now) (plain interface.now)) }
+{
+    let inputs = inputs_of(alloc, interface)?;
+    let outputs = outputs_of(alloc, interface)?;
     Ok(have_inputs(&design.inputs, &inputs) && have_outputs(&design.outputs, &outputs))
 }

@@ -33,7 +33,8 @@ use Rattle.sum_circuit.specs.SumCircuit.{sum_interface, AnswersWithSum, sum_netl
 use Rattle.sum_circuit.proofs.SumAgrees.{sum_agrees_with}
 use Rattle.sum_circuit.proofs.Names.{all_by}
 use Rattle.hls_flow.specs.FirstFault.{IsFound, IsTopFunction}
-use Rattle.hls_flow.specs.CBox.{scalar_bits, array_shapes, interface_of, ends, is_undefined, is_endless, c_answers}
+use Rattle.cosim_pins.specs.FunctionPins.{scalar_bits, array_shapes, interface_of}
+use Rattle.hls_flow.specs.CBox.{ends, is_undefined, is_endless, c_answers}
 use Rattle.hls_flow.specs.Synthesis.{AreInRange, SynthesisIsCorrect}
 use Rattle.hls_flow.specs.SumReport.{sum_report}
 use Rattle.hls_flow.proofs.Words.{name_test}

@@ -13,7 +13,8 @@ use Rattle.cycle_report.specs.ReportForm.{IsReport}
 use Rattle.compile_flow.specs.Reports.{ReportsDesign}
 use Rattle.sum_program.specs.declared.program.Sum.{Sum}
 use Rattle.hls_flow.specs.FirstFault.{IsTheProgramOf, IsTopFunction, IsSumSource}
-use Rattle.hls_flow.specs.CBox.{interface_of, c_answers}
+use Rattle.cosim_pins.specs.FunctionPins.{interface_of}
+use Rattle.hls_flow.specs.CBox.{c_answers}
 
 -- the ranges of the numbers that a user can ask for
 pub record AreInRange (s : Settings) : Type 0 where

@@ -1,9 +1,8 @@
 -- What a run file gives fits the parameters.
-use Rattle.std.proofs.Common.{◌≡◌, ℕ, ℤ, pos, negsuc, zero, suc, ◌+◌, ◌^◌, ◌<◌, ◌≤◌, ◌==◌, ◌&&◌, not, nat_lt, Bool, true, false, List, [], ◌∷◌, ◌++◌, map, length, Option, Some, None, bytes_eq, slice_get, IsTrue, IfOk, Result, Ok, Err, refl, sym, ap, ◌∙◌, subst, arith, inl, inr}
-use Rattle.std.specs.List.{list_all}
+use Rattle.std.proofs.Common.{◌≡◌, ℕ, ℤ, pos, negsuc, zero, suc, ◌+◌, ◌^◌, ◌<◌, ◌≤◌, ◌==◌, nat_lt, true, List, [], ◌∷◌, map, length, Option, Some, None, bytes_eq, slice_get, IsTrue, IfOk, Result, Ok, Err, refl, sym, ap, ◌∙◌, subst, arith, inl, inr}
 use Rattle.std.specs.Str.Lines.{lines}
 use Rattle.std.specs.Option.{option_and_then}
-use Rattle.std.proofs.lemmas.Bool.{cases_Bool, cases_eq, eqb-true, lt-ltb, and_from, and_parts, not-true, not-false}
+use Rattle.std.proofs.lemmas.Bool.{cases_Bool, eqb-true, lt-ltb, and_from, and_parts, not-false}
 use Rattle.std.proofs.lemmas.Nat.{pow_pos}
 use Rattle.std.proofs.lemmas.List.{nil_from_length}
 use Rattle.hls_base.specs.ArrayAddress.{element_count}
@@ -18,7 +17,7 @@ use Rattle.run_file.specs.declared.row.Row.{Row}
 use Rattle.run_file.specs.declared.row.Row.TheVariants as row
 use Rattle.run_file.specs.Numerals.{bits_of_number, bits_of_word, bits_of_words, first_and_others, number_of_word}
 use Rattle.run_file.specs.Rows.{is_blank, words_of, gives_or_refused, given_to, given_by_name, row_of_words, row_of}
-use Rattle.run_file.specs.RunFile.{given_in, first_refused, Reading, inputs, refused, with_first, with_parameter, inputs_from, reading_unless, rows_reading, rows_of, reading_of}
+use Rattle.run_file.specs.RunFile.{given_in, first_refused, Reading, inputs, refused, with_first, with_parameter, inputs_from, reading_unless, rows_of, reading_of}
 
 -- ---- bits fit their type
 

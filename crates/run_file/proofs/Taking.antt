@@ -1,8 +1,8 @@
 -- Rows that are taken one after another.
-use Rattle.std.proofs.Common.{◌≡◌, ◌≢◌, ℕ, zero, suc, ◌+◌, ◌-◌, ◌^◌, ◌<◌, ◌≤◌, ◌==◌, not, Bool, true, false, if◌then◌else◌, cond, List, [], ◌∷◌, ◌++◌, map, length, get_or, drop, drop-cons, replicate, slice_index_or, slice_set, Option, Some, None, is_some, bytes_eq, refl, sym, ap, ◌∙◌, subst, arith, inl, inr, append_assoc, length-append, add-one}
+use Rattle.std.proofs.Common.{◌≡◌, ℕ, suc, ◌+◌, ◌<◌, ◌≤◌, ◌==◌, not, Bool, true, false, List, [], ◌∷◌, ◌++◌, map, length, get_or, drop, drop-cons, replicate, slice_index_or, slice_set, Option, Some, None, is_some, bytes_eq, refl, sym, ap, ◌∙◌, subst, arith, inl, inr, append_assoc, length-append, add-one}
 use Rattle.std.specs.Str.Lines.{lines}
-use Rattle.std.proofs.lemmas.Bool.{cases_Bool, cases_eq, eq-eqb, ne_eqb, not-true, not-false, le-ltb, lt-ltb}
-use Rattle.std.proofs.lemmas.List.{get_or-set_same, get_or-set_other, get_or-replicate, length-replicate, length-set, length-map, append-nil}
+use Rattle.std.proofs.lemmas.Bool.{cases_Bool, cases_eq, eq-eqb, ne_eqb, not-false, le-ltb, lt-ltb}
+use Rattle.std.proofs.lemmas.List.{get_or-set_same, get_or-set_other, get_or-replicate, length-replicate, length-set, append-nil}
 use Rattle.hls_base.specs.ArrayAddress.{element_count}
 use Rattle.c_tree.specs.Tree.{ObjectTree, ParamTree}
 use Rattle.c_tree.specs.declared.function.Param.{Param}
@@ -13,7 +13,7 @@ use Rattle.run_file.specs.declared.row.Row.{Row}
 use Rattle.run_file.specs.declared.row.Row.TheVariants as row
 use Rattle.run_file.specs.Numerals.{bits_of_words}
 use Rattle.run_file.specs.Rows.{is_blank, words_of, gives_or_refused, given_to, given_by_name, row_of_words, row_of, IsInside}
-use Rattle.run_file.specs.RunFile.{given_in, is_refused, first_refused, Reading, inputs, refused, with_first, with_parameter, inputs_from, reading_unless, rows_reading, rows_of, reading_of, is_taken, given_row, behind_row, AreGiven, AreTaken, with_front}
+use Rattle.run_file.specs.RunFile.{given_in, is_refused, first_refused, Reading, inputs, refused, with_first, with_parameter, inputs_from, rows_reading, rows_of, reading_of, is_taken, given_row, behind_row, AreGiven, AreTaken, with_front}
 
 -- ---- a row gives to a parameter that there is
 

@@ -1,5 +1,5 @@
 -- What a line of a run file says: nothing where it is empty or begins with `#`, and else `NAME = V V ..`, with one or more spaces between words.
-use Rattle.std.specs.Prelude.{◌==◌, ◌||◌, not, Bool, true, false, ℕ, suc, ◌-◌, List, [], ◌∷◌, length, filter, slice_index, codes, bytes_eq, map, ◌<◌, Option, Some, None, if◌then◌else◌}
+use Rattle.std.specs.Prelude.{◌==◌, ◌||◌, not, Bool, true, ℕ, suc, ◌-◌, List, [], ◌∷◌, length, filter, slice_index, codes, bytes_eq, map, ◌<◌, Option, Some, None, if◌then◌else◌}
 use Rattle.std.specs.List.{slice_split}
 use Rattle.std.specs.Borrow.{Bor}
 use Rattle.hls_base.specs.ArrayAddress.{element_count}

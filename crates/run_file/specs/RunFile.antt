@@ -1,5 +1,5 @@
 -- What a run file gives to the parameters of a function, or the line of it that is refused: the first that is malformed, names no parameter, is doubled, or has a wrong number of values or one out of range; and where a parameter is missing, the one behind the last.
-use Rattle.std.specs.Prelude.{◌≡◌, ◌==◌, Bool, true, false, ℕ, zero, suc, ◌+◌, List, [], ◌∷◌, ◌++◌, length, map, is_some, nat_lt, not, ◌<◌, ◌-◌, ◌^◌, slice_index_or, slice_set, Option, Some, None, if◌then◌else◌}
+use Rattle.std.specs.Prelude.{◌≡◌, ◌==◌, Bool, true, false, ℕ, suc, ◌+◌, List, [], ◌∷◌, ◌++◌, length, map, is_some, nat_lt, not, ◌<◌, ◌-◌, ◌^◌, slice_index_or, slice_set, Option, Some, None, if◌then◌else◌}
 use Rattle.std.specs.Str.Lines.{lines}
 use Rattle.c_tree.specs.Tree.{ParamTree}
 use Rattle.c_meaning.specs.Run.{is_array_parameter}

@@ -1,4 +1,4 @@
-use Rattle.std.proofs.Common.{◌≡◌, ◌==◌, arith, sym}
+use Rattle.std.proofs.Common.{sym}
 use Rattle.run_file.proofs.TextLines.{lines-ended, lines-last}
 use Rattle.run_file.proofs.line.first_line.Goals as goal
 

@@ -1,4 +1,4 @@
-use Rattle.std.proofs.Common.{◌≡◌, ◌==◌, arith, sym}
+use Rattle.std.proofs.Common.{◌==◌, arith, sym}
 use Rattle.std.proofs.lemmas.List.Sums.{position_or_len_is}
 use Rattle.run_file.proofs.line.line_length.Goals as goal
 

@@ -1,7 +1,7 @@
-use Rattle.std.proofs.Common.{◌≡◌, ℕ, ◌+◌, List, Option, None, map, length, slice_index_or, IfOk, IfErr, sym, subst, arith}
+use Rattle.std.proofs.Common.{◌≡◌, map, IfOk, IfErr, sym, subst, arith}
 use Rattle.std.proofs.lemmas.List.{length-map}
 use Rattle.c_tree.specs.View.{param_of}
-use Rattle.run_file.specs.RunFile.{inputs, inputs_from, reading_of, rows_of, IsCause, AreTaken}
+use Rattle.run_file.specs.RunFile.{inputs, rows_of, IsCause, AreTaken}
 use Rattle.run_file.proofs.Taking.{reading_small}
 use Rattle.run_file.proofs.Fitting.{ok_fits}
 use Rattle.run_file.proofs.read.read.Goals as goal

@@ -1,6 +1,6 @@
 use Rattle.std.proofs.Common.{map, sym}
 use Rattle.c_tree.specs.View.{param_of}
-use Rattle.run_file.proofs.Taking.{row_is_inside, further, stopped}
+use Rattle.run_file.proofs.Taking.{row_is_inside, further}
 use Rattle.run_file.proofs.read.taken_lines.Goals as goal
 
 pub take_row-requires : goal.take_row-requires
