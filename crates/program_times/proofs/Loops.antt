@@ -1,6 +1,5 @@
 -- The rows of the loops, and that each node with times takes a cycle at least.
-use Rattle.std.proofs.Common.{◌≡◌, ℕ, zero, suc, ◌+◌, ◌-◌, ◌*◌, ◌<◌, ◌≤◌, List, [], ◌∷◌, ◌++◌, map, length, get_or, take, Option, Some, None, Vec, append_assoc, append-nil, refl, sym, ap, subst, ◌∙◌, arith}
-use Rattle.std.specs.Prelude.{slice_index_or}
+use Rattle.std.proofs.Common.{◌≡◌, ℕ, ◌+◌, ◌-◌, ◌*◌, ◌<◌, List, [], ◌∷◌, ◌++◌, map, length, get_or, take, Option, Some, None, Vec, append_assoc, append-nil, refl, sym, ap, subst, ◌∙◌, arith}
 use Rattle.std.specs.declared.alloc.Global.{Global}
 use Rattle.std.specs.Prelude.{◌==◌, option_to_list}
 use Rattle.std.specs.Ordering.{is_lt}
@@ -8,11 +7,10 @@ use Rattle.std.specs.List.Sorted.{IsPermutation, IsSortedBy}
 use Rattle.std.proofs.lemmas.List.{take_more, map-append}
 use Rattle.std.proofs.lemmas.List.Sorted.{All-permutation}
 use Rattle.std.specs.List.{All, filter, sum_by}
-use Rattle.std.proofs.lemmas.List.Elements.{All-nil, All-cons, All-same, All-append, All-contains}
-use Rattle.std.proofs.lemmas.List.Sums.{sum_by-cons, sum_by-append, get_or-le-sum_by}
+use Rattle.std.proofs.lemmas.List.Elements.{All-nil, All-cons, All-same, All-append}
+use Rattle.std.proofs.lemmas.List.Sums.{sum_by-cons}
 use Rattle.hls_base.specs.declared.point.Point.{Point}
 use Rattle.hls_base.specs.declared.settings.Units.{Units}
-use Rattle.hls_base.specs.Tallies.{count_in}
 use Rattle.ir_core.specs.declared.cfg.Block.{Block}
 use Rattle.ir_core.specs.declared.cfg.Loop.{Loop}
 use Rattle.ir_core.specs.declared.cfg.Memory.{Memory}
@@ -30,7 +28,6 @@ use Rattle.ir_core.specs.declared.body.Body.{Body}
 use Rattle.block_schedule.specs.Schedules.{IsScheduled}
 use Rattle.modulo_loop.specs.declared.pipeline.Pipelined.{Pipelined}
 use Rattle.modulo_loop.specs.Lowest.{Follows, total_latency, total_distance, IsLowest, HasLeastInterval, edges_of as cycle_of}
-use Rattle.cycle_report.specs.declared.report.Cost.{Cost}
 use Rattle.cycle_report.specs.declared.report.Edge4.{Edge4}
 use Rattle.cycle_report.specs.declared.report.LoopRow.{LoopRow}
 use Rattle.cycle_report.specs.PlainReport.{PlainLoop, loop_of}

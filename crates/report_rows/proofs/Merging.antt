@@ -7,7 +7,7 @@ use Rattle.std.specs.Ordering.{is_lt, is_eq, is_gt}
 use Rattle.std.specs.List.{All, sum_by, flat_map}
 use Rattle.std.specs.List.Sorted.{IsPermutation, IsSortedBy}
 use Rattle.std.proofs.lemmas.Bool.{ltb-true, ltb-false}
-use Rattle.std.proofs.lemmas.List.Elements.{All-nil, All-cons, All-head, All-tail, All-append, All-weaker}
+use Rattle.std.proofs.lemmas.List.Elements.{All-nil, All-cons, All-head, All-tail, All-append}
 use Rattle.std.proofs.lemmas.List.Sums.{sum_by-cons, sum_by-append, get_or-le-sum_by}
 use Rattle.std.proofs.lemmas.List.Sorted.{sorted_far, ranks_by, All-permutation, sum_by-IsPermutation}
 use Rattle.hls_base.specs.declared.point.Point.{Point}

@@ -1,7 +1,6 @@
 -- What each point of a timed program costs.
 use Rattle.std.specs.Prelude.{◌≡◌, ℕ, ◌+◌, ◌*◌, ◌<◌, ◌≤◌, nat_lt, if◌then◌else◌, List, [], ◌∷◌, ◌++◌}
 use Rattle.std.specs.List.{All, Contains, fold, sum_by, flat_map}
-use Rattle.std.specs.declared.cmp.Ordering.{Ordering}
 use Rattle.std.specs.Ordering.{is_eq}
 use Rattle.hls_base.specs.declared.point.Point.{Point}
 use Rattle.hls_base.specs.declared.point.PointKind.TheVariants as kind

@@ -1,5 +1,5 @@
 -- What a circuit is built of, as a report names it.
-use Rattle.std.specs.Prelude.{◌≡◌, ℕ, ◌^◌, not, is_some, List, map, length}
+use Rattle.std.specs.Prelude.{ℕ, ◌^◌, not, is_some, List, map, length}
 use Rattle.std.specs.List.{filter}
 use Rattle.ir_core.specs.declared.cfg.Memory.{Memory as DeclaredMemory}
 use Rattle.rtl_core.specs.Netlist.{Netlist, Memory}
