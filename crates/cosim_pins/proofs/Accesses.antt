@@ -1,15 +1,15 @@
 -- Writes and reads one after another.
-use Rattle.std.proofs.Common.{◌≡◌, ℕ, zero, suc, ◌+◌, ◌-◌, ◌*◌, ◌/◌, ◌%◌, ◌^◌, ◌<◌, ◌≤◌, min, List, [], ◌∷◌, ◌++◌, map, length, get_or, take, drop, drop-cons, replicate, refl, sym, ap, ◌∙◌, subst, arith, add-one, append_assoc}
+use Rattle.std.proofs.Common.{◌≡◌, ℕ, zero, suc, ◌+◌, ◌*◌, ◌/◌, ◌%◌, ◌^◌, ◌<◌, ◌≤◌, min, List, [], ◌∷◌, ◌++◌, map, length, get_or, take, drop, drop-cons, replicate, refl, sym, ap, ◌∙◌, subst, arith, add-one, append_assoc}
 use Rattle.std.proofs.Math.Nat.{add-mul-mod_self_right, mod-add-div'}
 use Rattle.hls_base.specs.ArrayAddress.{addresses}
 use Rattle.rtl_core.specs.Netlist.{Netlist}
 use Rattle.rtl_core.specs.ClockStep.{stepped, outputs}
-use Rattle.rtl_core.specs.Interface.{ArrayShape, read_data_of}
+use Rattle.rtl_core.specs.Interface.{read_data_of}
 use Rattle.verilog_cycle.specs.Simulation.{modulo_widths, reduced_pins}
 use Rattle.cosim_pins.specs.declared.interface.HostArray.{HostArray}
 use Rattle.cosim_pins.specs.Addresses.{in_words}
 use Rattle.cosim_pins.specs.FunctionPins.{shape_of}
-use Rattle.cosim_pins.specs.Host.{Driven, clocked, clocked_all, low_row, write_row, read_row, asked, HasHostInputs}
+use Rattle.cosim_pins.specs.Host.{Driven, clocked, clocked_all, low_row, write_row, asked, HasHostInputs}
 use Rattle.cosim_pins.specs.ModuleRun.{write_rows, all_write_rows, read_words, behind_reads, read_arrays}
 
 -- ---- addresses are taken modulo 2^16

@@ -1,5 +1,5 @@
 -- Numbers modulo 2^64.
-use Rattle.std.proofs.Common.{◌≡◌, ℕ, zero, suc, ◌+◌, ◌-◌, ◌*◌, ◌/◌, ◌%◌, ◌^◌, ◌<◌, ◌≤◌, List, [], ◌∷◌, ◌++◌, map, refl, sym, ap, ◌∙◌, arith, add-one, mul_assoc, append_assoc}
+use Rattle.std.proofs.Common.{◌≡◌, ℕ, zero, suc, ◌+◌, ◌-◌, ◌*◌, ◌/◌, ◌%◌, ◌^◌, ◌<◌, ◌≤◌, List, [], ◌∷◌, ◌++◌, map, refl, sym, ap, ◌∙◌, arith, mul_assoc, append_assoc}
 use Rattle.std.proofs.Math.Nat.{mod-eq_of_lt, add-mul-mod_self_right, mod-add-div', pow-le-pow_right, mul-add}
 use Rattle.std.proofs.lemmas.Nat.{pow-add}
 use Rattle.hls_base.specs.ArrayAddress.{row_addresses, addresses, address_bits, subscript_bits}

@@ -1,9 +1,8 @@
 -- The inputs of a module with the pins of a function.
-use Rattle.std.proofs.Common.{◌≡◌, ℕ, zero, suc, ◌+◌, List, [], ◌∷◌, map, length, refl, sym, ap, ◌∙◌, arith}
+use Rattle.std.proofs.Common.{◌≡◌, ℕ, zero, suc, ◌+◌, List, [], ◌∷◌, map, length, refl, ap, ◌∙◌, arith}
 use Rattle.rtl_core.specs.declared.design.Pin.{Pin}
 use Rattle.rtl_core.specs.Netlist.{Netlist}
-use Rattle.rtl_core.specs.Interface.{Interface, argument_pins, input_pins}
-use Rattle.cosim_pins.specs.FunctionPins.{HasPins}
+use Rattle.rtl_core.specs.Interface.{HasPins, Interface, argument_pins, input_pins}
 use Rattle.cosim_pins.specs.Host.{Driven, waited, HasHostInputs}
 
 arguments_count : (k : ℕ) (scalars : List ℕ) → length (argument_pins k scalars) ≡ length scalars

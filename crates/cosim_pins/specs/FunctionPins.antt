@@ -1,12 +1,11 @@
 -- The pins of the module of a C function.
-use Rattle.std.specs.Prelude.{◌≡◌, ℕ, List, [], ◌∷◌, map, if◌then◌else◌}
+use Rattle.std.specs.Prelude.{ℕ, List, [], ◌∷◌, map, if◌then◌else◌}
 use Rattle.std.specs.Option.{option_map}
 use Rattle.c_tree.specs.Tree.{ParamTree, FunctionTree}
 use Rattle.c_value.specs.Values.{width}
 use Rattle.c_meaning.specs.Store.{lengths_in}
 use Rattle.c_meaning.specs.Run.{is_array_parameter}
-use Rattle.rtl_core.specs.Netlist.{Netlist}
-use Rattle.rtl_core.specs.Interface.{ArrayShape, Interface, input_pins, output_pins, outer}
+use Rattle.rtl_core.specs.Interface.{ArrayShape, Interface}
 use Rattle.cosim_pins.specs.declared.interface.HostArray.{HostArray}
 use Rattle.cosim_pins.specs.declared.interface.Interface.{Interface as Declared}
 
@@ -31,8 +30,3 @@ shape_of a = record { bits = a.bits; dims = a.lengths.items }
 
 abbrev pub plain : Declared → Interface
 plain i = record { scalars = i.scalars.items; arrays = map shape_of i.arrays.items; result = i.result }
-
--- the circuit has exactly the pins of this interface: their names and widths, in order
-pub record HasPins (d : Netlist) (i : Interface) : Type 0 where
-  pub inputs : d.inputs ≡ input_pins i
-  pub outputs : map outer d.outputs ≡ output_pins i

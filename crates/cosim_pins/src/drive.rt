@@ -3,8 +3,8 @@ ghost use Rattle.std.specs.Prelude.{◌≡◌, ◌%◌, ◌^◌, length, map, If
 ghost use Rattle.hls_base.specs.ArrayAddress.{addresses as addresses_of};
 ghost use Rattle.rtl_core.specs.Netlist.{netlist_of};
 ghost use Rattle.rtl_core.specs.Valid.{IsValid};
-ghost use Rattle.rtl_core.specs.Interface.{ready_of, done_of};
-ghost use Rattle.cosim_pins.specs.FunctionPins.{plain, shape_of, HasPins};
+ghost use Rattle.rtl_core.specs.Interface.{ready_of, done_of, HasPins};
+ghost use Rattle.cosim_pins.specs.FunctionPins.{plain, shape_of};
 ghost use Rattle.cosim_pins.specs.Host.{clocked_all, waited, first_high, HasHostInputs};
 ghost use Rattle.cosim_pins.specs.ModuleRun.{write_rows, all_write_rows, read_words, behind_reads, read_arrays, started, shown_from, shown_when, run_when, module_run};
 

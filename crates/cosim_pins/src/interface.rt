@@ -3,8 +3,8 @@ ghost use Rattle.std.specs.Prelude.{◌≡◌, ◌↔◌, ◌++◌, ◌∷◌, [
 ghost use Rattle.c_tree.specs.View.{param_of, function_of};
 ghost use Rattle.rtl_core.specs.declared.design.Pin.{Pin};
 ghost use Rattle.rtl_core.specs.Netlist.{netlist_of};
-ghost use Rattle.rtl_core.specs.Interface.{pin, argument_pins, input_pins, output_pins, outer};
-ghost use Rattle.cosim_pins.specs.FunctionPins.{scalar_bits, array_shapes, interface_of, plain, shape_of, HasPins};
+ghost use Rattle.rtl_core.specs.Interface.{pin, argument_pins, input_pins, output_pins, outer, HasPins};
+ghost use Rattle.cosim_pins.specs.FunctionPins.{scalar_bits, array_shapes, interface_of, plain, shape_of};
 
 use c_meaning::lengths::lengths;
 use c_tree::function::{Function, Param};

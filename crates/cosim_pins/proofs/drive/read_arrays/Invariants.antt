@@ -1,6 +1,5 @@
 use Rattle.std.proofs.Common.{◌≡◌, ◌++◌, map, drop}
 use Rattle.cosim_pins.specs.FunctionPins.{shape_of}
-use Rattle.cosim_pins.specs.Host.{HasHostInputs}
 use Rattle.cosim_pins.specs.ModuleRun.{read_arrays}
 use Rattle.cosim_pins.proofs.drive.read_arrays.Given as goal
 

@@ -1,4 +1,3 @@
-use Rattle.std.proofs.Common.{arith}
 use Rattle.cosim_pins.proofs.Accesses.{write_more, write_over}
 use Rattle.cosim_pins.proofs.drive.write_array.Goals as goal
 

@@ -1,4 +1,3 @@
-use Rattle.std.proofs.Common.{drop}
 use Rattle.cosim_pins.proofs.Accesses.{AreWritten}
 use Rattle.cosim_pins.proofs.drive.write_arrays.Given as goal
 

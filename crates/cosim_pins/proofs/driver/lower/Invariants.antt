@@ -1,4 +1,4 @@
-use Rattle.std.proofs.Common.{◌≡◌, length, take, replicate}
+use Rattle.std.proofs.Common.{◌≡◌, take, replicate}
 use Rattle.cosim_pins.proofs.driver.lower.Given as goal
 
 abbrev pub invariant-loop-k : goal.invariant-loop-k

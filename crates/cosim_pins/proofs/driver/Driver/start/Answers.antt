@@ -1,4 +1,4 @@
-use Rattle.std.proofs.Common.{◌≡◌, ℕ, ◌+◌, ◌-◌, List, [], ◌∷◌, length, drop, replicate, sym, ap, ◌∙◌, arith, rules}
+use Rattle.std.proofs.Common.{◌≡◌, ℕ, List, length, drop, sym, ap, ◌∙◌, rules}
 use Rattle.std.proofs.lemmas.List.{take_at}
 use Rattle.rtl_core.specs.Netlist.{Netlist}
 use Rattle.cosim_pins.specs.Host.{Driven, clocked, start_row}

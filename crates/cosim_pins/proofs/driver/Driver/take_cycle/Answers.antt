@@ -1,7 +1,7 @@
-use Rattle.std.proofs.Common.{◌≡◌, ℕ, ◌+◌, ◌-◌, List, [], ◌∷◌, length, drop, replicate, sym, ap, ◌∙◌, arith, rules}
+use Rattle.std.proofs.Common.{◌≡◌, ℕ, ◌-◌, List, ◌∷◌, length, drop, replicate, sym, ap, ◌∙◌, arith, rules}
 use Rattle.std.proofs.lemmas.List.{take_at}
 use Rattle.rtl_core.specs.Netlist.{Netlist}
-use Rattle.cosim_pins.specs.Host.{Driven, clocked, start_row}
+use Rattle.cosim_pins.specs.Host.{Driven, clocked}
 use Rattle.cosim_pins.proofs.driver.Driver.take_cycle.Goals as goal
 
 pub invariant_of-self : goal.invariant_of-self
