@@ -17,6 +17,6 @@ pub each_node_counts : (untimed : Cfg Untimed) (timed : Cfg Timed) (units : Unit
     → IsTimed units untimed timed loops → IsReportOf report settings timed design → EachNodeCounts timed.nodes.items report
 each_node_counts untimed timed units loops report settings design is of node tally within passed =
     rw (of.base) (each_counts timed.nodes.items report.rows of.rows node tally within
-        (All-contains IsAtLeastOne timed.nodes.items node
-            (all_count untimed.frame.memories.items units untimed.nodes.items timed.nodes.items is.nodes.found is.nodes.each) within)
-        passed)
+    (All-contains IsAtLeastOne timed.nodes.items node
+    (all_count untimed.frame.memories.items units untimed.nodes.items timed.nodes.items is.nodes.found is.nodes.each) within)
+    passed)

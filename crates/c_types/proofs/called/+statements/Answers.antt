@@ -26,47 +26,47 @@ add_statement_calls-returns-in_ok-add_inner_calls-in-If-clause-calls t c =
     let names = c.args.names.now in
     let branch = else_part (option_map else_of c.in-If.no) in
     where_found c.add_else_calls.result c.add_else_calls.ensures.calls (λ found.
-        three_parts _ _ _ _ (calls names (tree_of c.in-If.test)) (statement_calls names (stmt_of c.in-If.yes.value)) (else_calls names branch) _
-        (ap (λ s. statement_calls names (stmt_of s)) c.in-If.is ∙ ap (statement_calls names) (if_tree c.in-If.test c.in-If.yes c.in-If.no c.in-If.at))
-        c.in_ok-add_calls-in-If.ensures
-        (c.in_ok-add_inner_calls-in-If.ensures.calls ∙ ap (λ s. c.add_calls.new.calls.items ++ statement_calls names (stmt_of s)) c.deref-in-If.ensures)
-        (found ∙ ap (λ ns. c.add_inner_calls.new.calls.items ++ else_calls ns branch) c.in_ok-add_inner_calls-in-If.ensures.names))
+    three_parts _ _ _ _ (calls names (tree_of c.in-If.test)) (statement_calls names (stmt_of c.in-If.yes.value)) (else_calls names branch) _
+    (ap (λ s. statement_calls names (stmt_of s)) c.in-If.is ∙ ap (statement_calls names) (if_tree c.in-If.test c.in-If.yes c.in-If.no c.in-If.at))
+    c.in_ok-add_calls-in-If.ensures
+    (c.in_ok-add_inner_calls-in-If.ensures.calls ∙ ap (λ s. c.add_calls.new.calls.items ++ statement_calls names (stmt_of s)) c.deref-in-If.ensures)
+    (found ∙ ap (λ ns. c.add_inner_calls.new.calls.items ++ else_calls ns branch) c.in_ok-add_inner_calls-in-If.ensures.names))
 
 pub add_statement_calls-returns-in_ok-add_calls-in-Switch-clause-calls : goal.add_statement_calls-returns-in_ok-add_calls-in-Switch-clause-calls
 add_statement_calls-returns-in_ok-add_calls-in-Switch-clause-calls t c =
     let names = c.args.names.now in
     where_found c.add_inner_block_calls-in-Switch.result c.add_inner_block_calls-in-Switch.ensures.calls (λ found.
-        two_parts _ _ _ (calls names (tree_of c.in-Switch.test)) (statements_calls names (stmts_of c.in-Switch.body.items)) _
-        (ap (λ s. statement_calls names (stmt_of s)) c.in-Switch.is ∙ ap (statement_calls names) (switch_tree c.in-Switch.test c.in-Switch.body c.in-Switch.at))
-        c.in_ok-add_calls-in-Switch.ensures
-        (found ∙ ap (λ xs. c.add_calls-in-Switch.new.calls.items ++ statements_calls names (stmts_of xs)) c.deref-in-Switch.ensures.value))
+    two_parts _ _ _ (calls names (tree_of c.in-Switch.test)) (statements_calls names (stmts_of c.in-Switch.body.items)) _
+    (ap (λ s. statement_calls names (stmt_of s)) c.in-Switch.is ∙ ap (statement_calls names) (switch_tree c.in-Switch.test c.in-Switch.body c.in-Switch.at))
+    c.in_ok-add_calls-in-Switch.ensures
+    (found ∙ ap (λ xs. c.add_calls-in-Switch.new.calls.items ++ statements_calls names (stmts_of xs)) c.deref-in-Switch.ensures.value))
 
 pub add_statement_calls-returns-in_ok-add_optional_calls-in-Case-clause-calls : goal.add_statement_calls-returns-in_ok-add_optional_calls-in-Case-clause-calls
 add_statement_calls-returns-in_ok-add_optional_calls-in-Case-clause-calls t c =
     let names = c.args.names.now in
     where_found c.add_statement_calls.result c.add_statement_calls.ensures.calls (λ found.
-        two_parts _ _ _ (optional_calls names (option_map tree_of c.in-Case.value)) (statement_calls names (stmt_of c.in-Case.body.value)) _
-        (ap (λ s. statement_calls names (stmt_of s)) c.in-Case.is ∙ ap (statement_calls names) (case_tree c.in-Case.value c.in-Case.body c.in-Case.at))
-        c.in_ok-add_optional_calls-in-Case.ensures
-        (found ∙ ap (λ s. c.add_optional_calls.new.calls.items ++ statement_calls names (stmt_of s)) c.deref-in-Case.ensures))
+    two_parts _ _ _ (optional_calls names (option_map tree_of c.in-Case.value)) (statement_calls names (stmt_of c.in-Case.body.value)) _
+    (ap (λ s. statement_calls names (stmt_of s)) c.in-Case.is ∙ ap (statement_calls names) (case_tree c.in-Case.value c.in-Case.body c.in-Case.at))
+    c.in_ok-add_optional_calls-in-Case.ensures
+    (found ∙ ap (λ s. c.add_optional_calls.new.calls.items ++ statement_calls names (stmt_of s)) c.deref-in-Case.ensures))
 
 pub add_statement_calls-returns-in_ok-add_calls-in-While-clause-calls : goal.add_statement_calls-returns-in_ok-add_calls-in-While-clause-calls
 add_statement_calls-returns-in_ok-add_calls-in-While-clause-calls t c =
     let names = c.args.names.now in
     where_found c.add_inner_calls-in-While.result c.add_inner_calls-in-While.ensures.calls (λ found.
-        two_parts _ _ _ (calls names (tree_of c.in-While.test)) (statement_calls names (stmt_of c.in-While.body.value)) _
-        (ap (λ s. statement_calls names (stmt_of s)) c.in-While.is ∙ ap (statement_calls names) (while_tree c.in-While.test c.in-While.body c.in-While.at))
-        c.in_ok-add_calls-in-While.ensures
-        (found ∙ ap (λ s. c.add_calls-in-While.new.calls.items ++ statement_calls names (stmt_of s)) c.deref-in-While.ensures))
+    two_parts _ _ _ (calls names (tree_of c.in-While.test)) (statement_calls names (stmt_of c.in-While.body.value)) _
+    (ap (λ s. statement_calls names (stmt_of s)) c.in-While.is ∙ ap (statement_calls names) (while_tree c.in-While.test c.in-While.body c.in-While.at))
+    c.in_ok-add_calls-in-While.ensures
+    (found ∙ ap (λ s. c.add_calls-in-While.new.calls.items ++ statement_calls names (stmt_of s)) c.deref-in-While.ensures))
 
 pub add_statement_calls-returns-in_ok-add_inner_calls-in-Do-clause-calls : goal.add_statement_calls-returns-in_ok-add_inner_calls-in-Do-clause-calls
 add_statement_calls-returns-in_ok-add_inner_calls-in-Do-clause-calls t c =
     let names = c.args.names.now in
     where_found c.add_calls-in-Do.result c.add_calls-in-Do.ensures (λ found.
-        two_parts _ _ _ (statement_calls names (stmt_of c.in-Do.body.value)) (calls names (tree_of c.in-Do.test)) _
-        (ap (λ s. statement_calls names (stmt_of s)) c.in-Do.is ∙ ap (statement_calls names) (do_tree c.in-Do.body c.in-Do.test c.in-Do.at))
-        (c.in_ok-add_inner_calls-in-Do.ensures.calls ∙ ap (λ s. c.args.calls.now.items ++ statement_calls names (stmt_of s)) c.deref-in-Do.ensures)
-        (found ∙ ap (λ ns. c.add_inner_calls-in-Do.new.calls.items ++ calls ns (tree_of c.in-Do.test)) c.in_ok-add_inner_calls-in-Do.ensures.names))
+    two_parts _ _ _ (statement_calls names (stmt_of c.in-Do.body.value)) (calls names (tree_of c.in-Do.test)) _
+    (ap (λ s. statement_calls names (stmt_of s)) c.in-Do.is ∙ ap (statement_calls names) (do_tree c.in-Do.body c.in-Do.test c.in-Do.at))
+    (c.in_ok-add_inner_calls-in-Do.ensures.calls ∙ ap (λ s. c.args.calls.now.items ++ statement_calls names (stmt_of s)) c.deref-in-Do.ensures)
+    (found ∙ ap (λ ns. c.add_inner_calls-in-Do.new.calls.items ++ calls ns (tree_of c.in-Do.test)) c.in_ok-add_inner_calls-in-Do.ensures.names))
 
 pub add_statement_calls-forget-requires : goal.add_statement_calls-forget-requires
 add_statement_calls-forget-requires t c =
