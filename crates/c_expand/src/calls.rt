@@ -1,18 +1,19 @@
 //! Calls, which are replaced by what the called function does.
-use crate::effects::effects_of_arguments;
 use crate::expressions::expression;
-use crate::frame::{Context, Frame, Here, Home};
-use crate::leaving::all_leave;
-use crate::objects::local;
-use crate::saving::save;
+use crate::here::Here;
 use crate::statements::block;
-use crate::work::Work;
 use core_program::expression::Argument;
 use core_program::program::CoreFunction;
 use hls_base::number::ArrayId;
 use hls_base::place::{Path, Place};
 use hls_base::point::PointKind;
-use hls_base::refusal::Fail;
+use hls_base::refusal::{Fail, impossible};
+use piece_making::effects::effects_of_arguments;
+use piece_making::frame::{Context, Frame, Home};
+use piece_making::leaving::any_leaves;
+use piece_making::objects::local;
+use piece_making::saving::save;
+use piece_making::work::Work;
 use pieces::piece::Piece;
 use pieces::pure_expr::Pure;
 use std::alloc::{AllocError, Global};
@@ -36,9 +37,8 @@ pub fn called(
 ) -> Result<Option<Pure>, Fail> {
     let here = here.deeper()?;
     let frame = here.frame;
-    let function = frame.context.function(function)?;
     let given = arguments(here, work, args)?;
-    work.charge(1)?;
+    let function = function_in(frame.context, function)?;
     let homes = homes(frame.context, work, function, given)?;
     let callee = Frame {
         context: frame.context,
@@ -48,8 +48,17 @@ pub fn called(
         call: work.next_call()?,
         result: work.fresh_result(function.result)?,
     };
-    run_through(here.within(&callee), work)?;
+    run_through(here.opened(&callee)?, work)?;
     Ok(value_of(&callee))
+}
+
+/// The function with this number. There is one.
+fn function_in<'p>(context: &Context<'p>, number: u32) -> Result<&'p CoreFunction, AllocError> {
+    context
+        .core
+        .functions
+        .get(number as usize)
+        .ok_or(impossible())
 }
 
 /// The variable of a call's result.
@@ -71,13 +80,12 @@ pub fn run_through(here: Here, work: &mut Work) -> Result<(), Fail> {
     work.mark(frame.point(PointKind::Begin, at)?)?;
     block(here, work, body, true)?;
     let end = frame.point(PointKind::End, at)?;
-    let end = if all_leave(body, true) {
+    let end = if any_leaves(body, true) {
         Piece::Land(frame.call, end)
     } else {
         Piece::Mark(end)
     };
-    work.out.push(end)?;
-    Ok(())
+    work.emit(end)
 }
 
 /// The arguments of a call, from left to right. What each of them reads is saved where a later one has effects.
@@ -93,7 +101,7 @@ fn arguments(here: Here, work: &mut Work, args: &[Argument]) -> Result<Vec<Given
             Argument::Value(e) => {
                 let value = expression(here, work, e)?;
                 let later = effects_of_arguments(&args[i + 1..]);
-                Given::Value(save(here, work, value, later)?)
+                Given::Value(save(frame.context, work, value, later)?)
             }
         };
         all.push(given)?;

@@ -1,12 +1,13 @@
 //! The expansion of a program.
 use crate::calls::{add_locals, run_through};
-use crate::frame::{Context, Frame, Here, Home};
-use crate::objects::{file_array, first_value, host_array};
-use crate::work::Work;
+use crate::here::Here;
 use core_program::program::{CoreFunction, CoreProgram, FileObject};
 use hls_base::number::{Kept, VarId};
 use hls_base::place::Path;
 use hls_base::refusal::{Fail, impossible};
+use piece_making::frame::{Context, Frame, Home};
+use piece_making::objects::{file_array, first_value, host_array};
+use piece_making::work::Work;
 use pieces::expanded::Expanded;
 use std::alloc::{AllocError, Global};
 
@@ -36,9 +37,20 @@ pub fn expand(alloc: Global, program: &CoreProgram) -> Result<Expanded, Fail> {
         call: work.next_call()?,
         result: work.fresh_result(top.result)?,
     };
-    run_through(Here::outermost(&frame), &mut work)?;
+    let calls = program.functions.len();
+    run_through(Here::outermost(&frame, calls), &mut work)?;
     let result = frame.result;
-    Ok(work.finished(top.name.copy(alloc)?, kept, params, top.result, result))
+    let (pieces, variables, arrays) = work.finished();
+    Ok(Expanded {
+        pieces,
+        variables,
+        arrays,
+        params,
+        kept,
+        ret: top.result,
+        result,
+        name: top.name.copy(alloc)?,
+    })
 }
 
 /// Variables for the scalars of file scope that are not const.

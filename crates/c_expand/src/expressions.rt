@@ -1,11 +1,6 @@
 //! Expressions: the pieces that have to come before them, and the value that is left.
-use crate::assignments::{Change, assigned, bumped};
-use crate::build::{Operator, binary, bit, cast, choice, unary};
 use crate::calls::called;
-use crate::effects::{Effects, NO_EFFECTS, effects_of, effects_of_all};
-use crate::frame::Here;
-use crate::saving::save;
-use crate::work::Work;
+use crate::here::Here;
 use c_token::ctype::CType;
 use c_tree::operator::{Binary, Unary};
 use core_program::expression::{Cell, CoreExpr};
@@ -13,6 +8,11 @@ use hls_base::number::VarId;
 use hls_base::place::Place;
 use hls_base::point::PointKind;
 use hls_base::refusal::{Fail, impossible};
+use piece_making::assignments::{Change, assigned, bumped};
+use piece_making::build::{Operator, binary, bit, cast, choice, unary};
+use piece_making::effects::{Effects, NO_EFFECTS, effects_of, effects_of_all};
+use piece_making::saving::save;
+use piece_making::work::Work;
 use pieces::piece::Piece;
 use pieces::pure_expr::Pure;
 use pieces::pure_kind::kind_of;
@@ -183,7 +183,7 @@ pub fn operands(
     for (i, e) in es.iter().enumerate() {
         let value = expression(here, work, e)?;
         let later = effects_of_all(&es[i + 1..]).or(behind);
-        values.push(save(here, work, value, later)?)?;
+        values.push(save(frame.context, work, value, later)?)?;
     }
     Ok(values)
 }
@@ -201,7 +201,7 @@ fn operated(
     let here = here.deeper()?;
     let frame = here.frame;
     let later = effects_of(right);
-    let left = save(here, work, left, later)?;
+    let left = save(frame.context, work, left, later)?;
     match operator.op {
         Binary::LogAnd | Binary::LogOr if later.is_some() => {
             forked(here, work, operator, left, right)
@@ -227,8 +227,6 @@ fn forked(
     let Operator { op, kind, at } = operator;
     let alloc = frame.context.alloc;
     let own = work.fresh(kind)?;
-    work.charge(1)?;
-    work.charge_pure(&test)?;
     let outer = work.begin(alloc);
     work.mark(frame.point(PointKind::Arm, at)?)?;
     let value = expression(here, work, right)?;
@@ -243,7 +241,7 @@ fn forked(
     } else {
         (other, arm)
     };
-    work.out.push(Piece::Fork { test, yes, no, end })?;
+    work.emit(Piece::Fork { test, yes, no, end })?;
     Ok(Pure::Variable(own, kind))
 }
 
@@ -271,14 +269,12 @@ fn chosen(here: Here, work: &mut Work, e: &CoreExpr) -> Result<Pure, Fail> {
         let no = expression(here, work, no)?;
         return Ok(choice(frame.context.alloc, *kind, test, yes, no)?);
     }
-    let test = save(here, work, test, later)?;
+    let test = save(frame.context, work, test, later)?;
     let own = work.fresh(*kind)?;
-    work.charge(1)?;
-    work.charge_pure(&test)?;
     let yes = arm(here, work, own, yes, *at)?;
     let no = arm(here, work, own, no, *colon)?;
     let end = frame.point(PointKind::End, *at)?;
-    work.out.push(Piece::Fork { test, yes, no, end })?;
+    work.emit(Piece::Fork { test, yes, no, end })?;
     Ok(Pure::Variable(own, *kind))
 }
 

@@ -1,12 +1,7 @@
 //! Statements.
-use crate::assignments::{Change, apply};
-use crate::build::bit;
 use crate::calls::called;
-use crate::effects::{NO_EFFECTS, effects_of};
 use crate::expressions::{expression, operands};
-use crate::frame::{Frame, Here, Home};
-use crate::objects::local_array;
-use crate::work::Work;
+use crate::here::Here;
 use c_value::kind::INT;
 use core_program::expression::CoreExpr;
 use core_program::statement::{CoreAction, CoreElse, CoreInit, CoreStmt};
@@ -14,11 +9,16 @@ use hls_base::number::ArrayId;
 use hls_base::place::Place;
 use hls_base::point::PointKind;
 use hls_base::refusal::{Fail, impossible};
-use pieces::piece::{Label, Piece};
+use piece_making::assignments::{Change, apply};
+use piece_making::build::bit;
+use piece_making::effects::{NO_EFFECTS, effects_of};
+use piece_making::frame::{Frame, Home};
+use piece_making::objects::local_array;
+use piece_making::work::Work;
+use pieces::piece::Piece;
 use pieces::pure_expr::Pure;
 use pieces::pure_kind::kind_of;
 use std::alloc::{AllocError, Global};
-use std::mem;
 
 /// The statements of a block. `tail` tells whether the block is in a tail position.
 #[inline(never)]
@@ -44,13 +44,10 @@ fn statement(here: Here, work: &mut Work, stmt: &CoreStmt, tail: bool) -> Result
         CoreStmt::Act(es) => actions(here, work, es),
         CoreStmt::If { test, yes, no, at } => {
             let test = expression(here, work, test)?;
-            work.charge(1)?;
-            work.charge_pure(&test)?;
             let yes = branch(here, work, yes, tail, *at)?;
             let no = second_branch(here, work, no, tail)?;
             let end = frame.point(PointKind::End, *at)?;
-            work.out.push(Piece::Fork { test, yes, no, end })?;
-            Ok(())
+            work.emit(Piece::Fork { test, yes, no, end })
         }
         CoreStmt::Switch { test, body, at, .. } => switch(here, work, test, body, *at),
         CoreStmt::Case { value, body, at } => {
@@ -95,8 +92,8 @@ fn statement(here: Here, work: &mut Work, stmt: &CoreStmt, tail: bool) -> Result
             };
             repeat(here, work, parts)
         }
-        CoreStmt::Break => work.jump(Piece::Break),
-        CoreStmt::Continue => work.jump(Piece::Next),
+        CoreStmt::Break => work.emit(Piece::Break),
+        CoreStmt::Continue => work.emit(Piece::Next),
         CoreStmt::Return(value) => returned(here, work, value, tail),
     }
 }
@@ -135,11 +132,8 @@ fn second_branch(
 
 /// A label of the switch round it, and its mark.
 fn label(frame: &Frame, work: &mut Work, value: Option<u64>, at: Place) -> Result<(), Fail> {
-    let target = u32::try_from(work.out.len()).map_err(|_| impossible())?;
-    work.charge(1)?;
-    work.labels.push(Label { value, target })?;
-    work.mark(frame.point(PointKind::Arm, at)?)?;
-    Ok(())
+    work.label(value)?;
+    work.mark(frame.point(PointKind::Arm, at)?)
 }
 
 #[inline(never)]
@@ -155,21 +149,18 @@ fn switch(
     let frame = here.frame;
     let alloc = frame.context.alloc;
     let test = expression(here, work, test)?;
-    work.charge(1)?;
-    work.charge_pure(&test)?;
     let outer = work.begin(alloc);
-    let outer_labels = mem::replace(&mut work.labels, Vec::new(alloc));
+    let outer_labels = work.begin_labels(alloc);
     block(here, work, body, false)?;
-    let labels = mem::replace(&mut work.labels, outer_labels);
+    let labels = work.finish_labels(outer_labels);
     let body = work.finish(outer);
     let end = frame.point(PointKind::End, at)?;
-    work.out.push(Piece::Pick {
+    work.emit(Piece::Pick {
         test,
         labels,
         body,
         end,
-    })?;
-    Ok(())
+    })
 }
 
 /// The parts of a loop. Without a test it has the number 1.
@@ -196,14 +187,12 @@ fn repeat(here: Here, work: &mut Work, parts: Loop) -> Result<(), Fail> {
     } = parts;
     let alloc = frame.context.alloc;
     let id = work.next_loop()?;
-    work.charge(1)?;
     let outer = work.begin(alloc);
     work.mark(frame.point(PointKind::Test, at)?)?;
     let test = match test {
         None => bit(true),
         Some(test) => expression(here, work, test)?,
     };
-    work.charge_pure(&test)?;
     let before = work.finish(outer);
     let outer = work.begin(alloc);
     work.mark(frame.point(PointKind::Body, at)?)?;
@@ -211,7 +200,7 @@ fn repeat(here: Here, work: &mut Work, parts: Loop) -> Result<(), Fail> {
     let body = work.finish(outer);
     let step = step_of(here, work, step, at)?;
     let end = frame.point(PointKind::End, at)?;
-    work.out.push(Piece::Repeat {
+    work.emit(Piece::Repeat {
         id,
         post,
         before,
@@ -219,8 +208,7 @@ fn repeat(here: Here, work: &mut Work, parts: Loop) -> Result<(), Fail> {
         body,
         step,
         end,
-    })?;
-    Ok(())
+    })
 }
 
 /// The third part of a `for`, if there is one.
@@ -254,7 +242,7 @@ fn returned(here: Here, work: &mut Work, value: &Option<CoreExpr>, tail: bool) -
     if tail {
         Ok(())
     } else {
-        work.jump(Piece::Leave(frame.call))
+        work.emit(Piece::Leave(frame.call))
     }
 }
 
@@ -367,7 +355,12 @@ fn fill(
             Some(e) => expression(here, work, e)?,
         };
         let subscripts = subscripts_at(alloc, lengths, i as u64)?;
-        work.put(array, subscripts, value, frame.function.at)?;
+        work.emit(Piece::Put {
+            array,
+            subscripts,
+            value,
+            at: frame.function.at,
+        })?;
     }
     Ok(())
 }

@@ -2,3 +2,5 @@ pub mod Trees
 pub mod View
 pub mod Weight
 pub mod Shape
+pub mod Program
+pub mod Kind

@@ -1,4 +1,9 @@
 //! What the evaluation of an expression does besides giving a value.
+ghost use Rattle.std.specs.Prelude.{◌≡◌, map};
+ghost use Rattle.core_program.specs.Core.{row, argument_row};
+ghost use Rattle.core_program.specs.CoreView.{core_of, core_argument_of, core_target_of};
+ghost use Rattle.piece_making.specs.Acting.{either, with_call, with_change, with_comma, acts, spoils, effects, effects_of_all, effects_of_arguments, effects_of_target};
+
 use core_program::expression::{Argument, CoreExpr, CoreTarget};
 
 /// Whether an expression has calls, changes (assignments, `++` and `--`) or commas in it.
@@ -17,7 +22,9 @@ pub const NO_EFFECTS: Effects = Effects {
 };
 
 impl Effects {
-    pub fn or(self, other: Effects) -> Effects {
+    pub fn or(self, other: Effects) -> Effects
+        ensures { result ≡ either self other }
+    {
         Effects {
             calls: self.calls || other.calls,
             changes: self.changes || other.changes,
@@ -25,21 +32,27 @@ impl Effects {
         }
     }
 
-    fn with_call(self) -> Effects {
+    fn with_call(self) -> Effects
+        ensures { result ≡ with_call self }
+    {
         Effects {
             calls: true,
             ..self
         }
     }
 
-    fn with_change(self) -> Effects {
+    fn with_change(self) -> Effects
+        ensures { result ≡ with_change self }
+    {
         Effects {
             changes: true,
             ..self
         }
     }
 
-    fn with_comma(self) -> Effects {
+    fn with_comma(self) -> Effects
+        ensures { result ≡ with_comma self }
+    {
         Effects {
             commas: true,
             ..self
@@ -47,19 +60,25 @@ impl Effects {
     }
 
     /// Whether something needs pieces of its own.
-    pub fn is_some(self) -> bool {
+    pub fn is_some(self) -> bool
+        ensures { result ≡ acts self }
+    {
         self.calls || self.changes || self.commas
     }
 
     /// Whether elements that are read before have to be saved.
-    pub fn spoil_elements(self) -> bool {
+    pub fn spoil_elements(self) -> bool
+        ensures { result ≡ spoils self }
+    {
         self.calls || self.changes
     }
 }
 
 /// The effects of an expression.
 #[cycle(effects)]
-pub fn effects_of(e: &CoreExpr) -> Effects {
+pub fn effects_of(e: &CoreExpr) -> Effects
+    ensures { result ≡ effects (core_of e.now) }
+{
     match e {
         CoreExpr::Number { .. } | CoreExpr::Scalar { .. } => NO_EFFECTS,
         CoreExpr::Element { subscripts, .. } => effects_of_all(subscripts),
@@ -81,7 +100,9 @@ pub fn effects_of(e: &CoreExpr) -> Effects {
 
 /// The effects of some expressions together.
 #[cycle(effects)]
-pub fn effects_of_all(es: &[CoreExpr]) -> Effects {
+pub fn effects_of_all(es: &[CoreExpr]) -> Effects
+    ensures { result ≡ effects_of_all (row (map core_of es.now)) }
+{
     let mut all = NO_EFFECTS;
     for e in es {
         all = all.or(effects_of(e));
@@ -91,7 +112,9 @@ pub fn effects_of_all(es: &[CoreExpr]) -> Effects {
 
 /// The effects of some arguments together.
 #[cycle(effects)]
-pub fn effects_of_arguments(args: &[Argument]) -> Effects {
+pub fn effects_of_arguments(args: &[Argument]) -> Effects
+    ensures { result ≡ effects_of_arguments (argument_row (map core_argument_of args.now)) }
+{
     let mut all = NO_EFFECTS;
     for arg in args {
         if let Argument::Value(e) = arg {
@@ -102,6 +125,8 @@ pub fn effects_of_arguments(args: &[Argument]) -> Effects {
 }
 
 #[cycle(effects)]
-fn effects_of_target(target: &CoreTarget) -> Effects {
+fn effects_of_target(target: &CoreTarget) -> Effects
+    ensures { result ≡ effects_of_target (core_target_of target.now) }
+{
     effects_of_all(&target.subscripts)
 }

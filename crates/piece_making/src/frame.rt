@@ -1,5 +1,9 @@
 //! What is known of the program, and of the call that is being expanded.
-ghost use Rattle.std.specs.Prelude.{◌≡◌, ◌+◌, IfOk};
+ghost use Rattle.std.specs.Prelude.{◌≡◌, IfOk, slice_get};
+ghost use Rattle.core_program.specs.CoreView.{core_object_of};
+ghost use Rattle.pieces.specs.View.{pure_of};
+ghost use Rattle.piece_making.specs.Calls.{call_of, point_in, home_of, scalar, variable, array};
+ghost use Rattle.piece_making.specs.Stocks.{state_of, stock};
 
 use crate::work::{Slot, Work};
 use c_token::ctype::CType;
@@ -31,13 +35,6 @@ pub struct Context<'p> {
     pub file_variables: u32,
 }
 
-impl<'p> Context<'p> {
-    /// The function with this number. There is one.
-    pub fn function(&self, number: u32) -> Result<&'p CoreFunction, AllocError> {
-        self.core.functions.get(number as usize).ok_or(impossible())
-    }
-}
-
 /// A call: what stands for its objects, the places of the calls that led to it, and the variable of its result.
 #[derive(Drop)]
 pub struct Frame<'p> {
@@ -49,55 +46,18 @@ pub struct Frame<'p> {
     pub result: Option<VarId>,
 }
 
-/// Where in a call the expansion is: how much deeper than here it may go.
-#[derive(Clone, Copy)]
-pub struct Here<'f> {
-    pub frame: &'f Frame<'f>,
-    pub depth: u32,
-}
-
-impl<'f> Here<'f> {
-    /// The greatest depth.
-    pub fn outermost(frame: &'f Frame<'f>) -> Here<'f> {
-        Here {
-            frame,
-            depth: u32::MAX,
-        }
-    }
-
-    /// One deeper. A program does not nest as deep as that there is no more.
-    pub fn deeper(self) -> Result<Here<'f>, AllocError>
-        ensures { IfOk result (λ h. h.depth + 1 ≡ self.entry.depth) }
-    {
-        let Here { frame, depth } = self;
-        if depth == 0 {
-            return Err(impossible());
-        }
-        Ok(Here {
-            frame,
-            depth: depth - 1,
-        })
-    }
-
-    /// In another call, as deep as here.
-    pub fn within(self, frame: &'f Frame<'f>) -> Here<'f>
-        ensures { result.depth ≡ self.entry.depth }
-    {
-        Here {
-            frame,
-            depth: self.depth,
-        }
-    }
-}
-
 impl Frame<'_> {
     /// A point of this call.
-    pub fn point(&self, kind: PointKind, at: Place) -> Result<Point, AllocError> {
+    pub fn point(&self, kind: PointKind, at: Place) -> Result<Point, AllocError>
+        ensures { IfOk result (λ p. p ≡ point_in (call_of self.now) kind at) }
+    {
         let path = self.path.copy(self.context.alloc)?;
         Ok(Point { path, at, kind })
     }
 
-    fn home(&self, cell: Cell) -> Option<Home> {
+    fn home(&self, cell: Cell) -> Option<Home>
+        ensures { result ≡ home_of (call_of self.now) cell }
+    {
         let homes = match cell.scope {
             Scope::File => self.context.file.as_slice(),
             Scope::Call => self.homes.as_slice(),
@@ -106,7 +66,9 @@ impl Frame<'_> {
     }
 
     /// A scalar that is read: a variable or the value of a constant.
-    pub fn scalar(&self, cell: Cell, kind: CType) -> Result<Pure, AllocError> {
+    pub fn scalar(&self, cell: Cell, kind: CType) -> Result<Pure, AllocError>
+        ensures { IfOk result (λ p. pure_of p ≡ scalar (call_of self.now) cell kind) }
+    {
         match self.home(cell) {
             Some(Home::Variable(variable)) => Ok(Pure::Variable(variable, kind)),
             Some(Home::Constant(value)) => Ok(Pure::Number { value, kind }),
@@ -115,7 +77,9 @@ impl Frame<'_> {
     }
 
     /// The variable that stands for a scalar that is assigned.
-    pub fn variable(&self, cell: Cell) -> Result<VarId, AllocError> {
+    pub fn variable(&self, cell: Cell) -> Result<VarId, AllocError>
+        ensures { IfOk result (λ v. v ≡ variable (call_of self.now) cell) }
+    {
         match self.home(cell) {
             Some(Home::Variable(variable)) => Ok(variable),
             _ => Err(impossible()),
@@ -123,12 +87,16 @@ impl Frame<'_> {
     }
 
     /// What stands for an object of the function.
-    pub fn local(&self, object: u32) -> Result<Home, AllocError> {
+    pub fn local(&self, object: u32) -> Result<Home, AllocError>
+        ensures { IfOk result (λ h. slice_get (call_of self.now).homes object ≡ Some h) }
+    {
         self.homes.get(object as usize).copied().ok_or(impossible())
     }
 
     /// An object of the function.
-    pub fn object(&self, object: u32) -> Result<&CoreObject, AllocError> {
+    pub fn object(&self, object: u32) -> Result<&CoreObject, AllocError>
+        ensures { IfOk result (λ o. slice_get (call_of self.now).objects object ≡ Some (core_object_of o.now)) }
+    {
         self.function
             .objects
             .get(object as usize)
@@ -136,7 +104,9 @@ impl Frame<'_> {
     }
 
     /// The array that a name stands for.
-    pub fn array(&self, work: &Work, cell: Cell) -> Result<ArrayId, AllocError> {
+    pub fn array(&self, work: &Work, cell: Cell) -> Result<ArrayId, AllocError>
+        ensures { IfOk result (λ a. a ≡ array (call_of self.now) cell (state_of (stock work.now))) }
+    {
         match self.home(cell) {
             Some(Home::Array(array)) => Ok(array),
             Some(Home::Local(slot)) => work.array_in(slot),
