@@ -1,0 +1,10 @@
+pub mod Chains
+pub mod Entries
+pub mod Expressions
+pub mod Items
+pub mod Layers
+pub mod Names
+pub mod Objects
+pub mod Programs
+pub mod Scenes
+pub mod Statements

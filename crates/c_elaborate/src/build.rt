@@ -1,4 +1,9 @@
 //! Statements of the core program from their parts.
+ghost use Rattle.std.specs.Prelude.{◌≡◌, map, IfOk};
+ghost use Rattle.std.specs.Option.{option_map};
+ghost use Rattle.core_program.specs.Core as core;
+ghost use Rattle.core_program.specs.Core.{stmt_row};
+ghost use Rattle.core_program.specs.CoreView.{core_of, core_action_of, core_stmt_of, core_else_of, core_else_part};
 
 use core_program::expression::CoreExpr;
 use core_program::statement::{CoreAction, CoreElse, CoreStmt};
@@ -12,7 +17,9 @@ pub struct Block {
     pub body: Vec<CoreStmt>,
 }
 
-pub fn nested(part: Block) -> CoreStmt {
+pub fn nested(part: Block) -> CoreStmt
+    ensures { core_stmt_of result ≡ core.block part.objects.items (stmt_row (map core_stmt_of part.body.items)) }
+{
     CoreStmt::Block {
         objects: part.objects,
         body: part.body,
@@ -25,12 +32,16 @@ pub fn selection(
     yes: CoreStmt,
     no: Option<CoreElse>,
     at: Place,
-) -> Result<CoreStmt, AllocError> {
+) -> Result<CoreStmt, AllocError>
+    ensures { IfOk result (λ s. core_stmt_of s ≡ core.if_ (core_of test) (core_stmt_of yes) (core_else_part (option_map core_else_of no)) at) }
+{
     let yes = Box::new(alloc, yes)?;
     Ok(CoreStmt::If { test, yes, no, at })
 }
 
-pub fn switch(test: CoreExpr, part: Block, at: Place) -> CoreStmt {
+pub fn switch(test: CoreExpr, part: Block, at: Place) -> CoreStmt
+    ensures { core_stmt_of result ≡ core.switch_ (core_of test) part.objects.items (stmt_row (map core_stmt_of part.body.items)) at }
+{
     CoreStmt::Switch {
         test,
         objects: part.objects,
@@ -44,7 +55,9 @@ pub fn labelled(
     value: Option<u64>,
     body: CoreStmt,
     at: Place,
-) -> Result<CoreStmt, AllocError> {
+) -> Result<CoreStmt, AllocError>
+    ensures { IfOk result (λ s. core_stmt_of s ≡ core.case_ value (core_stmt_of body) at) }
+{
     let body = Box::new(alloc, body)?;
     Ok(CoreStmt::Case { value, body, at })
 }
@@ -54,7 +67,9 @@ pub fn while_loop(
     test: CoreExpr,
     body: CoreStmt,
     at: Place,
-) -> Result<CoreStmt, AllocError> {
+) -> Result<CoreStmt, AllocError>
+    ensures { IfOk result (λ s. core_stmt_of s ≡ core.while_ (core_of test) (core_stmt_of body) at) }
+{
     let body = Box::new(alloc, body)?;
     Ok(CoreStmt::While { test, body, at })
 }
@@ -64,7 +79,9 @@ pub fn do_loop(
     body: CoreStmt,
     test: CoreExpr,
     at: Place,
-) -> Result<CoreStmt, AllocError> {
+) -> Result<CoreStmt, AllocError>
+    ensures { IfOk result (λ s. core_stmt_of s ≡ core.do_ (core_stmt_of body) (core_of test) at) }
+{
     let body = Box::new(alloc, body)?;
     Ok(CoreStmt::Do { body, test, at })
 }
@@ -76,7 +93,9 @@ pub fn for_loop(
     step: Vec<CoreAction>,
     body: CoreStmt,
     at: Place,
-) -> Result<CoreStmt, AllocError> {
+) -> Result<CoreStmt, AllocError>
+    ensures { IfOk result (λ s. core_stmt_of s ≡ core.for_ head.objects.items (stmt_row (map core_stmt_of head.body.items)) (option_map core_of test) (map core_action_of step.items) (core_stmt_of body) at) }
+{
     let body = Box::new(alloc, body)?;
     Ok(CoreStmt::For {
         objects: head.objects,

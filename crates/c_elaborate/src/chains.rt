@@ -1,4 +1,9 @@
 //! Operators around an expression, which are put round it one after another, without recursion.
+ghost use Rattle.std.specs.Prelude.{◌≡◌, IfOk};
+ghost use Rattle.core_program.specs.Core as core;
+ghost use Rattle.core_program.specs.CoreView.{core_of, core_target_of};
+ghost use Rattle.c_elaborate.specs.Chains as spec;
+ghost use Rattle.c_elaborate.specs.Expressions.{unary_of, binary_of};
 
 use crate::kinds::kind_of;
 use c_token::ctype::CType;
@@ -33,7 +38,9 @@ pub enum Step {
     },
 }
 
-fn unary(alloc: Global, op: Unary, arg: CoreExpr, at: Place) -> Result<CoreExpr, AllocError> {
+fn unary(alloc: Global, op: Unary, arg: CoreExpr, at: Place) -> Result<CoreExpr, AllocError>
+    ensures { IfOk result (λ e. core_of e ≡ unary_of op (core_of arg) at) }
+{
     let kind = unary_kind(op, kind_of(&arg));
     let arg = Box::new(alloc, arg)?;
     Ok(CoreExpr::Unary { op, arg, kind, at })
@@ -45,7 +52,9 @@ fn binary(
     left: CoreExpr,
     right: CoreExpr,
     at: Place,
-) -> Result<CoreExpr, AllocError> {
+) -> Result<CoreExpr, AllocError>
+    ensures { IfOk result (λ e. core_of e ≡ binary_of op (core_of left) (core_of right) at) }
+{
     let kind = binary_kind(op, kind_of(&left), kind_of(&right));
     let left = Box::new(alloc, left)?;
     let right = Box::new(alloc, right)?;
@@ -58,7 +67,9 @@ fn binary(
     })
 }
 
-fn cast(alloc: Global, to: CType, arg: CoreExpr) -> Result<CoreExpr, AllocError> {
+fn cast(alloc: Global, to: CType, arg: CoreExpr) -> Result<CoreExpr, AllocError>
+    ensures { IfOk result (λ e. core_of e ≡ core.cast to (core_of arg)) }
+{
     let arg = Box::new(alloc, arg)?;
     Ok(CoreExpr::Cast { to, arg })
 }
@@ -70,7 +81,9 @@ pub fn assign(
     op: Option<Binary>,
     value: CoreExpr,
     at: Place,
-) -> Result<CoreExpr, AllocError> {
+) -> Result<CoreExpr, AllocError>
+    ensures { IfOk result (λ e. core_of e ≡ core.assign (core_target_of target) op (core_of value) at) }
+{
     let value = Box::new(alloc, value)?;
     Ok(CoreExpr::Assign {
         target,
@@ -80,14 +93,18 @@ pub fn assign(
     })
 }
 
-fn comma(alloc: Global, left: CoreExpr, right: CoreExpr) -> Result<CoreExpr, AllocError> {
+fn comma(alloc: Global, left: CoreExpr, right: CoreExpr) -> Result<CoreExpr, AllocError>
+    ensures { IfOk result (λ e. core_of e ≡ core.comma (core_of left) (core_of right)) }
+{
     let left = Box::new(alloc, left)?;
     let right = Box::new(alloc, right)?;
     Ok(CoreExpr::Comma { left, right })
 }
 
 /// The operator with the operand that it goes on with.
-fn stepped(alloc: Global, step: Step, part: CoreExpr) -> Result<CoreExpr, AllocError> {
+fn stepped(alloc: Global, step: Step, part: CoreExpr) -> Result<CoreExpr, AllocError>
+    ensures { IfOk result (λ e. core_of e ≡ spec.step step (core_of part)) }
+{
     match step {
         Step::Unary { op, at } => unary(alloc, op, part, at),
         Step::Cast { to } => cast(alloc, to, part),
@@ -98,7 +115,9 @@ fn stepped(alloc: Global, step: Step, part: CoreExpr) -> Result<CoreExpr, AllocE
 }
 
 /// The whole expression, from its innermost part and the operators around it, of which the last is the innermost.
-pub fn joined(alloc: Global, part: CoreExpr, steps: Vec<Step>) -> Result<CoreExpr, AllocError> {
+pub fn joined(alloc: Global, part: CoreExpr, steps: Vec<Step>) -> Result<CoreExpr, AllocError>
+    ensures { IfOk result (λ e. core_of e ≡ spec.steps steps.items (core_of part)) }
+{
     let mut steps = steps;
     let mut whole = part;
     while let Some(step) = steps.pop() {

@@ -1,4 +1,8 @@
 //! The core program of a program.
+ghost use Rattle.std.specs.Prelude.{◌≡◌, IfOk};
+ghost use Rattle.c_tree.specs.View.{program_of};
+ghost use Rattle.core_program.specs.CoreView.{core_program_of};
+ghost use Rattle.c_elaborate.specs.Programs.{program_elaborated};
 
 use crate::blocks::Scene;
 use crate::file::{file_names, file_objects};
@@ -10,7 +14,9 @@ use core_program::program::CoreProgram;
 use std::alloc::{AllocError, Global};
 
 /// The core program of a checked program.
-pub fn elaborate(alloc: Global, checked: &Checked) -> Result<CoreProgram, AllocError> {
+pub fn elaborate(alloc: Global, checked: &Checked) -> Result<CoreProgram, AllocError>
+    ensures { IfOk result (λ core. core_program_of core ≡ program_elaborated (program_of checked.now.program) checked.now.top) }
+{
     let items = checked.program.items.as_slice();
     let declared = declarations(alloc, items)?;
     let file = file_objects(alloc, &declared)?;

@@ -1,4 +1,15 @@
 //! Expressions with their names resolved.
+ghost use Rattle.std.specs.Prelude.{◌≡◌, map, true, IfOk};
+ghost use Rattle.std.specs.Option.{option_map};
+ghost use Rattle.c_tree.specs.Tree as tree;
+ghost use Rattle.c_tree.specs.View.{tree_of, trees_of, target_of, action_of};
+ghost use Rattle.core_program.specs.Core as core;
+ghost use Rattle.core_program.specs.Core.{row, argument_row};
+ghost use Rattle.core_program.specs.CoreView.{core_of, core_target_of, core_argument_of, core_action_of};
+ghost use Rattle.c_elaborate.specs.Names as known;
+ghost use Rattle.c_elaborate.specs.Expressions.{elaborated, target_elaborated, all_elaborated, arguments_elaborated, argument_elaborated, action_elaborated, choice_of};
+ghost use Rattle.c_elaborate.specs.Expressions as spec;
+ghost use Rattle.c_elaborate.specs.Chains.{is_innermost};
 
 use crate::chains::{Step, assign, joined};
 use crate::functions::{Signature, function_named};
@@ -10,19 +21,19 @@ use c_value::kind::common;
 use core_program::expression::{Argument, CoreExpr, CoreTarget};
 use core_program::statement::CoreAction;
 use hls_base::place::Place;
-use hls_base::refusal::impossible;
 use hls_base::text::Text;
 use std::alloc::{AllocError, Global};
 
 /// An expression. Operators of one chain are gone through in a loop, so that the depth of the recursion is bounded by how deep the source nests.
 #[cycle(expression)]
-#[tactic(auto, using(crate::proofs::Sizes::sizes))]
 pub fn expression(
     alloc: Global,
     functions: &[Signature],
     names: &Scopes,
     e: &Expr,
-) -> Result<CoreExpr, AllocError> {
+) -> Result<CoreExpr, AllocError>
+    ensures { IfOk result (λ it. core_of it ≡ elaborated functions.now names.now (tree_of e.now)) }
+{
     let mut steps = Vec::new(alloc);
     let mut part = e;
     'chain: loop {
@@ -81,7 +92,10 @@ fn innermost(
     functions: &[Signature],
     names: &Scopes,
     e: &Expr,
-) -> Result<CoreExpr, AllocError> {
+) -> Result<CoreExpr, AllocError>
+    requires { is_innermost (tree_of e.now) ≡ true }
+    ensures { IfOk result (λ it. core_of it ≡ elaborated functions.now names.now (tree_of e.now)) }
+{
     match e {
         Expr::Number { value, kind, .. } => Ok(CoreExpr::Number {
             value: *value,
@@ -124,12 +138,14 @@ fn innermost(
         | Expr::Comma { .. }
         | Expr::Assign { .. }
         | Expr::Unary { .. }
-        | Expr::Cast { .. } => Err(impossible()),
+        | Expr::Cast { .. } => unreachable!(),
     }
 }
 
 /// A scalar that is read.
-fn scalar(names: &Scopes, name: &Text, at: Place) -> Result<CoreExpr, AllocError> {
+fn scalar(names: &Scopes, name: &Text, at: Place) -> Result<CoreExpr, AllocError>
+    ensures { IfOk result (λ it. core_of it ≡ spec.scalar_of (known.object_named names.now name.now) at) }
+{
     let object = object_named(names, name)?;
     Ok(CoreExpr::Scalar {
         cell: object.cell,
@@ -148,7 +164,9 @@ fn element(
     array: &Text,
     subscripts: &[Expr],
     at: Place,
-) -> Result<CoreExpr, AllocError> {
+) -> Result<CoreExpr, AllocError>
+    ensures { IfOk result (λ it. core_of it ≡ elaborated functions.now names.now (tree.index array.now (trees_of subscripts.now) at)) }
+{
     let object = object_named(names, array)?;
     let subscripts = all(alloc, functions, names, subscripts)?;
     Ok(CoreExpr::Element {
@@ -168,7 +186,9 @@ fn call(
     callee: &Text,
     args: &[Expr],
     at: Place,
-) -> Result<CoreExpr, AllocError> {
+) -> Result<CoreExpr, AllocError>
+    ensures { IfOk result (λ it. core_of it ≡ elaborated functions.now names.now (tree.call callee.now (trees_of args.now) at)) }
+{
     let called = function_named(functions, callee)?;
     let args = arguments(alloc, functions, names, args)?;
     Ok(CoreExpr::Call {
@@ -186,7 +206,9 @@ fn choice(
     no: CoreExpr,
     at: Place,
     colon: Place,
-) -> Result<CoreExpr, AllocError> {
+) -> Result<CoreExpr, AllocError>
+    ensures { IfOk result (λ it. core_of it ≡ choice_of (core_of test) (core_of yes) (core_of no) at colon) }
+{
     let kind = common(kind_of(&yes), kind_of(&no));
     let test = Box::new(alloc, test)?;
     let yes = Box::new(alloc, yes)?;
@@ -209,7 +231,9 @@ pub fn assigned(
     functions: &[Signature],
     names: &Scopes,
     target: &Target,
-) -> Result<CoreTarget, AllocError> {
+) -> Result<CoreTarget, AllocError>
+    ensures { IfOk result (λ it. core_target_of it ≡ target_elaborated functions.now names.now (target_of target.now)) }
+{
     let object = object_named(names, &target.name)?;
     let subscripts = all(alloc, functions, names, &target.subscripts)?;
     Ok(CoreTarget {
@@ -227,7 +251,9 @@ fn all(
     functions: &[Signature],
     names: &Scopes,
     es: &[Expr],
-) -> Result<Vec<CoreExpr>, AllocError> {
+) -> Result<Vec<CoreExpr>, AllocError>
+    ensures { IfOk result (λ list. row (map core_of list.items) ≡ all_elaborated functions.now names.now (trees_of es.now)) }
+{
     let mut list = Vec::new(alloc);
     for e in es {
         list.push(expression(alloc, functions, names, e)?)?;
@@ -242,7 +268,9 @@ fn arguments(
     functions: &[Signature],
     names: &Scopes,
     args: &[Expr],
-) -> Result<Vec<Argument>, AllocError> {
+) -> Result<Vec<Argument>, AllocError>
+    ensures { IfOk result (λ list. argument_row (map core_argument_of list.items) ≡ arguments_elaborated functions.now names.now (trees_of args.now)) }
+{
     let mut list = Vec::new(alloc);
     for arg in args {
         list.push(argument(alloc, functions, names, arg)?)?;
@@ -257,7 +285,9 @@ fn argument(
     functions: &[Signature],
     names: &Scopes,
     arg: &Expr,
-) -> Result<Argument, AllocError> {
+) -> Result<Argument, AllocError>
+    ensures { IfOk result (λ it. core_argument_of it ≡ argument_elaborated functions.now names.now (tree_of arg.now)) }
+{
     if let Expr::Name { name, .. } = arg {
         let object = object_named(names, name)?;
         if object.is_array {
@@ -273,7 +303,9 @@ fn action(
     functions: &[Signature],
     names: &Scopes,
     action: &Action,
-) -> Result<CoreAction, AllocError> {
+) -> Result<CoreAction, AllocError>
+    ensures { IfOk result (λ it. core_action_of it ≡ action_elaborated functions.now names.now (action_of action.now)) }
+{
     match action {
         Action::Assign {
             target,
@@ -288,9 +320,10 @@ fn action(
         }
         Action::Bump { target, up, at } => {
             let target = assigned(alloc, functions, names, target)?;
+            let up = *up;
             Ok(CoreAction::Change(CoreExpr::Bump {
                 target,
-                up: *up,
+                up,
                 post: false,
                 at: *at,
             }))
@@ -307,7 +340,9 @@ pub fn actions(
     functions: &[Signature],
     names: &Scopes,
     actions: &[Action],
-) -> Result<Vec<CoreAction>, AllocError> {
+) -> Result<Vec<CoreAction>, AllocError>
+    ensures { IfOk result (λ list. map core_action_of list.items ≡ map (λ a. action_elaborated functions.now names.now (action_of a)) actions.now) }
+{
     let mut list = Vec::new(alloc);
     for a in actions {
         list.push(action(alloc, functions, names, a)?)?;
@@ -320,7 +355,9 @@ pub fn optional(
     functions: &[Signature],
     names: &Scopes,
     e: &Option<Expr>,
-) -> Result<Option<CoreExpr>, AllocError> {
+) -> Result<Option<CoreExpr>, AllocError>
+    ensures { IfOk result (λ it. option_map core_of it ≡ option_map (elaborated functions.now names.now) (option_map tree_of e.now)) }
+{
     match e {
         None => Ok(None),
         Some(e) => Ok(Some(expression(alloc, functions, names, e)?)),

@@ -1,4 +1,9 @@
 //! The objects of file scope.
+ghost use Rattle.std.specs.Prelude.{◌≡◌, [], map, IfOk};
+ghost use Rattle.c_tree.specs.View.{object_of};
+ghost use Rattle.c_meaning.specs.Declarations.{objects_of};
+ghost use Rattle.core_program.specs.CoreView.{file_object_of};
+ghost use Rattle.c_elaborate.specs.Programs as spec;
 
 use crate::blocks::{binding, core_object};
 use crate::names::Scopes;
@@ -10,7 +15,9 @@ use core_program::expression::{Cell, Scope};
 use core_program::program::FileObject;
 use std::alloc::{AllocError, Global};
 
-fn file_object(alloc: Global, o: &Object) -> Result<FileObject, AllocError> {
+fn file_object(alloc: Global, o: &Object) -> Result<FileObject, AllocError>
+    ensures { IfOk result (λ it. file_object_of it ≡ spec.file_object (object_of o.now)) }
+{
     let first = first_object(alloc, o)?;
     Ok(FileObject {
         object: core_object(alloc, o)?,
@@ -19,7 +26,9 @@ fn file_object(alloc: Global, o: &Object) -> Result<FileObject, AllocError> {
 }
 
 /// The objects of file scope, as their initialisers give them.
-pub fn file_objects(alloc: Global, declared: &[&Object]) -> Result<Vec<FileObject>, AllocError> {
+pub fn file_objects(alloc: Global, declared: &[&Object]) -> Result<Vec<FileObject>, AllocError>
+    ensures { IfOk result (λ all. map file_object_of all.items ≡ map spec.file_object (objects_of declared.now)) }
+{
     let mut all = Vec::new(alloc);
     for o in declared {
         all.push(file_object(alloc, o)?)?;
@@ -28,7 +37,9 @@ pub fn file_objects(alloc: Global, declared: &[&Object]) -> Result<Vec<FileObjec
 }
 
 /// The names of file scope.
-pub fn file_names(alloc: Global, declared: &[&Object]) -> Result<Scopes, AllocError> {
+pub fn file_names(alloc: Global, declared: &[&Object]) -> Result<Scopes, AllocError>
+    ensures { IfOk result (λ names. names ≡ spec.file_names 0 [] (objects_of declared.now)) }
+{
     let mut names = Scopes::new(alloc);
     for (i, o) in declared.iter().enumerate() {
         let cell = Cell {

@@ -1,4 +1,12 @@
 //! Functions with a body, and their numbers.
+ghost use Rattle.std.specs.Prelude.{◌≡◌, ◌++◌, map, take, length, IfOk, OnOk, bytes_eq};
+ghost use Rattle.c_tree.specs.View.{param_of, function_of, item_of, stmts_of};
+ghost use Rattle.core_program.specs.CoreView.{core_object_of, core_function_of};
+ghost use Rattle.c_elaborate.specs.Names.{function_number, result_of};
+ghost use Rattle.c_elaborate.specs.Objects.{object_elaborated};
+ghost use Rattle.c_elaborate.specs.Scenes.{all_declared};
+ghost use Rattle.c_elaborate.specs.Programs.{objects_of_params, function_elaborated, functions_of_item, functions_elaborated};
+ghost use Rattle.c_elaborate.specs.Programs as spec;
 
 use crate::blocks::{Scene, core_object};
 use crate::numbers::number_behind;
@@ -27,7 +35,9 @@ pub struct Called {
 }
 
 /// The functions with a body, in order.
-pub fn signatures(alloc: Global, items: &[Item]) -> Result<Vec<Signature>, AllocError> {
+pub fn signatures(alloc: Global, items: &[Item]) -> Result<Vec<Signature>, AllocError>
+    ensures { IfOk result (λ all. all.items ≡ spec.signatures (map item_of items.now)) }
+{
     let mut all = Vec::new(alloc);
     for item in items {
         if let Item::Function(f) = item
@@ -43,12 +53,17 @@ pub fn signatures(alloc: Global, items: &[Item]) -> Result<Vec<Signature>, Alloc
     Ok(all)
 }
 
-fn is_same_name(name: &Text, other: &Text) -> bool {
+fn is_same_name(name: &Text, other: &Text) -> bool
+    ensures { result ≡ bytes_eq name.now other.now }
+{
     name.items() == other.items()
 }
 
 /// The function of this name. Each function that a program without faults calls has a body.
-pub fn function_named(functions: &[Signature], name: &Text) -> Result<Called, AllocError> {
+pub fn function_named(functions: &[Signature], name: &Text) -> Result<Called, AllocError>
+    ensures number { IfOk result (λ c. c.number ≡ function_number functions.now name.now) }
+    ensures kind { IfOk result (λ c. c.result ≡ result_of functions.now name.now) }
+{
     for (i, f) in functions.iter().enumerate() {
         if is_same_name(&f.name, name) {
             return Ok(Called {
@@ -61,7 +76,9 @@ pub fn function_named(functions: &[Signature], name: &Text) -> Result<Called, Al
 }
 
 /// The items before this index.
-pub fn first_items(items: &[Item], index: u32) -> &[Item] {
+pub fn first_items(items: &[Item], index: u32) -> &[Item]
+    ensures { result.now ≡ take index items.now }
+{
     let index = index as usize;
     if index < items.len() {
         &items[..index]
@@ -76,7 +93,10 @@ fn enter_params(
     scene: &mut Scene,
     objects: &mut Vec<CoreObject>,
     params: &[Param],
-) -> Result<(), AllocError> {
+) -> Result<(), AllocError>
+    ensures scene { OnOk result (scene.new ≡ all_declared scene.old (objects_of_params (map param_of params.now))) }
+    ensures objects { OnOk result (map core_object_of objects.new.items ≡ map core_object_of objects.old.items ++ map object_elaborated (objects_of_params (map param_of params.now))) }
+{
     for param in params {
         objects.push(core_object(alloc, &param.object)?)?;
         scene.declare(alloc, &param.object)?;
@@ -91,7 +111,10 @@ fn function(
     scene: &mut Scene,
     f: &Function,
     body: &[Stmt],
-) -> Result<CoreFunction, AllocError> {
+) -> Result<CoreFunction, AllocError>
+    ensures function { IfOk result (λ it. core_function_of it ≡ function_elaborated functions.now scene.old (function_of f.now) (stmts_of body.now)) }
+    ensures scene { OnOk result (scene.new ≡ scene.old) }
+{
     let mark = scene.mark();
     let mut objects = Vec::new(alloc);
     enter_params(alloc, scene, &mut objects, &f.params)?;
@@ -116,7 +139,10 @@ fn add_function(
     scene: &mut Scene,
     all: &mut Vec<CoreFunction>,
     item: &Item,
-) -> Result<(), AllocError> {
+) -> Result<(), AllocError>
+    ensures functions { OnOk result (map core_function_of all.new.items ≡ map core_function_of all.old.items ++ functions_of_item functions.now scene.old (item_of item.now)) }
+    ensures scene { OnOk result (scene.new ≡ scene.old) }
+{
     if let Item::Function(f) = item
         && let Some(body) = &f.body
     {
@@ -131,7 +157,9 @@ pub fn all_functions(
     functions: &[Signature],
     scene: &mut Scene,
     items: &[Item],
-) -> Result<Vec<CoreFunction>, AllocError> {
+) -> Result<Vec<CoreFunction>, AllocError>
+    ensures { IfOk result (λ all. map core_function_of all.items ≡ functions_elaborated functions.now scene.old (map item_of items.now)) }
+{
     let mut all = Vec::new(alloc);
     for item in items {
         add_function(alloc, functions, scene, &mut all, item)?;

@@ -1,9 +1,22 @@
 //! What declarations write.
+ghost use Rattle.std.specs.Prelude.{◌≡◌, ◌++◌, ◌*◌, ◌≤◌, ◌<◌, map, replicate, None, IfOk, OnOk};
+ghost use Rattle.std.specs.Option.{option_map};
+ghost use Rattle.hls_base.specs.ArrayAddress.{element_count};
+ghost use Rattle.c_tree.specs.View.{init_of, object_of};
+ghost use Rattle.c_meaning.specs.Limits.{IsWithinLimits};
+ghost use Rattle.c_meaning.specs.Statement.{items_of};
+ghost use Rattle.c_meaning.specs.Store.{lengths_in};
+ghost use Rattle.core_program.specs.CoreView.{core_of, core_init_of};
+ghost use Rattle.c_elaborate.specs.Expressions.{elaborated};
+ghost use Rattle.c_elaborate.specs.Statements.{init_elaborated};
+ghost use Rattle.c_elaborate.specs.Statements as spec;
+ghost use Rattle.c_elaborate.specs.Items.{trees_in, tree_in};
 
 use crate::expressions::expression;
 use crate::functions::Signature;
 use crate::names::Scopes;
 use c_meaning::lengths::lengths;
+use c_meaning::object::element_count;
 use c_tree::expression::Expr;
 use c_tree::object::{Init, Object};
 use core_program::expression::CoreExpr;
@@ -11,20 +24,23 @@ use core_program::statement::CoreInit;
 use hls_base::refusal::impossible;
 use std::alloc::{AllocError, Global};
 
-fn add_missing(items: &mut Vec<Option<&Expr>>, count: usize) -> Result<(), AllocError> {
+fn add_missing(items: &mut Vec<Option<&Expr>>, count: usize) -> Result<(), AllocError>
+    ensures { OnOk result (trees_in items.new.items ≡ trees_in items.old.items ++ replicate count None) }
+{
     for k in 0..count {
         items.push(None)?;
     }
     Ok(())
 }
 
-/// The number of elements of an array with these lengths.
-fn element_total(lengths: &[usize]) -> usize {
-    let mut total: usize = 1;
-    for length in lengths {
-        total = total.saturating_mul(*length);
-    }
-    total
+/// The number of elements in so many rows.
+fn rows_count(rows: usize, inner: &[usize], len: usize) -> usize
+    requires rows { rows ≤ len }
+    requires positive { 0 < len }
+    requires limits { len * element_count inner.now ≤ 65536 }
+    ensures { result ≡ rows * element_count inner.now }
+{
+    rows * element_count(inner)
 }
 
 /// Adds the items of an initialiser for an array with these lengths, row by row, and none for each that is missing.
@@ -32,7 +48,10 @@ fn add_items<'p>(
     items: &mut Vec<Option<&'p Expr>>,
     lengths: &[usize],
     init: &'p Init,
-) -> Result<(), AllocError> {
+) -> Result<(), AllocError>
+    requires { IsWithinLimits lengths.now }
+    ensures { OnOk result (trees_in items.new.items ≡ trees_in items.old.items ++ items_of lengths.now (init_of init.now)) }
+{
     match init {
         Init::Single(e) => items.push(Some(e))?,
         Init::List(rows, _) => {
@@ -43,7 +62,7 @@ fn add_items<'p>(
                 add_items(items, inner, row)?;
             }
             let missing = len.saturating_sub(rows.len());
-            add_missing(items, missing.saturating_mul(element_total(inner)))?;
+            add_missing(items, rows_count(missing, inner, *len))?;
         }
     }
     Ok(())
@@ -55,7 +74,9 @@ fn elements(
     functions: &[Signature],
     names: &Scopes,
     items: &[Option<&Expr>],
-) -> Result<Vec<Option<CoreExpr>>, AllocError> {
+) -> Result<Vec<Option<CoreExpr>>, AllocError>
+    ensures { IfOk result (λ all. map (option_map core_of) all.items ≡ map (option_map (elaborated functions.now names.now)) (trees_in items.now)) }
+{
     let mut all = Vec::new(alloc);
     for item in items {
         all.push(element(alloc, functions, names, *item)?)?;
@@ -68,7 +89,9 @@ fn element(
     functions: &[Signature],
     names: &Scopes,
     item: Option<&Expr>,
-) -> Result<Option<CoreExpr>, AllocError> {
+) -> Result<Option<CoreExpr>, AllocError>
+    ensures { IfOk result (λ it. option_map core_of it ≡ option_map (elaborated functions.now names.now) (tree_in item.entry)) }
+{
     match item {
         None => Ok(None),
         Some(e) => Ok(Some(expression(alloc, functions, names, e)?)),
@@ -82,7 +105,9 @@ fn written(
     names: &Scopes,
     o: &Object,
     init: &Init,
-) -> Result<CoreInit, AllocError> {
+) -> Result<CoreInit, AllocError>
+    ensures { IfOk result (λ it. core_init_of it ≡ spec.written functions.now names.now (lengths_in (object_of o.now)) (init_of init.now)) }
+{
     let lengths = lengths(alloc, o)?;
     match init {
         Init::Single(e) if lengths.is_empty() => {
@@ -104,7 +129,9 @@ pub fn initialiser(
     functions: &[Signature],
     names: &Scopes,
     o: &Object,
-) -> Result<CoreInit, AllocError> {
+) -> Result<CoreInit, AllocError>
+    ensures { IfOk result (λ it. core_init_of it ≡ init_elaborated functions.now names.now (lengths_in (object_of o.now)) (object_of o.now).init) }
+{
     match &o.init {
         None => Ok(CoreInit::Unwritten),
         Some(init) => written(alloc, functions, names, o, init),

@@ -1,4 +1,8 @@
 //! What names stand for.
+ghost use Rattle.std.specs.Prelude.{◌≡◌, ◌-◌, ◌<◌, ◌≤◌, ℕ, List, true, [], ◌∷◌, IfOk, length, drop, is_some, bytes_eq, if◌then◌else◌};
+ghost use Rattle.c_elaborate.specs.Names as spec;
+ghost use Rattle.c_elaborate.specs.Names.{object_found};
+ghost use Rattle.c_elaborate.specs.Entries.{entry_in, index_in};
 
 use c_token::ctype::CType;
 use core_program::expression::Cell;
@@ -6,6 +10,7 @@ use hls_base::refusal::impossible;
 use hls_base::text::Text;
 use indexmap::IndexMap;
 use std::alloc::{AllocError, Global};
+use std::marker::Model;
 
 /// An object that a name stands for.
 #[derive(Clone, Copy, Debug, PartialEq, Eq)]
@@ -29,15 +34,30 @@ struct Layer {
     hidden: Option<usize>,
 }
 
-/// The names that are visible at a place, each with its latest declaration.
+/// The names that are visible at a place. A clause sees them from the latest to the earliest.
 #[derive(Drop)]
 pub struct Scopes {
     layers: Vec<Layer>,
     latest: IndexMap<Vec<u8>, Option<usize>>,
 }
 
+impl Model for Scopes {
+    ghost use Rattle.std.specs.Prelude.{List};
+    ghost use Rattle.c_elaborate.specs.declared.names.Binding.{Binding};
+
+    ghost Value = { List Binding };
+
+    ghost use Rattle.c_elaborate.specs.Layers.{visible, IsIndexed};
+
+    ghost view = { λ s. visible s.layers.items };
+
+    ghost invariant = { λ s. IsIndexed s.layers.items s.latest.entries };
+}
+
 impl Scopes {
-    pub fn new(alloc: Global) -> Scopes {
+    pub fn new(alloc: Global) -> Scopes
+        ensures { result ≡ [] }
+    {
         Scopes {
             layers: Vec::new(alloc),
             latest: IndexMap::new(alloc),
@@ -45,26 +65,28 @@ impl Scopes {
     }
 
     /// How many names are visible.
-    pub fn len(&self) -> usize {
+    pub fn len(&self) -> usize
+        ensures { result ≡ length self.now }
+    {
         self.layers.len()
     }
 
     /// What the name stands for, if anything.
-    pub fn find(&self, name: &Text) -> Option<Known> {
+    pub fn find(&self, name: &Text) -> Option<Known>
+        ensures { result ≡ object_found name.now self.now }
+    {
         match latest_index(&self.latest, name.items()) {
             None => None,
             Some(index) => {
-                if index < self.layers.len() {
-                    let layer = &self.layers[index];
-                    Some(layer.binding.object)
-                } else {
-                    None
-                }
+                let layer = &self.layers[index];
+                Some(layer.binding.object)
             }
         }
     }
 
-    pub fn declare(&mut self, alloc: Global, binding: Binding) -> Result<(), AllocError> {
+    pub fn declare(&mut self, alloc: Global, binding: Binding) -> Result<(), AllocError>
+        ensures { IfOk result (λ _. self.new ≡ binding ∷ self.old) }
+    {
         let index = self.layers.len();
         let name = Vec::from_slice(alloc, binding.name.items())?;
         let hidden = latest_index(&self.latest, &name);
@@ -79,14 +101,19 @@ impl Scopes {
     }
 
     /// Forgets the latest name.
-    fn forget_latest(&mut self) {
+    fn forget_latest(&mut self)
+        requires { 0 < length self.old }
+        ensures { self.new ≡ drop 1 self.old }
+    {
         if let Some(layer) = self.layers.pop() {
             restore(&mut self.latest, layer.binding.name.items(), layer.hidden);
         }
     }
 
     /// Forgets the names that were declared since there were so many.
-    pub fn forget(&mut self, len: usize) {
+    pub fn forget(&mut self, len: usize)
+        ensures { self.new ≡ drop (length self.old - len) self.old }
+    {
         let count = self.len().saturating_sub(len);
         for i in 0..count {
             self.forget_latest();
@@ -95,7 +122,9 @@ impl Scopes {
 }
 
 /// The index of the latest declaration of the name.
-fn latest_index(latest: &IndexMap<Vec<u8>, Option<usize>>, name: &[u8]) -> Option<usize> {
+fn latest_index(latest: &IndexMap<Vec<u8>, Option<usize>>, name: &[u8]) -> Option<usize>
+    ensures { result ≡ index_in name.now latest.now.entries }
+{
     match latest.get(name) {
         Some(index) => *index,
         None => None,
@@ -103,14 +132,19 @@ fn latest_index(latest: &IndexMap<Vec<u8>, Option<usize>>, name: &[u8]) -> Optio
 }
 
 /// Gives the name's entry this index.
-fn restore(latest: &mut IndexMap<Vec<u8>, Option<usize>>, name: &[u8], index: Option<usize>) {
+fn restore(latest: &mut IndexMap<Vec<u8>, Option<usize>>, name: &[u8], index: Option<usize>)
+    requires { is_some (entry_in name.now latest.old.entries) ≡ true }
+    ensures { (q : List ℕ) → index_in q latest.new.entries ≡ (if bytes_eq q name.now then index else index_in q latest.old.entries) }
+{
     if let Some(entry) = latest.get_mut(name) {
         *entry = index;
     }
 }
 
 /// The object that a name stands for. Each name of a program without faults is declared.
-pub fn object_named(names: &Scopes, name: &Text) -> Result<Known, AllocError> {
+pub fn object_named(names: &Scopes, name: &Text) -> Result<Known, AllocError>
+    ensures { IfOk result (λ object. object ≡ spec.object_named names.now name.now) }
+{
     match names.find(name) {
         Some(object) => Ok(object),
         None => Err(impossible()),

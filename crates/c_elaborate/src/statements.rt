@@ -1,4 +1,14 @@
 //! Statements with their names resolved.
+ghost use Rattle.std.specs.Prelude.{◌≡◌, ◌++◌, ◌+◌, map, length, IfOk, OnOk};
+ghost use Rattle.std.specs.Option.{option_map};
+ghost use Rattle.c_tree.specs.View.{tree_of, object_of, stmt_of, stmts_of, else_of, else_part, first_part};
+ghost use Rattle.c_value.specs.Constant.{constant_value as spec_constant_value};
+ghost use Rattle.c_meaning.specs.Store.{declared_in, declared_first};
+ghost use Rattle.core_program.specs.CoreView.{core_object_of, core_stmt_of, core_else_of, core_else_part};
+ghost use Rattle.c_elaborate.specs.Objects.{object_elaborated, objects_of, else_objects, first_objects, objects_within, from};
+ghost use Rattle.c_elaborate.specs.Scenes.{opened, labelled_by, all_declared};
+ghost use Rattle.c_elaborate.specs.Statements.{value_pattern, label_pattern};
+ghost use Rattle.c_elaborate.specs.Statements as spec;
 
 use crate::blocks::{Scene, add_objects, declared_by, enter};
 use crate::build::{Block, do_loop, for_loop, labelled, nested, selection, switch, while_loop};
@@ -19,14 +29,18 @@ use hls_base::refusal::impossible;
 use std::alloc::{AllocError, Global};
 
 /// The bit pattern of a label's value in this type. The labels of a program without faults have values.
-fn value_bits(kind: CType, value: &Expr) -> Result<u64, AllocError> {
+fn value_bits(kind: CType, value: &Expr) -> Result<u64, AllocError>
+    ensures { IfOk result (λ bits. bits ≡ value_pattern kind (spec_constant_value (tree_of value.now))) }
+{
     match constant_value(value) {
         Constant::Number { number, .. } => Ok(pattern(kind, convert(kind, number))),
         _ => Err(impossible()),
     }
 }
 
-fn label(kind: CType, value: &Option<Expr>) -> Result<Option<u64>, AllocError> {
+fn label(kind: CType, value: &Option<Expr>) -> Result<Option<u64>, AllocError>
+    ensures { IfOk result (λ bits. bits ≡ label_pattern kind (option_map tree_of value.now)) }
+{
     match value {
         None => Ok(None),
         Some(value) => Ok(Some(value_bits(kind, value)?)),
@@ -41,7 +55,11 @@ fn statement(
     scene: &mut Scene,
     objects: &mut Vec<CoreObject>,
     stmt: &Stmt,
-) -> Result<CoreStmt, AllocError> {
+) -> Result<CoreStmt, AllocError>
+    ensures stmt { IfOk result (λ s. core_stmt_of s ≡ spec.statement functions.now scene.old (length objects.old.items) (stmt_of stmt.now)) }
+    ensures scene { OnOk result (scene.new ≡ scene.old) }
+    ensures objects { OnOk result (map core_object_of objects.new.items ≡ map core_object_of objects.old.items ++ map object_elaborated (objects_of (stmt_of stmt.now))) }
+{
     match stmt {
         Stmt::Block(body) => Ok(nested(inner_block(alloc, functions, scene, objects, body)?)),
         Stmt::Declare(_) => Err(impossible()),
@@ -105,7 +123,11 @@ fn branch(
     scene: &mut Scene,
     objects: &mut Vec<CoreObject>,
     branch: &Option<Else>,
-) -> Result<Option<CoreElse>, AllocError> {
+) -> Result<Option<CoreElse>, AllocError>
+    ensures stmt { IfOk result (λ e. core_else_part (option_map core_else_of e) ≡ spec.else_statement functions.now scene.old (length objects.old.items) (else_part (option_map else_of branch.now))) }
+    ensures scene { OnOk result (scene.new ≡ scene.old) }
+    ensures objects { OnOk result (map core_object_of objects.new.items ≡ map core_object_of objects.old.items ++ map object_elaborated (else_objects (else_part (option_map else_of branch.now)))) }
+{
     match branch {
         None => Ok(None),
         Some(branch) => {
@@ -126,7 +148,12 @@ fn switch_block(
     scene: &mut Scene,
     objects: &mut Vec<CoreObject>,
     body: &[Stmt],
-) -> Result<Block, AllocError> {
+) -> Result<Block, AllocError>
+    ensures numbers { IfOk result (λ b. b.objects.items ≡ from (length objects.old.items) (length (declared_in (stmts_of body.now)))) }
+    ensures body { IfOk result (λ b. map core_stmt_of b.body.items ≡ spec.statements functions.now (labelled_by labels (opened scene.old (length objects.old.items))) (length objects.old.items + length (declared_in (stmts_of body.now))) (stmts_of body.now)) }
+    ensures scene { OnOk result (scene.new ≡ scene.old) }
+    ensures objects { OnOk result (map core_object_of objects.new.items ≡ map core_object_of objects.old.items ++ map object_elaborated (declared_in (stmts_of body.now) ++ objects_within (stmts_of body.now))) }
+{
     let mark = scene.mark();
     scene.labels = labels;
     let part = open_block(alloc, functions, scene, objects, body)?;
@@ -142,7 +169,12 @@ fn inner_block(
     scene: &mut Scene,
     objects: &mut Vec<CoreObject>,
     body: &[Stmt],
-) -> Result<Block, AllocError> {
+) -> Result<Block, AllocError>
+    ensures numbers { IfOk result (λ b. b.objects.items ≡ from (length objects.old.items) (length (declared_in (stmts_of body.now)))) }
+    ensures body { IfOk result (λ b. map core_stmt_of b.body.items ≡ spec.statements functions.now (opened scene.old (length objects.old.items)) (length objects.old.items + length (declared_in (stmts_of body.now))) (stmts_of body.now)) }
+    ensures scene { OnOk result (scene.new ≡ scene.old) }
+    ensures objects { OnOk result (map core_object_of objects.new.items ≡ map core_object_of objects.old.items ++ map object_elaborated (declared_in (stmts_of body.now) ++ objects_within (stmts_of body.now))) }
+{
     let mark = scene.mark();
     let part = open_block(alloc, functions, scene, objects, body)?;
     scene.leave(mark);
@@ -157,7 +189,12 @@ pub fn open_block(
     scene: &mut Scene,
     objects: &mut Vec<CoreObject>,
     body: &[Stmt],
-) -> Result<Block, AllocError> {
+) -> Result<Block, AllocError>
+    ensures numbers { IfOk result (λ b. b.objects.items ≡ from (length objects.old.items) (length (declared_in (stmts_of body.now)))) }
+    ensures body { IfOk result (λ b. map core_stmt_of b.body.items ≡ spec.statements functions.now (opened scene.old (length objects.old.items)) (length objects.old.items + length (declared_in (stmts_of body.now))) (stmts_of body.now)) }
+    ensures scene { OnOk result (scene.new ≡ all_declared (opened scene.old (length objects.old.items)) (declared_in (stmts_of body.now))) }
+    ensures objects { OnOk result (map core_object_of objects.new.items ≡ map core_object_of objects.old.items ++ map object_elaborated (declared_in (stmts_of body.now) ++ objects_within (stmts_of body.now))) }
+{
     scene.open(objects.len())?;
     let numbers = enter(alloc, objects, body)?;
     let body = all(alloc, functions, scene, objects, body)?;
@@ -175,7 +212,12 @@ fn head(
     scene: &mut Scene,
     objects: &mut Vec<CoreObject>,
     init: &Option<Box<Stmt>>,
-) -> Result<Block, AllocError> {
+) -> Result<Block, AllocError>
+    ensures numbers { IfOk result (λ b. b.objects.items ≡ from (length objects.old.items) (length (declared_first (first_part (option_map (λ s. stmt_of s.value) init.now))))) }
+    ensures body { IfOk result (λ b. map core_stmt_of b.body.items ≡ spec.first_statements functions.now (opened scene.old (length objects.old.items)) (length objects.old.items + length (declared_first (first_part (option_map (λ s. stmt_of s.value) init.now)))) (first_part (option_map (λ s. stmt_of s.value) init.now))) }
+    ensures scene { OnOk result (scene.new ≡ all_declared (opened scene.old (length objects.old.items)) (declared_first (first_part (option_map (λ s. stmt_of s.value) init.now)))) }
+    ensures objects { OnOk result (map core_object_of objects.new.items ≡ map core_object_of objects.old.items ++ map object_elaborated (declared_first (first_part (option_map (λ s. stmt_of s.value) init.now)) ++ first_objects (first_part (option_map (λ s. stmt_of s.value) init.now)))) }
+{
     scene.open(objects.len())?;
     let mut numbers = Vec::new(alloc);
     let mut body = Vec::new(alloc);
@@ -202,7 +244,11 @@ fn all(
     scene: &mut Scene,
     objects: &mut Vec<CoreObject>,
     body: &[Stmt],
-) -> Result<Vec<CoreStmt>, AllocError> {
+) -> Result<Vec<CoreStmt>, AllocError>
+    ensures body { IfOk result (λ list. map core_stmt_of list.items ≡ spec.statements functions.now scene.old (length objects.old.items) (stmts_of body.now)) }
+    ensures scene { OnOk result (scene.new ≡ all_declared scene.old (declared_in (stmts_of body.now))) }
+    ensures objects { OnOk result (map core_object_of objects.new.items ≡ map core_object_of objects.old.items ++ map object_elaborated (objects_within (stmts_of body.now))) }
+{
     let mut list = Vec::new(alloc);
     for stmt in body {
         let declared = declared_by(stmt);
@@ -222,7 +268,10 @@ fn add_declarations(
     scene: &mut Scene,
     list: &mut Vec<CoreStmt>,
     declared: &[Object],
-) -> Result<(), AllocError> {
+) -> Result<(), AllocError>
+    ensures list { OnOk result (map core_stmt_of list.new.items ≡ map core_stmt_of list.old.items ++ spec.declarations functions.now scene.old (map object_of declared.now)) }
+    ensures scene { OnOk result (scene.new ≡ all_declared scene.old (map object_of declared.now)) }
+{
     for o in declared {
         let object = scene.declare(alloc, o)?;
         let init = initialiser(alloc, functions, &scene.names, o)?;
