@@ -13,7 +13,7 @@ use Rattle.sum_program.specs.SumForm.{IsWord, IsSum}
 use Rattle.sum_circuit.specs.SumCircuit.{sum_netlist}
 use Rattle.hls_flow.specs.FirstFault as f
 use Rattle.hls_flow.specs.FirstFault.{IsTheProgramOf, IsTopFunction, IsSumSource, IsFound, IsTooLarge, IsFirstFault}
-use Rattle.hls_flow.specs.Synthesis.{SynthesisIsCorrect, HasTexts, IsSynthesis}
+use Rattle.hls_flow.specs.Synthesis.{SynthesisIsCorrect, HasTexts, HasScheduledTexts, IsSynthesis}
 use Rattle.hls_flow.specs.SumReport.{sum_report}
 use Rattle.hls_flow.proofs.SumMade.{correct}
 
@@ -61,18 +61,13 @@ sum_synthesis source settings s m r found text report =
       index = all.index;
       function = all.function;
       top = all.top;
-      texts = record {
-        report = sum_report s settings;
-        report_is = report;
-        design = sum_netlist s;
-        module_is = text;
-        resources = record { settings_are = refl; units = refl; memories = refl; registers = refl };
-      };
+      texts = record { report = sum_report s settings; report_is = report; design = sum_netlist s; module_is = text; resources = all.resources };
       agrees = λ _ _. all;
+      scheduled = λ none. absurd (none s found.is);
     }
 
 pub other_synthesis : (source : List ℕ) (settings : Settings) (program : ProgramTree) (index : ℕ) (m r : List ℕ) → IsTheProgramOf source program → program_faults program settings.top ≡ []
-    → top_name program index ≡ Some settings.top → ((s : Sum) → IsSum program s → s.name ≢ settings.top) → HasTexts settings m r → IsSynthesis source settings m r
+    → top_name program index ≡ Some settings.top → ((s : Sum) → IsSum program s → s.name ≢ settings.top) → HasScheduledTexts settings m r → IsSynthesis source settings m r
 other_synthesis source settings program index m r the faultless named none texts =
     let top = top_of program index settings.top named in
     record {
@@ -82,8 +77,9 @@ other_synthesis source settings program index m r the faultless named none texts
       index = index;
       function = top.0;
       top = top.1;
-      texts = texts;
+      texts = texts.texts;
       agrees = λ s is. absurd (no_sum source settings.top program the none s is);
+      scheduled = λ _. texts.scheduled;
     }
 
 pub too_large : (source top : List ℕ) (program : ProgramTree) (r : Refusal) → IsTheProgramOf source program → program_faults program top ≡ [] → ((s : Sum) → IsSum program s → s.name ≢ top)

@@ -7,6 +7,8 @@ use Rattle.std.proofs.lemmas.Bool.Decides.{nat_tests}
 use Rattle.hls_base.specs.FileScope.{FileScope}
 use Rattle.hls_base.specs.declared.place.Place.{Place}
 use Rattle.hls_base.specs.declared.point.Point.{Point}
+use Rattle.hls_base.specs.declared.point.PointKind.TheVariants.{Begin}
+use Rattle.hls_base.specs.Tallies.{count_in}
 use Rattle.hls_base.specs.declared.settings.Settings.{Settings}
 use Rattle.c_token.specs.declared.ctype.CType.{CType}
 use Rattle.c_tree.specs.Tree.{ParamTree, FunctionTree, ProgramTree}
@@ -34,8 +36,8 @@ use Rattle.sum_circuit.proofs.SumAgrees.{sum_agrees_with}
 use Rattle.sum_circuit.proofs.Names.{all_by}
 use Rattle.hls_flow.specs.FirstFault.{IsFound, IsTopFunction}
 use Rattle.cosim_pins.specs.FunctionPins.{scalar_bits, array_shapes, interface_of}
-use Rattle.hls_flow.specs.CBox.{ends, is_undefined, is_endless, c_answers}
-use Rattle.hls_flow.specs.Synthesis.{AreInRange, SynthesisIsCorrect}
+use Rattle.c_box.specs.CAnswers.{ends, is_undefined, is_endless, c_answers}
+use Rattle.hls_flow.specs.Synthesis.{AreInRange, ReportsCircuit, TakesTwoCycles, SynthesisIsCorrect}
 use Rattle.hls_flow.specs.SumReport.{sum_report}
 use Rattle.hls_flow.proofs.Words.{name_test}
 use Rattle.hls_flow.proofs.SumRun.{nothing_kept, runs_as_sum}
@@ -76,6 +78,29 @@ has_form s settings range word short = record {
   loops = All-nil _;
   memories = All-nil _;
 }
+
+-- no unit and no memory is needed, so there are no more than were asked for
+resources : (s : Sum) (settings : Settings) → ReportsCircuit (sum_report s settings) settings (sum_netlist s)
+resources s settings = record {
+  base = refl;
+  built = record { settings_are = refl; units = refl; memories = refl; registers = refl };
+  kept = record {
+    mul32 = omega arith;
+    mul64 = omega arith;
+    div32 = omega arith;
+    div64 = omega arith;
+    ports = All-nil _;
+    plain = λ _. refl;
+  };
+}
+
+twice : (n : ℕ) → 1 ≤ n → 2 ≤ 1 + (0 + 2 * n)
+twice n some = omega (arith, some)
+
+takes_two : (f : FunctionTree) (s : Sum) (settings : Settings) → IsSumFunction f s → TakesTwoCycles f (sum_report s settings)
+takes_two f s settings is tally passed =
+    let Begins : Place → Point = λ at. record { path = []; at = at; kind = Begin } in
+    twice (count_in tally (Begins s.at)) (subst (λ at. 1 ≤ count_in tally (Begins at)) is.at passed)
 
 -- ---- the program
 
@@ -155,5 +180,6 @@ correct source settings s m r found text report =
       module_is = text;
       named = ap (λ name. codes "hls_" ++ name) found.is.named;
       agrees = agrees found.is.program s settings is;
-      resources = record { settings_are = refl; units = refl; memories = (refl, refl); registers = refl };
+      resources = resources s settings;
+      long = takes_two is.function s settings is.is;
     }

@@ -1,4 +1,3 @@
 pub mod FirstFault
-pub mod CBox
 pub mod Synthesis
 pub mod SumReport

@@ -1,20 +1,26 @@
 -- What it is that a synthesis is correct: the module is a circuit that agrees with the C program, to the cycle that the report's formula gives.
-use Rattle.std.specs.Prelude.{◌≡◌, ℕ, ◌≤◌, List, [], ◌++◌, codes, length}
+use Rattle.std.specs.Prelude.{◌≡◌, ◌×◌, ℕ, ◌≤◌, List, [], ◌++◌, codes}
 use Rattle.hls_base.specs.declared.settings.Settings.{Settings}
+use Rattle.hls_base.specs.declared.point.Point.{Point}
+use Rattle.hls_base.specs.declared.point.PointKind.TheVariants.{Begin}
+use Rattle.hls_base.specs.Tallies.{count_in}
 use Rattle.c_tree.specs.Tree.{FunctionTree, ProgramTree}
 use Rattle.c_checked.specs.Programs.{program_faults}
 use Rattle.c_meaning.specs.Run.{first_contents}
 use Rattle.rtl_core.specs.Netlist.{Netlist}
 use Rattle.rtl_core.specs.ModuleText.{IsModuleText}
 use Rattle.rtl_core.specs.Agreement.{Agrees}
-use Rattle.rtl_core.specs.Resources.{multipliers, dividers}
 use Rattle.cycle_report.specs.PlainReport.{PlainReport}
 use Rattle.cycle_report.specs.ReportForm.{IsReport}
-use Rattle.compile_flow.specs.Reports.{ReportsDesign}
+use Rattle.cycle_report.specs.FormulaValue.{cycles}
+use Rattle.ir_core.specs.declared.cfg.Cfg.{Cfg}
+use Rattle.ir_core.specs.declared.stamp.Untimed.{Untimed}
+use Rattle.clock_ir.specs.declared.timed.Timed.{Timed}
+use Rattle.compile_flow.specs.Reports.{allowed_units, IsTimed, EachNodeCounts, ReportsDesign, IsReportOf, KeepsSettings}
 use Rattle.sum_program.specs.declared.program.Sum.{Sum}
 use Rattle.hls_flow.specs.FirstFault.{IsTheProgramOf, IsTopFunction, IsSumSource}
 use Rattle.cosim_pins.specs.FunctionPins.{interface_of}
-use Rattle.hls_flow.specs.CBox.{c_answers}
+use Rattle.c_box.specs.CAnswers.{c_answers}
 
 -- the ranges of the numbers that a user can ask for
 pub record AreInRange (s : Settings) : Type 0 where
@@ -26,12 +32,19 @@ pub record AreInRange (s : Settings) : Type 0 where
   pub ports_high : s.ports ≤ 2
   pub period_high : s.period ≤ 1000
 
--- the report names what the circuit is built of, and what was asked for
+-- the point that a run of the function passes first
+abbrev pub begin_of : FunctionTree → Point
+begin_of f = record { path = []; at = f.at; kind = Begin }
+
+-- a run that has passed it takes two cycles at least
+abbrev pub TakesTwoCycles : FunctionTree → PlainReport → Type 0
+TakesTwoCycles f report = (tally : List (Point × ℕ)) → 1 ≤ count_in tally (begin_of f) → 2 ≤ cycles report.base report.rows tally
+
+-- The report names what the circuit is built of and what was asked for, and the circuit has no more than that.
 pub record ReportsCircuit (report : PlainReport) (settings : Settings) (design : Netlist) : Type 0 where
-  pub settings_are : report.settings ≡ settings
-  pub units : report.units ≡ record { mul32 = multipliers 32 design; mul64 = multipliers 64 design; div32 = dividers 32 design; div64 = dividers 64 design }
-  pub memories : (report.memories ≡ []) × (design.mems ≡ [])
-  pub registers : report.registers ≡ length design.regs
+  pub base : report.base ≡ 1
+  pub built : ReportsDesign report settings design
+  pub kept : KeepsSettings report settings
 
 -- The module's bytes are a circuit whose pins agree with the C program that the source is, for every power-up and every list of pin values after reset: a run raises `done` in exactly the cycle that the report's formula gives for it, with its result, its final arrays and its file-scope contents.
 pub record SynthesisIsCorrect (source : List ℕ) (settings : Settings) (module_bytes report_bytes : List ℕ) : Type 0 where
@@ -48,6 +61,7 @@ pub record SynthesisIsCorrect (source : List ℕ) (settings : Settings) (module_
   pub named : design.name ≡ codes "hls_" ++ settings.top
   pub agrees : Agrees design (interface_of function) report.init (first_contents program) (c_answers program index report)
   pub resources : ReportsCircuit report settings design
+  pub long : TakesTwoCycles function report
 
 -- The module's bytes are the text of a circuit, and the report's bytes the text of a report that names what this circuit is built of, and the settings.
 pub record HasTexts (settings : Settings) (module_bytes report_bytes : List ℕ) : Type 0 where
@@ -55,9 +69,22 @@ pub record HasTexts (settings : Settings) (module_bytes report_bytes : List ℕ)
   pub report_is : IsReport report_bytes report
   pub design : Netlist
   pub module_is : IsModuleText module_bytes design
-  pub resources : ReportsDesign report settings design
+  pub resources : ReportsCircuit report settings design
 
--- What a synthesis gives: the source is one program without faults, whose top function has its body, and both files have their texts. Where the program is a sum, the circuit agrees with it.
+-- The report gives the cycles of a program of blocks and loops, each with the least times that its dependences and the orders of its units allow; the loops are those that the report names, each at its least interval.
+pub record IsScheduledReport (settings : Settings) (report : PlainReport) (design : Netlist) : Type 0 where
+  pub untimed : Cfg Untimed
+  pub timed : Cfg Timed
+  pub is_timed : IsTimed (allowed_units settings) untimed timed report.loops
+  pub reported : IsReportOf report settings timed design
+  pub longer : EachNodeCounts timed.nodes.items report
+
+-- texts whose report is that of a scheduled program
+pub record HasScheduledTexts (settings : Settings) (module_bytes report_bytes : List ℕ) : Type 0 where
+  pub texts : HasTexts settings module_bytes report_bytes
+  pub scheduled : IsScheduledReport settings texts.report texts.design
+
+-- What a synthesis gives: the source is one program without faults, whose top function has its body, and both files have their texts. Where the program is a sum, the circuit agrees with it; for the others that is not proved, and the report is that of a scheduled program.
 pub record IsSynthesis (source : List ℕ) (settings : Settings) (module_bytes report_bytes : List ℕ) : Type 0 where
   pub program : ProgramTree
   pub is : IsTheProgramOf source program
@@ -67,3 +94,4 @@ pub record IsSynthesis (source : List ℕ) (settings : Settings) (module_bytes r
   pub top : IsTopFunction program settings.top index function
   pub texts : HasTexts settings module_bytes report_bytes
   pub agrees : (sum : Sum) → IsSumSource source settings.top sum → SynthesisIsCorrect source settings module_bytes report_bytes
+  pub scheduled : ((sum : Sum) → ¬ IsSumSource source settings.top sum) → IsScheduledReport settings texts.report texts.design

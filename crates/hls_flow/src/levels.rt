@@ -12,7 +12,7 @@ use c_tree::function::{Function, Param};
 use c_tree::program::Item;
 use c_value::convert::number_of;
 use cosim_pins::drive::{Shown as ShownByModule, drive};
-use cosim_pins::interface::Interface;
+use cosim_pins::interface::{Interface, has_pins};
 use cycle_report::report::Formula;
 use hls_base::inputs::Inputs;
 use hls_base::point::{Point, Tally};
@@ -51,7 +51,7 @@ pub fn c_level(
     }
 }
 
-/// What the run of the module shows.
+/// What the run of the module shows. The circuit has the pins of the interface, and there is a number for each scalar parameter.
 pub fn module_level(
     alloc: Global,
     design: Design,
@@ -59,6 +59,12 @@ pub fn module_level(
     inputs: &Inputs,
     cycles: u64,
 ) -> Result<ShownByModule, Stop> {
+    if !design.valid() || !has_pins(alloc, &design, interface)? {
+        return Err(Stop::from(impossible()));
+    }
+    if inputs.scalars.items().len() != interface.scalars.len() {
+        return Err(Stop::from(impossible()));
+    }
     match drive(alloc, design, interface, inputs, cycles)? {
         Some(shown) => Ok(shown),
         None => Err(Stop::Answer(Verdict::Waiting {

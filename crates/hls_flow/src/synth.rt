@@ -12,7 +12,7 @@ ghost use Rattle.sum_program.specs.declared.program.Sum.{Sum};
 ghost use Rattle.sum_program.specs.SumForm.{IsWord, IsSum};
 ghost use Rattle.sum_circuit.specs.SumCircuit.{sum_netlist};
 ghost use Rattle.hls_flow.specs.FirstFault.{IsProgramOf, IsTheProgramOf, IsFaultBefore, IsFirstFault, IsTooLarge};
-ghost use Rattle.hls_flow.specs.Synthesis.{AreInRange, HasTexts, IsSynthesis};
+ghost use Rattle.hls_flow.specs.Synthesis.{AreInRange, HasScheduledTexts, IsSynthesis};
 ghost use Rattle.hls_flow.specs.SumReport.{sum_report};
 
 use c_checked::checked::Checked;
@@ -102,7 +102,7 @@ fn made_of_sum(alloc: Global, program: &Sum, settings: &Settings) -> Result<Made
 /// The texts of a program without faults. Where its calls make it too large it is refused, at the name of its top function.
 fn made_of_program(alloc: Global, checked: &Checked, settings: &Settings) -> Result<Made, Fail>
     requires { top_name (program_of checked.now.program) checked.now.top ≡ Some settings.now.top }
-    ensures made { IfOk result (λ m. HasTexts settings.now m.module m.report) }
+    ensures made { IfOk result (λ m. HasScheduledTexts settings.now m.module m.report) }
     ensures refused { IfRefused result (IsTooLarge (program_of checked.now.program) settings.now.top) }
 {
     match compiled_texts(alloc, checked, settings) {
@@ -126,7 +126,7 @@ fn too_large(checked: &Checked, top: &Text) -> Refusal
 
 /// The texts of what a program is compiled to.
 fn compiled_texts(alloc: Global, checked: &Checked, settings: &Settings) -> Result<Made, Fail>
-    ensures { IfOk result (λ m. HasTexts settings.now m.module m.report) }
+    ensures { IfOk result (λ m. HasScheduledTexts settings.now m.module m.report) }
 {
     let compiled = compile(alloc, checked, settings)?;
     let module = circuit_text(alloc, &compiled.design)?;

@@ -3,10 +3,22 @@ use Rattle.cycle_report.specs.PlainReport.{plain_of}
 use Rattle.hls_flow.proofs.synth.compiled_texts.Goals as goal
 
 pub returns : goal.returns
-returns c = record {
-  report = plain_of c.in_ok-compiled.compiled.report;
-  report_is = c.in_ok-report.ensures;
-  design = netlist_of c.in_ok-compiled.compiled.design;
-  module_is = c.in_ok-module.ensures.text;
-  resources = c.in_ok-compiled.ensures.report.built;
-}
+returns c =
+    let compiled = c.in_ok-compiled.compiled in
+    let reported = c.in_ok-compiled.ensures.report in
+    record {
+      texts = record {
+        report = plain_of compiled.report;
+        report_is = c.in_ok-report.ensures;
+        design = netlist_of compiled.design;
+        module_is = c.in_ok-module.ensures.text;
+        resources = record { base = reported.base; built = reported.built; kept = c.in_ok-compiled.ensures.kept };
+      };
+      scheduled = record {
+        untimed = compiled.untimed;
+        timed = compiled.timed;
+        is_timed = c.in_ok-compiled.ensures.timed;
+        reported = reported;
+        longer = c.in_ok-compiled.ensures.longer;
+      };
+    }

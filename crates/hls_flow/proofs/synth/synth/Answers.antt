@@ -7,7 +7,7 @@ use Rattle.sum_program.specs.declared.program.Sum.{Sum}
 use Rattle.sum_program.specs.SumForm.{IsSum}
 use Rattle.hls_flow.specs.declared.synth.Made.{Made}
 use Rattle.hls_flow.specs.FirstFault.{IsFound, IsTooLarge, IsFirstFault}
-use Rattle.hls_flow.specs.Synthesis.{HasTexts, IsSynthesis}
+use Rattle.hls_flow.specs.Synthesis.{HasScheduledTexts, IsSynthesis}
 use Rattle.hls_flow.proofs.Made.{found_of, sum_synthesis, other_synthesis, too_large}
 use Rattle.hls_flow.proofs.Outcomes.{passed_on, ok_weaker, refused_weaker}
 use Rattle.hls_flow.proofs.Once.{first_fault_once}
@@ -41,7 +41,7 @@ pub returns-clause-made : goal.returns-clause-made
 returns-clause-made c =
     let none : (s : Sum) → IsSum (program_of c.in_ok-checked.checked.program) s → s.name ≢ c.args.settings.now.top =
     (let apart : (s : Sum) → IsSum (program_of c.in_ok-checked.checked.program) s → s.name ≢ c.items.result.now = rw c.in-None.is at c.in_ok-sum.ensures.none in λ s is e. apart s is (e ∙ sym c.items.ensures)) in
-    ok_weaker c.made_of_program.result (λ (m : Made). HasTexts c.args.settings.now m.module m.report) (λ (m : Made). IsSynthesis c.args.source.now c.args.settings.now m.module m.report)
+    ok_weaker c.made_of_program.result (λ (m : Made). HasScheduledTexts c.args.settings.now m.module m.report) (λ (m : Made). IsSynthesis c.args.source.now c.args.settings.now m.module m.report)
     (λ m texts. other_synthesis c.args.source.now c.args.settings.now (program_of c.in_ok-checked.checked.program) c.in_ok-checked.checked.top m.module m.report
     c.in_ok-checked.ensures.found c.in_ok-checked.ensures.faultless c.in_ok-checked.ensures.top none texts)
     c.made_of_program.ensures.made

@@ -1,4 +1,4 @@
--- The box of a C program: the machine at the pins of a function's module that answers a start as the run of the program does.
+-- The answers to starts of a C function: what its run comes to, after the cycles that the report's formula gives.
 use Rattle.std.specs.Prelude.{◌≡◌, ℕ, List, Option}
 use Rattle.hls_base.specs.FileScope.{FileScope}
 use Rattle.hls_base.specs.declared.place.Place.{Place}

@@ -1,0 +1,2 @@
+pub mod CAnswers
+pub mod Laws
