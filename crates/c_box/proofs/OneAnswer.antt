@@ -1,5 +1,5 @@
 -- A start has one answer.
-use Rattle.std.proofs.Common.{◌≡◌, ◌≤◌, ◌<◌, ◌⊎◌, ◌+◌, ◌-◌, ◌∙◌, ℕ, List, Option, ap, arith, inl, inr, refl, subst, sym}
+use Rattle.std.proofs.Common.{◌≡◌, ◌≤◌, ◌<◌, ◌⊎◌, ◌+◌, ◌-◌, ◌∙◌, ℕ, List, Option, ap, arith, inl, inr, refl, subst, suc, sym, zero}
 use Rattle.hls_base.specs.FileScope.{FileScope}
 use Rattle.hls_base.specs.declared.point.Point.{Point}
 use Rattle.c_tree.specs.Tree.{ProgramTree}
@@ -18,7 +18,7 @@ use Rattle.c_box.specs.Laws.{StartsHaveOneAnswer, StartsAreAnswered}
 -- ---- runs by the number of points
 
 -- a run that has come to something
-IsOver : c.Answer → Type 0
+abbrev IsOver : c.Answer → Type 0
 IsOver (c.ended result arrays kept trace) = Unit {0}
 IsOver (c.undefined rule at) = Unit {0}
 IsOver c.running = ⊥
@@ -34,10 +34,17 @@ longer run keeps n m le over =
     let e : n + (m - n) ≡ m = omega (arith, le) in
     kept_over n (run n) (run m) (subst (λ x. IsKept n (run n) (run x)) e (keeps n (m - n))) over
 
+in_order : (n m : ℕ) → (n ≤ m) ⊎ (m ≤ n)
+in_order zero m = inl (omega arith)
+in_order (suc n) zero = inr (omega arith)
+in_order (suc n) (suc m) = elim (in_order n m) [
+      | inl h ↦ inl (omega (arith, h))
+      | inr h ↦ inr (omega (arith, h))
+    ]
+
 agree : (run : ℕ → c.Answer) → ((n k : ℕ) → IsKept n (run n) (run (n + k))) → (n m : ℕ) → IsOver (run n) → IsOver (run m) → run n ≡ run m
 agree run keeps n m a b =
-    let order : (n ≤ m) ⊎ (m ≤ n) = omega arith in
-    elim order [
+    elim (in_order n m) [
       | inl le ↦ sym (longer run keeps n m le a)
       | inr le ↦ longer run keeps m n le b
     ]
@@ -45,7 +52,7 @@ agree run keeps n m a b =
 -- ---- answers
 
 -- what the box answers where the run has come to this
-shown : PlainReport → c.Answer → box.Answer
+abbrev shown : PlainReport → c.Answer → box.Answer
 shown report (c.ended result arrays kept trace) = box.Ended (cycles report.base report.rows (tally_of trace)) result arrays kept
 shown report (c.undefined rule at) = box.Undefined
 shown report c.running = box.Endless
@@ -58,9 +65,9 @@ data Comes (report : PlainReport) (run : ℕ → c.Answer) (a : box.Answer) : Ty
 comes_to : (program : ProgramTree) (top : ℕ) (report : PlainReport) (kept : FileScope) (arguments : List ℕ) (arrays : List (List ℕ)) (a : box.Answer)
     → IsCAnswer program top report kept arguments arrays a → Comes report (c_run program top kept arguments arrays) a
 comes_to program top report kept arguments arrays a (is.ends n result elements left trace e f) =
-    comes n (subst IsOver (sym e) unit) (f ∙ ap (shown report) (sym e))
+    comes n (subst IsOver (sym e) tt) (f ∙ ap (shown report) (sym e))
 comes_to program top report kept arguments arrays a (is.is_undefined n rule at e f) =
-    comes n (subst IsOver (sym e) unit) (f ∙ ap (shown report) (sym e))
+    comes n (subst IsOver (sym e) tt) (f ∙ ap (shown report) (sym e))
 comes_to program top report kept arguments arrays a (is.is_endless e f) = never e f
 
 not_over : (x : c.Answer) → x ≡ c.running → IsOver x → ⊥
