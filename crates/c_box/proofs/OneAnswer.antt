@@ -38,9 +38,9 @@ in_order : (n m : ℕ) → (n ≤ m) ⊎ (m ≤ n)
 in_order zero m = inl (omega arith)
 in_order (suc n) zero = inr (omega arith)
 in_order (suc n) (suc m) = elim (in_order n m) [
-      | inl h ↦ inl (omega (arith, h))
-      | inr h ↦ inr (omega (arith, h))
-    ]
+  | inl h ↦ inl (omega (arith, h))
+  | inr h ↦ inr (omega (arith, h))
+]
 
 agree : (run : ℕ → c.Answer) → ((n k : ℕ) → IsKept n (run n) (run (n + k))) → (n m : ℕ) → IsOver (run n) → IsOver (run m) → run n ≡ run m
 agree run keeps n m a b =
