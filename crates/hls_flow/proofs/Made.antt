@@ -15,7 +15,7 @@ use Rattle.hls_flow.specs.FirstFault as f
 use Rattle.hls_flow.specs.FirstFault.{IsTheProgramOf, IsTopFunction, IsSumSource, IsFound, IsTooLarge, IsFirstFault}
 use Rattle.hls_flow.specs.Synthesis.{SynthesisIsCorrect, HasTexts, HasScheduledTexts, IsSynthesis}
 use Rattle.hls_flow.specs.SumReport.{sum_report}
-use Rattle.hls_flow.proofs.SumMade.{correct}
+use Rattle.hls_flow.proofs.SumMade.{correct, sum_resources}
 
 -- ---- the top function
 
@@ -61,7 +61,7 @@ sum_synthesis source settings s m r found text report =
       index = all.index;
       function = all.function;
       top = all.top;
-      texts = record { report = sum_report s settings; report_is = report; design = sum_netlist s; module_is = text; resources = all.resources };
+      texts = record { report = sum_report s settings; report_is = report; design = sum_netlist s; module_is = text; resources = sum_resources s settings };
       agrees = λ _ _. all;
       scheduled = λ none. absurd (none s found.is);
     }

@@ -80,8 +80,8 @@ has_form s settings range word short = record {
 }
 
 -- no unit and no memory is needed, so there are no more than were asked for
-resources : (s : Sum) (settings : Settings) → ReportsCircuit (sum_report s settings) settings (sum_netlist s)
-resources s settings = record {
+pub sum_resources : (s : Sum) (settings : Settings) → ReportsCircuit (sum_report s settings) settings (sum_netlist s)
+sum_resources s settings = record {
   base = refl;
   built = record { settings_are = refl; units = refl; memories = refl; registers = refl };
   kept = record {
@@ -180,6 +180,6 @@ correct source settings s m r found text report =
       module_is = text;
       named = ap (λ name. codes "hls_" ++ name) found.is.named;
       agrees = agrees found.is.program s settings is;
-      resources = resources s settings;
+      resources = sum_resources s settings;
       long = takes_two is.function s settings is.is;
     }
