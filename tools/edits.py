@@ -7,7 +7,7 @@
     tools/edits.py back FOLDER   puts them back
     tools/edits.py listed NAME.. lists crates as tried, for a run of the whole gate that tried all
 
-A crate is listed with a checksum of itself, its edits and all crates below it, so any change of one of these asks for a new try.
+A crate is listed with a checksum of itself, its edits and the sources of all crates below it, so any change of one of these asks for a new try.
 """
 import hashlib
 import pathlib
@@ -17,7 +17,8 @@ import sys
 
 ROOT = pathlib.Path(__file__).resolve().parent.parent
 LIST = ROOT / "tools" / "tried_edits.txt"
-PARTS = ("src", "specs", "proofs", "must-fail")
+SOURCES = ("src", "specs", "proofs")
+EDITS = ("must-fail",)
 
 
 def crates():
@@ -31,10 +32,10 @@ def crates():
     return below
 
 
-def own_sum(name):
+def own_sum(name, parts):
     digest = hashlib.sha256()
     folder = ROOT / "crates" / name
-    for part in PARTS:
+    for part in parts:
         for path in sorted((folder / part).rglob("*")):
             if path.is_file():
                 digest.update(str(path.relative_to(folder)).encode() + b"\0" + path.read_bytes() + b"\0")
@@ -52,7 +53,8 @@ def all_below(name, below, found):
 def checksum(name, below):
     digest = hashlib.sha256()
     for each in sorted(all_below(name, below, set())):
-        digest.update((each + " " + " ".join(below[each]) + " " + own_sum(each) + "\n").encode())
+        parts = SOURCES + EDITS if each == name else SOURCES
+        digest.update((each + " " + " ".join(below[each]) + " " + own_sum(each, parts) + "\n").encode())
     return digest.hexdigest()[:32]
 
 
