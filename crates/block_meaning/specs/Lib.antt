@@ -1,0 +1,4 @@
+pub mod Bodies
+pub mod Trees
+pub mod TreeRuns
+pub mod FlatRuns

@@ -1,0 +1,3 @@
+pub mod Steps
+pub mod Valued
+pub mod Same
