@@ -1,0 +1,5 @@
+pub mod Kinds
+pub mod Cells
+pub mod Expressions
+pub mod Statements
+pub mod Runs

@@ -1,0 +1,2 @@
+//! What a run of a core program is, as definitions.
+#![tactic(auto)]

@@ -1,0 +1,2 @@
+//! What a run of an expanded program is, as definitions.
+#![tactic(auto)]
