@@ -6,3 +6,4 @@ pub mod LeavingLaws
 pub mod AssigningLaws
 pub mod ObjectLaws
 pub mod SavingLaws
+pub mod PureForms

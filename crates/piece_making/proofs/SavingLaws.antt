@@ -1,5 +1,6 @@
 -- Saved values, part by part.
-use Rattle.std.proofs.Common.{◌≡◌, ℕ, Bool, true, false, List, [], ◌∷◌, ◌++◌, ap, ◌∙◌, sym, subst}
+use Rattle.std.proofs.Common.{◌≡◌, ℕ, Bool, true, false, List, [], ◌∷◌, ◌++◌, length, map, ap, ◌∙◌, sym, subst}
+use Rattle.std.proofs.lemmas.List.{map_push, nil_from_length}
 use Rattle.std.proofs.lemmas.Bool.{false≢true}
 use Rattle.hls_base.specs.declared.place.Place.{Place}
 use Rattle.hls_base.specs.declared.number.ArrayId.{ArrayId}
@@ -9,6 +10,9 @@ use Rattle.c_tree.specs.declared.operator.Unary.{Unary}
 use Rattle.c_tree.specs.declared.operator.Binary.{Binary}
 use Rattle.pieces.specs.Trees as tree
 use Rattle.pieces.specs.Trees.{PureTree, PureTrees, row}
+use Rattle.pieces.specs.Kind.{kind}
+use Rattle.pieces.specs.View.{pure_of, pures_of}
+use Rattle.pieces.specs.declared.pure_expr.Pure.{Pure}
 use Rattle.piece_making.specs.Making.{State, Part, gives, then_, set_own}
 use Rattle.piece_making.specs.Saving.{saved, all_saved, saved_if, may_skip_element}
 use Rattle.piece_making.specs.Stocks.{Stock, state_of, IsMade, IsTooHeavy}
@@ -30,6 +34,18 @@ binary_parts n calls op left right k at s0 = then_ (saved n calls left s0) (λ x
 abbrev choice_parts : ℕ → Bool → PureTree → PureTree → PureTree → CType → State → Part PureTree
 choice_parts n calls test left right k s0 =
     then_ (saved n calls test s0) (λ t s1. then_ (saved n calls left s1) (λ x s2. then_ (saved n calls right s2) (λ y s3. gives (tree.choice t x y k) s3)))
+
+-- an operator that may skip an element is set as a whole
+pub set_as_a_whole : (n : ℕ) (calls : Bool) (p : PureTree) (k : CType) (s : State) → may_skip_element p ≡ true → k ≡ kind p → saved n calls p s ≡ set_own k p s
+set_as_a_whole n calls (tree.number value k0) k s e f = absurd (false≢true e)
+set_as_a_whole n calls (tree.variable name k0) k s e f = absurd (false≢true e)
+set_as_a_whole n calls (tree.element array subscripts k0 at) k s e f = absurd (false≢true e)
+set_as_a_whole n calls (tree.unary op arg k0 at) k s e f = absurd (false≢true e)
+set_as_a_whole n calls (tree.binary op left right k0 at) k s e f =
+    ap (λ (w : Bool). saved_if w (tree.binary op left right k0 at) (binary_parts n calls op left right k0 at) s) e ∙ ap (λ (z : CType). set_own z (tree.binary op left right k0 at) s) (sym f)
+set_as_a_whole n calls (tree.choice test left right k0) k s e f =
+    ap (λ (w : Bool). saved_if w (tree.choice test left right k0) (choice_parts n calls test left right k0) s) e ∙ ap (λ (z : CType). set_own z (tree.choice test left right k0) s) (sym f)
+set_as_a_whole n calls (tree.cast to arg) k s e f = absurd (false≢true e)
 
 -- an operator of one operand
 pub unary_made : (n : ℕ) (calls : Bool) (p x z : PureTree) (op : Unary) (arg : PureTree) (k : CType) (at : Place) (old new : Stock)
@@ -129,13 +145,33 @@ element_heavy_set n calls p xs array subscripts k at value old mid r e f h1 h2 =
     subst (λ (q : PureTree). IsTooHeavy old r (saved n calls q (state_of old))) (sym e)
     (heavy_behind _ _ _ _ _ _ h1 (subst (λ (q : PureTree). IsTooHeavy mid r (set_own k q (state_of mid))) f h2))
 
--- one more of the expressions that are gone through
-pub one_more_made : (n : ℕ) (calls : Bool) (x : PureTree) (y : PureTree) (before v rest : List PureTree) (old mid new : Stock)
-    → IsMade old mid y (saved n calls x (state_of old)) → IsMade mid new v (all_saved n calls (row rest) (before ++ y ∷ []) (state_of mid))
-    → IsMade old new v (all_saved n calls (row (x ∷ rest)) before (state_of old))
-one_more_made n calls x y before v rest old mid new h k = made_behind _ _ _ _ _ _ _ h k
+-- ---- expressions in a row
 
-pub one_more_heavy : (n : ℕ) (calls : Bool) (x : PureTree) (y : PureTree) (before rest : List PureTree) (old mid : Stock) (r : Refusal)
-    → IsMade old mid y (saved n calls x (state_of old)) → IsTooHeavy mid r (all_saved n calls (row rest) (before ++ y ∷ []) (state_of mid))
-    → IsTooHeavy old r (all_saved n calls (row (x ∷ rest)) before (state_of old))
-one_more_heavy n calls x y before rest old mid r h k = heavy_behind _ _ _ _ _ _ h k
+-- the first of those that are left, and then the others
+pub further_made : (n : ℕ) (calls : Bool) (x y : Pure) (left rest all more : List Pure) (old mid new : Stock) (v : List PureTree)
+    → left ≡ x ∷ rest → more ≡ all ++ y ∷ []
+    → IsMade old mid (pure_of y) (saved n calls (pure_of x) (state_of old)) → IsMade mid new v (all_saved n calls (pures_of rest) (map pure_of more) (state_of mid))
+    → IsMade old new v (all_saved n calls (pures_of left) (map pure_of all) (state_of old))
+further_made n calls x y left rest all more old mid new v e f h k =
+    subst (λ (xs : List Pure). IsMade old new v (all_saved n calls (pures_of xs) (map pure_of all) (state_of old))) (sym e)
+    (made_behind _ _ _ _ _ _ _ h (subst (λ (ys : List PureTree). IsMade mid new v (all_saved n calls (pures_of rest) ys (state_of mid))) (ap (map pure_of) f ∙ map_push pure_of all y) k))
+
+pub further_heavy : (n : ℕ) (calls : Bool) (x y : Pure) (left rest all more : List Pure) (old mid : Stock) (r : Refusal)
+    → left ≡ x ∷ rest → more ≡ all ++ y ∷ []
+    → IsMade old mid (pure_of y) (saved n calls (pure_of x) (state_of old)) → IsTooHeavy mid r (all_saved n calls (pures_of rest) (map pure_of more) (state_of mid))
+    → IsTooHeavy old r (all_saved n calls (pures_of left) (map pure_of all) (state_of old))
+further_heavy n calls x y left rest all more old mid r e f h k =
+    subst (λ (xs : List Pure). IsTooHeavy old r (all_saved n calls (pures_of xs) (map pure_of all) (state_of old))) (sym e)
+    (heavy_behind _ _ _ _ _ _ h (subst (λ (ys : List PureTree). IsTooHeavy mid r (all_saved n calls (pures_of rest) ys (state_of mid))) (ap (map pure_of) f ∙ map_push pure_of all y) k))
+
+-- the first of those that are left weighs too much
+pub first_heavy : (n : ℕ) (calls : Bool) (x : Pure) (left rest all : List Pure) (old : Stock) (r : Refusal)
+    → left ≡ x ∷ rest → IsTooHeavy old r (saved n calls (pure_of x) (state_of old)) → IsTooHeavy old r (all_saved n calls (pures_of left) (map pure_of all) (state_of old))
+first_heavy n calls x left rest all old r e h =
+    subst (λ (xs : List Pure). IsTooHeavy old r (all_saved n calls (pures_of xs) (map pure_of all) (state_of old))) (sym e) (heavy_at_once _ _ _ _ h)
+
+-- none is left
+pub ended : (n : ℕ) (calls : Bool) (left all : List Pure) (old : Stock)
+    → length left ≡ 0 → IsMade old old (map pure_of all) (all_saved n calls (pures_of left) (map pure_of all) (state_of old))
+ended n calls left all old e =
+    subst (λ (xs : List Pure). IsMade old old (map pure_of all) (all_saved n calls (pures_of xs) (map pure_of all) (state_of old))) (sym (nil_from_length left e)) (nothing_made _ _)

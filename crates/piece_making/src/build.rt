@@ -107,10 +107,3 @@ pub fn element(array: ArrayId, subscripts: Vec<Pure>, kind: CType, at: Place) ->
         at,
     }
 }
-
-/// What a box holds.
-pub fn opened(boxed: Box<Pure>) -> Pure
-    ensures { result ≡ boxed.value }
-{
-    Box::into_inner(boxed)
-}

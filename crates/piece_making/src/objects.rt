@@ -51,12 +51,10 @@ fn address_bits(lengths: &Vec<u32>) -> Result<u32, AllocError>
 {
     let mut bits: u32 = 0;
     for length in lengths {
-        bits = bits
-            .checked_add(subscript_bits(*length))
-            .ok_or(impossible())?;
-    }
-    if bits > 31 {
-        return Err(impossible());
+        bits += subscript_bits(*length);
+        if bits > 31 {
+            return Err(impossible());
+        }
     }
     Ok(bits)
 }

@@ -1,13 +1,18 @@
 //! Values that are read before something changes them.
-ghost use Rattle.std.specs.Prelude.{◌≡◌};
-ghost use Rattle.pieces.specs.View.{pure_of};
-ghost use Rattle.piece_making.specs.Saving.{has_element, may_skip_element};
+ghost use Rattle.std.specs.Prelude.{◌≡◌, [], map, false, IfOk};
+ghost use Rattle.hls_base.specs.Refusals.{IfRefused};
+ghost use Rattle.pieces.specs.Trees as tree;
+ghost use Rattle.pieces.specs.View.{pure_of, pures_of};
+ghost use Rattle.piece_making.specs.Saving.{has_element, may_skip_element, saved, all_saved, save};
+ghost use Rattle.piece_making.specs.Stocks.{IsMade, IsTooHeavy, state_of, stock};
 
-use crate::build::{Operator, binary, cast, choice, element, opened, unary};
+use crate::build::{Operator, binary, cast, choice, element, unary, variable};
 use crate::effects::Effects;
 use crate::frame::Context;
 use crate::work::Work;
+use c_token::ctype::CType;
 use c_tree::operator::Binary;
+use hls_base::number::VarId;
 use hls_base::refusal::Fail;
 use pieces::pure_expr::Pure;
 use pieces::pure_kind::kind_of;
@@ -22,12 +27,10 @@ pub struct Saver {
 }
 
 /// An operand behind which the evaluation has these effects: its elements, from left to right, are set into variables of their own. So is the outermost `&&`, `||` or `?:` that reads an element in an operand that may not be reached, and a scalar of file scope before a call.
-pub fn save(
-    context: &Context,
-    work: &mut Work,
-    operand: Pure,
-    later: Effects,
-) -> Result<Pure, Fail> {
+pub fn save(context: &Context, work: &mut Work, operand: Pure, later: Effects) -> Result<Pure, Fail>
+    ensures made { IfOk result (λ p. IsMade (stock work.old) (stock work.new) (pure_of p) (save context.now.file_variables (pure_of operand) later (state_of (stock work.old)))) }
+    ensures refused { IfRefused result (λ r. IsTooHeavy (stock work.old) r (save context.now.file_variables (pure_of operand) later (state_of (stock work.old)))) }
+{
     if later.spoil_elements() {
         let saver = Saver {
             alloc: context.alloc,
@@ -42,36 +45,41 @@ pub fn save(
 
 /// An expression with what it reads set into variables.
 #[cycle(saving)]
-fn saved(saver: Saver, work: &mut Work, pure: Pure) -> Result<Pure, Fail> {
+fn saved(saver: Saver, work: &mut Work, pure: Pure) -> Result<Pure, Fail>
+    ensures made { IfOk result (λ p. IsMade (stock work.old) (stock work.new) (pure_of p) (saved saver.file_variables saver.calls (pure_of pure) (state_of (stock work.old)))) }
+    ensures refused { IfRefused result (λ r. IsTooHeavy (stock work.old) r (saved saver.file_variables saver.calls (pure_of pure) (state_of (stock work.old)))) }
+{
     if may_skip_element(&pure) {
         let kind = kind_of(&pure);
-        return work.set_own(kind, pure);
+        work.set_own(kind, pure)
+    } else {
+        saved_parts(saver, work, pure)
     }
-    let alloc = saver.alloc;
+}
+
+/// The same of an expression that is not set as a whole.
+#[cycle(saving)]
+fn saved_parts(saver: Saver, work: &mut Work, pure: Pure) -> Result<Pure, Fail>
+    requires { may_skip_element (pure_of pure) ≡ false }
+    ensures made { IfOk result (λ p. IsMade (stock work.old) (stock work.new) (pure_of p) (saved saver.file_variables saver.calls (pure_of pure) (state_of (stock work.old)))) }
+    ensures refused { IfRefused result (λ r. IsTooHeavy (stock work.old) r (saved saver.file_variables saver.calls (pure_of pure) (state_of (stock work.old)))) }
+{
     match pure {
         Pure::Number { value, kind } => Ok(Pure::Number { value, kind }),
-        Pure::Variable(variable, kind) => {
-            let read = Pure::Variable(variable, kind);
-            if saver.calls && variable.0 < saver.file_variables {
-                work.set_own(kind, read)
-            } else {
-                Ok(read)
-            }
-        }
+        Pure::Variable(own, kind) => saved_variable(saver, work, own, kind),
         Pure::Element {
             array,
             subscripts,
             kind,
             at,
         } => {
-            let subscripts = all_saved(saver, work, subscripts)?;
-            let read = element(array, subscripts, kind, at);
+            let given = all_saved(saver, work, subscripts)?;
+            let read = element(array, given, kind, at);
             work.set_own(kind, read)
         }
         Pure::Unary { op, arg, kind, at } => {
-            let inner = opened(arg);
-            let arg = saved(saver, work, inner)?;
-            Ok(unary(alloc, op, arg, kind, at)?)
+            let arg = saved_operand(saver, work, arg)?;
+            Ok(unary(saver.alloc, op, arg, kind, at)?)
         }
         Pure::Binary {
             op,
@@ -80,11 +88,9 @@ fn saved(saver: Saver, work: &mut Work, pure: Pure) -> Result<Pure, Fail> {
             kind,
             at,
         } => {
-            let first = opened(left);
-            let left = saved(saver, work, first)?;
-            let second = opened(right);
-            let right = saved(saver, work, second)?;
-            Ok(binary(alloc, Operator { op, kind, at }, left, right)?)
+            let left = saved_operand(saver, work, left)?;
+            let right = saved_operand(saver, work, right)?;
+            Ok(binary(saver.alloc, Operator { op, kind, at }, left, right)?)
         }
         Pure::Choice {
             test,
@@ -92,24 +98,44 @@ fn saved(saver: Saver, work: &mut Work, pure: Pure) -> Result<Pure, Fail> {
             no,
             kind,
         } => {
-            let condition = opened(test);
-            let test = saved(saver, work, condition)?;
-            let chosen = opened(yes);
-            let yes = saved(saver, work, chosen)?;
-            let other = opened(no);
-            let no = saved(saver, work, other)?;
-            Ok(choice(alloc, kind, test, yes, no)?)
+            let test = saved_operand(saver, work, test)?;
+            let yes = saved_operand(saver, work, yes)?;
+            let no = saved_operand(saver, work, no)?;
+            Ok(choice(saver.alloc, kind, test, yes, no)?)
         }
         Pure::Cast { to, arg } => {
-            let operand = opened(arg);
-            let arg = saved(saver, work, operand)?;
-            Ok(cast(alloc, to, arg)?)
+            let arg = saved_operand(saver, work, arg)?;
+            Ok(cast(saver.alloc, to, arg)?)
         }
     }
 }
 
+/// A scalar of file scope is set before a call.
+fn saved_variable(saver: Saver, work: &mut Work, own: VarId, kind: CType) -> Result<Pure, Fail>
+    ensures made { IfOk result (λ p. IsMade (stock work.old) (stock work.new) (pure_of p) (saved saver.file_variables saver.calls (tree.variable own kind) (state_of (stock work.old)))) }
+    ensures refused { IfRefused result (λ r. IsTooHeavy (stock work.old) r (saved saver.file_variables saver.calls (tree.variable own kind) (state_of (stock work.old)))) }
+{
+    let read = variable(own, kind);
+    if saver.calls && own.0 < saver.file_variables {
+        work.set_own(kind, read)
+    } else {
+        Ok(read)
+    }
+}
+
 #[cycle(saving)]
-fn all_saved(saver: Saver, work: &mut Work, pures: Vec<Pure>) -> Result<Vec<Pure>, Fail> {
+fn saved_operand(saver: Saver, work: &mut Work, operand: Box<Pure>) -> Result<Pure, Fail>
+    ensures made { IfOk result (λ p. IsMade (stock work.old) (stock work.new) (pure_of p) (saved saver.file_variables saver.calls (pure_of operand.value) (state_of (stock work.old)))) }
+    ensures refused { IfRefused result (λ r. IsTooHeavy (stock work.old) r (saved saver.file_variables saver.calls (pure_of operand.value) (state_of (stock work.old)))) }
+{
+    saved(saver, work, Box::into_inner(operand))
+}
+
+#[cycle(saving)]
+fn all_saved(saver: Saver, work: &mut Work, pures: Vec<Pure>) -> Result<Vec<Pure>, Fail>
+    ensures made { IfOk result (λ ps. IsMade (stock work.old) (stock work.new) (map pure_of ps.items) (all_saved saver.file_variables saver.calls (pures_of pures.items) [] (state_of (stock work.old)))) }
+    ensures refused { IfRefused result (λ r. IsTooHeavy (stock work.old) r (all_saved saver.file_variables saver.calls (pures_of pures.items) [] (state_of (stock work.old)))) }
+{
     let mut all = Vec::new(saver.alloc);
     for pure in pures {
         all.push(saved(saver, work, pure)?)?;
