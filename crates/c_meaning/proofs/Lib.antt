@@ -12,3 +12,4 @@ pub mod MoreInStatements
 pub mod MoreInRuns
 pub mod SmallPrograms
 mod Examples
+pub mod PointsOfRuns

@@ -10,3 +10,4 @@ pub mod Declarations
 pub mod FittingInputs
 pub mod Laws
 pub mod ValueLaws
+pub mod PassedPoints
