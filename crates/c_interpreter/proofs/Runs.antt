@@ -24,6 +24,7 @@ use Rattle.c_machine.specs.Sound.{Sound}
 use Rattle.c_machine.specs.Shape.{Shaped, control_fits}
 use Rattle.c_machine.specs.Following.{top_ran, behind, follows, keeps_following, is_done}
 use Rattle.c_interpreter.specs.Runs.{Standing, top_function, ran, IsRunOf, left_contents, outcome_by, is_begun}
+use Rattle.c_meaning.specs.PassedPoints.{points_of, points_passed}
 use Rattle.c_interpreter.specs.Progress.{outcome_of, keeps, RunsFor}
 use Rattle.c_machine.proofs.Following.{follows-begun}
 
@@ -64,8 +65,8 @@ pub begun-passed : (items : List ItemTree) (top : Option FunctionTree) (file : L
 begun-passed items None file kept scalars arrays m h = absurd h
 begun-passed items (Some fn) file kept scalars arrays m h = ap (λ (x : Configuration). x.meter.passed) h
 
-begun-counts : (items : List ItemTree) (top : Option FunctionTree) (file : List ObjectTree) (kept : FileScope) (scalars : List ℕ) (arrays : List (List ℕ)) (m : Configuration) → is_begun items top file kept scalars arrays m
-    → m.meter.counts ≡ tally_of []
+pub begun-counts : (items : List ItemTree) (top : Option FunctionTree) (file : List ObjectTree) (kept : FileScope) (scalars : List ℕ) (arrays : List (List ℕ)) (m : Configuration) → is_begun items top file kept scalars arrays m
+    → m.meter.counts ≡ []
 begun-counts items None file kept scalars arrays m h = absurd h
 begun-counts items (Some fn) file kept scalars arrays m h = ap (λ (x : Configuration). x.meter.counts) h
 
@@ -131,6 +132,24 @@ left-kept items (Some fn) file kept scalars arrays m (f.undefined rule at) trace
 left-kept items (Some fn) file kept scalars arrays m f.stuck trace n left same h done =
     subst (λ (r : Ran (Option ℤ)). keeps (answer (file_objects items) fn r) (contents_of file m.objects)) (sym h) tt
 
+-- and it has counted the points that its run passes
+points-ran : (items : List ItemTree) (top : Option FunctionTree) (kept : FileScope) (scalars : List ℕ) (arrays : List (List ℕ)) (n : ℕ) → points_of items top kept scalars arrays n ≡ (ran items top kept scalars arrays n).trace
+points-ran items None kept scalars arrays n = refl
+points-ran items (Some fn) kept scalars arrays n = refl
+
+nothing-rests : (m : Configuration) (c : Control) (left : ℕ) → is_done c left → (rest_of left (record m { control = c })).trace ≡ []
+nothing-rests m (f.next step) left done = absurd done
+nothing-rests m (f.before kind at step) left done = subst (λ x. (rest_of x (record m { control = f.before kind at step })).trace ≡ []) (sym done) refl
+nothing-rests m (f.ended number) left done = refl
+nothing-rests m (f.undefined rule at) left done = refl
+nothing-rests m f.stuck left done = refl
+
+all-counted : (items : List ItemTree) (top : Option FunctionTree) (kept : FileScope) (scalars : List ℕ) (arrays : List (List ℕ)) (m : Configuration) (c : Control) (trace : List Point) (n left : ℕ)
+    → ran items top kept scalars arrays n ≡ behind trace (rest_of left (record m { control = c })) → m.meter.counts ≡ tally_of trace → is_done c left → m.meter.counts ≡ tally_of (points_of items top kept scalars arrays n)
+all-counted items top kept scalars arrays m c trace n left h counts done =
+    let passed : (ran items top kept scalars arrays n).trace ≡ trace ++ (rest_of left (record m { control = c })).trace = ap (λ (r : Ran (Option ℤ)). r.trace) h in
+    counts ∙ ap tally_of (sym (points-ran items top kept scalars arrays n ∙ (passed ∙ (ap (λ l. trace ++ l) (nothing-rests m c left done) ∙ append-nil trace))))
+
 -- a run that goes on, whose machine keeps following
 pub gone-run : (r : Standing) (m : Configuration) → keeps_following r.machine m → (kept : FileScope) (scalars : List ℕ) (arrays : List (List ℕ)) → IsRunOf r kept scalars arrays → IsRunOf (record r { machine = m }) kept scalars arrays
 gone-run r m keeping kept scalars arrays h = keeping (ran r.program.items (top_function r.program r.top) kept scalars arrays) h.0 h.1 h.2
@@ -148,6 +167,12 @@ pub gone-kept : (r : Standing) (n left : ℕ) → r.file ≡ file_objects r.prog
 gone-kept r n left file done sum kept scalars arrays h =
     subst (λ k. keeps (c_run r.program r.top kept scalars arrays k) (left_contents r)) sum
     (left-kept r.program.items (top_function r.program r.top) r.file kept scalars arrays r.machine r.machine.control h.0 (r.machine.meter.passed + left) left file (h.1 left) done)
+
+pub gone-counted : (r : Standing) (n left : ℕ) → is_done r.machine.control left → r.machine.meter.passed + left ≡ n
+    → (kept : FileScope) (scalars : List ℕ) (arrays : List (List ℕ)) → IsRunOf r kept scalars arrays → r.machine.meter.counts ≡ tally_of (points_passed r.program r.top kept scalars arrays n)
+gone-counted r n left done sum kept scalars arrays h =
+    all-counted r.program.items (top_function r.program r.top) kept scalars arrays r.machine r.machine.control h.0 (r.machine.meter.passed + left) left (h.1 left) h.2 done
+    ∙ ap (λ k. tally_of (points_passed r.program r.top kept scalars arrays k)) sum
 
 -- A machine that goes on has passed all points that it may.
 pub gone-running : (file : List ObjectTree) (fn : Option FunctionTree) (m : Configuration) (c : Control) (n left : ℕ) → control_fits c m.stack → is_done c left → m.meter.passed + left ≡ n
@@ -185,4 +210,4 @@ pub kept-ok : {A E : Type 0} (result : Result A E) (P : Type 0) → P → OnOk r
 kept-ok (Ok a) P h = h
 kept-ok (Err a) P h = tt
 
-pub ruleset runs = (top-there, begun-from, begun-sound, begun-passed, begun-run, gone-run, gone-answer, gone-kept, allowed-keeps, allowed-sound)
+pub ruleset runs = (top-there, begun-from, begun-sound, begun-passed, begun-counts, begun-run, gone-run, gone-answer, gone-kept, allowed-keeps, allowed-sound)

@@ -22,6 +22,7 @@ abbrev pub progress_of : Inside → Progress
 progress_of r = record {
   begun = record { program = r.checked.now.program; top = r.checked.now.top; kept = r.kept; scalars = r.inputs.scalars; arrays = r.inputs.arrays };
   passed = r.machine.meter.passed;
+  counts = r.machine.meter.counts;
   left = left_contents (standing_of r);
 }
 

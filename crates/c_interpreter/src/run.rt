@@ -118,14 +118,16 @@ fn outcome(
 }
 
 impl<'p> Run<'p> {
-    ghost use Rattle.std.specs.Prelude.{◌≡◌, ◌+◌, ◌<◌, ◌≤◌, ◌^◌, IfOk, OnOk, OnErr};
-    ghost use Rattle.c_interpreter.specs.Progress.{answer_within, outcome_of, keeps, RunsFor};
+    ghost use Rattle.std.specs.Prelude.{◌≡◌, ◌+◌, ◌<◌, ◌≤◌, ◌^◌, [], IfOk, OnOk, OnErr};
+    ghost use Rattle.c_meaning.specs.Points.{tally_of};
+    ghost use Rattle.c_interpreter.specs.Progress.{answer_within, points_within, outcome_of, keeps, RunsFor};
 
     #[tactic(auto, using(crate::proofs::Runs::runs))]
     /// Passes at most so many points more. After `Ended` or `Undefined` the same answer comes again; after want of memory the run stands behind some of its points, and goes on from there.
     pub fn go(&mut self, alloc: Global, points: u64) -> Result<Outcome, AllocError>
         requires { self.old.passed + points < 2 ^ 64 }
         ensures answer { IfOk result (λ o. o ≡ outcome_of (answer_within self.old.begun (self.old.passed + points))) }
+        ensures counts { OnOk result (self.new.counts ≡ tally_of (points_within self.old.begun (self.old.passed + points))) }
         ensures left { OnOk result (keeps (answer_within self.old.begun (self.old.passed + points)) self.new.left) }
         ensures begun { self.new.begun ≡ self.old.begun }
         ensures passed { self.old.passed ≤ self.new.passed }
@@ -142,6 +144,7 @@ impl<'p> Run<'p> {
     pub fn again(&mut self, alloc: Global, inputs: &Inputs) -> Result<(), AllocError>
         ensures begun { OnOk result (self.new.begun ≡ record self.old.begun { kept = self.old.left; scalars = inputs.now.scalars; arrays = inputs.now.arrays }) }
         ensures passed { OnOk result (self.new.passed ≡ 0) }
+        ensures counts { OnOk result (self.new.counts ≡ []) }
         ensures unchanged { OnErr result (self.new ≡ self.old) }
     {
         let kept = contents(

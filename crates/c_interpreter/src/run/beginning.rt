@@ -1,5 +1,5 @@
 //! The beginning of a first run.
-ghost use Rattle.std.specs.Prelude.{◌≡◌, IfOk};
+ghost use Rattle.std.specs.Prelude.{◌≡◌, [], IfOk};
 ghost use Rattle.c_tree.specs.View.{program_of};
 ghost use Rattle.c_meaning.specs.Run.{first_contents};
 
@@ -19,6 +19,7 @@ pub fn start<'p>(
 ) -> Result<Run<'p>, AllocError>
     ensures begun { IfOk result (λ r. r.begun ≡ record { program = checked.now.program; top = checked.now.top; kept = first_contents (program_of checked.now.program); scalars = inputs.now.scalars; arrays = inputs.now.arrays }) }
     ensures passed { IfOk result (λ r. r.passed ≡ 0) }
+    ensures counts { IfOk result (λ r. r.counts ≡ []) }
 {
     let declared = declarations(alloc, checked.program.items.as_slice())?;
     let kept = first_contents(alloc, declared.as_slice())?;

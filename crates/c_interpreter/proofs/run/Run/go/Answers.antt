@@ -1,10 +1,11 @@
 use Rattle.std.proofs.Common.{◌∙◌, ap, subst, ◌+◌}
 use Rattle.c_meaning.specs.Declarations.{objects_of}
+use Rattle.c_meaning.specs.Points.{tally_of}
 use Rattle.c_interpreter.specs.Machines.{configuration_of}
-use Rattle.c_interpreter.specs.Progress.{Progress, answer_within, outcome_of, keeps}
+use Rattle.c_interpreter.specs.Progress.{Progress, answer_within, points_within, outcome_of, keeps}
 use Rattle.c_interpreter.specs.RunViews.{standing_of}
 use Rattle.c_interpreter.specs.Runs.{top_function, outcome_by, left_contents}
-use Rattle.c_interpreter.proofs.Runs.{gone-run, gone-answer, gone-kept, allowed-keeps, allowed-sum, told-ok, kept-ok}
+use Rattle.c_interpreter.proofs.Runs.{gone-run, gone-answer, gone-kept, gone-counted, allowed-keeps, allowed-sum, told-ok, kept-ok}
 use Rattle.c_interpreter.proofs.UnderWay.{gone-under-way}
 use Rattle.c_interpreter.proofs.run.Run.go.Goals as goal
 
@@ -44,3 +45,15 @@ returns-clause-left c =
     (gone-run (standing_of c.self.inside) (configuration_of c.run.new.self)
     (allowed-keeps (configuration_of c.self.inside.machine) c.allow.new.self (configuration_of c.run.new.self) c.args.points c.allow.ensures c.run.ensures.follows) c.self.inside.kept c.self.inside.inputs.scalars c.self.inside.inputs.arrays
     c.self.invariant.run)))
+
+-- src/run.rt:132:5
+pub returns-clause-counts : goal.returns-clause-counts
+returns-clause-counts c =
+    let r = standing_of (record c.self.inside { machine = c.run.new.self }) in
+    kept-ok c.outcome.result _
+    (gone-counted r (c.self.inside.machine.meter.passed + c.args.points) c.run.new.self.meter.left c.in_ok-run.ensures.done
+    (allowed-sum c.self.inside.machine.meter c.allow.new.self c.run.new.self.meter c.args.points c.allow.ensures c.run.ensures.total) c.self.inside.kept c.self.inside.inputs.scalars c.self.inside.inputs.arrays
+    (gone-run (standing_of c.self.inside) (configuration_of c.run.new.self)
+    (allowed-keeps (configuration_of c.self.inside.machine) c.allow.new.self (configuration_of c.run.new.self) c.args.points c.allow.ensures c.run.ensures.follows) c.self.inside.kept c.self.inside.inputs.scalars c.self.inside.inputs.arrays
+    c.self.invariant.run)
+    ∙ ap (λ (p : Progress). tally_of (points_within p.begun (p.passed + c.args.points))) c.self.view_is)
