@@ -1,6 +1,7 @@
 //! Laws of runs, above the definitions.
 ghost use Rattle.c_meaning.specs.ValueLaws.{ConversionsAreCongruent, DivisionsTruncate};
 ghost use Rattle.c_meaning.specs.Laws.{RunsExtend, MorePointsKeepAnswers, TalliesCount, Elements, Places};
+ghost use Rattle.c_meaning.specs.PassedPoints.{RunsPassPoints};
 
 /// The run of a function that may pass more points ends in the same way, or goes on from where it waited. Each point that it passes is one less of those that may be passed.
 pub fn runs_extend()
@@ -10,6 +11,11 @@ pub fn runs_extend()
 /// What a run comes to within some points, it comes to within more points too, and it passes no more than it may.
 pub fn more_points_keep_answers()
     ensures { MorePointsKeepAnswers }
+{}
+
+/// The points that a run passes are those of its answer, and as many as it may pass where it still runs.
+pub fn runs_pass_points()
+    ensures { RunsPassPoints }
 {}
 
 /// The tally of a trace lists each of its points once, with how often it stands there.

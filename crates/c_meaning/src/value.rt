@@ -2,7 +2,6 @@
 use c_token::ctype::CType;
 use hls_base::place::Place;
 use hls_base::refusal::UbRule;
-use std::alloc::{AllocError, AllocFailed};
 
 /// A value: a type and a number of it.
 #[derive(Clone, Copy, Debug, PartialEq, Eq)]
@@ -40,34 +39,4 @@ pub enum Round {
 pub struct Undefined {
     pub rule: UbRule,
     pub at: Place,
-}
-
-/// Why a run does not go on: its behaviour is undefined, or it may pass no more points, or there is no memory.
-#[derive(Clone, Copy, Debug, PartialEq, Eq)]
-pub enum Stop {
-    Undefined(UbRule, Place),
-    Waiting,
-    Memory,
-}
-
-impl From<AllocError> for Stop {
-    ghost use Rattle.std.specs.Prelude.{◌≡◌};
-    ghost use Rattle.c_meaning.specs.declared.value.Stop.TheVariants.{Memory};
-
-    ghost from_gives = { λ _ e. e ≡ Memory };
-
-    fn from(_e: AllocError) -> Stop {
-        Stop::Memory
-    }
-}
-
-impl<T: Drop> From<AllocFailed<T>> for Stop {
-    ghost use Rattle.std.specs.Prelude.{◌≡◌};
-    ghost use Rattle.c_meaning.specs.declared.value.Stop.TheVariants.{Memory};
-
-    ghost from_gives = { λ _ e. e ≡ Memory };
-
-    fn from(_e: AllocFailed<T>) -> Stop {
-        Stop::Memory
-    }
 }

@@ -5,8 +5,8 @@ ghost use Rattle.hls_base.specs.declared.point.Point.{Point};
 
 use crate::verdict::{Item as Differing, Level, Shown, Stop, Verdict};
 use c_checked::checked::Checked;
+use c_interpreter::run::start;
 use c_meaning::outcome::{Final, Outcome};
-use c_meaning::run::start;
 use c_token::ctype::CType;
 use c_tree::function::{Function, Param};
 use c_tree::program::Item;

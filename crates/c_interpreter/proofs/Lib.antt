@@ -1,0 +1,10 @@
+pub mod Blocks
+pub mod RowSizes
+pub mod Runs
+pub mod UnderWay
+pub mod Jumping
+pub mod Binding
+pub mod Functions
+pub mod OperatorChains
+pub mod Labelling
+pub mod MachineRules

@@ -1,0 +1,9 @@
+pub mod Shown
+pub mod Stacks
+pub mod Machines
+pub mod Labels
+pub mod Calling
+pub mod Chains
+pub mod Runs
+pub mod Progress
+pub mod RunViews

@@ -1,0 +1,6 @@
+//! The interpreter of C programs.
+#![tactic(auto)]
+
+pub mod machine;
+pub mod outcome;
+pub mod run;

@@ -1,0 +1,9 @@
+pub mod Naming
+pub mod PathNumbers
+pub mod SameKeys
+pub mod CallNumbers
+pub mod Counting
+pub mod Scoping
+pub mod Bumping
+pub mod Zeros
+pub mod FileContents
