@@ -6,7 +6,7 @@ ghost use Rattle.rtl_core.specs.Netlist.{netlist_of};
 ghost use Rattle.rtl_core.specs.Valid.{IsValid};
 ghost use Rattle.verilog_print.specs.PrintableNames.{IsNumbered, HasPrintableNames};
 ghost use Rattle.verilog_print.specs.PrintedText.{module_text};
-ghost use Rattle.verilog_read.specs.TextFaults.{limit};
+ghost use Rattle.verilog_syntax.specs.TextSyntax.{limit};
 
 use crate::reading::COUNTER;
 use hls_base::refusal::Fail;

@@ -1,17 +1,15 @@
 -- Assignments and edges without a fault.
-use Rattle.std.proofs.Common.{◌≡◌, ◌⊎◌, inl, inr, ℕ, zero, suc, ◌+◌, ◌<◌, Bool, true, false, ◌&&◌, ◌||◌, not, cond, List, [], ◌∷◌, ◌++◌, length, map, drop, Option, Some, None, refl, sym, ap, ◌∙◌, subst, arith}
+use Rattle.std.proofs.Common.{◌≡◌, ◌⊎◌, inl, inr, ℕ, zero, suc, ◌+◌, ◌<◌, Bool, true, false, ◌||◌, not, List, [], ◌∷◌, ◌++◌, length, map, drop, Option, Some, None, refl, sym, ap, subst, arith}
 use Rattle.std.specs.Prelude.{slice_get, is_some, bytes_eq}
 use Rattle.std.proofs.lemmas.Bool.{false≢true, and_parts}
 use Rattle.std.proofs.lemmas.Option.{none-some, same_Some}
-use Rattle.hls_base.specs.declared.place.Place.{Place}
-use Rattle.rtl_core.specs.declared.design.Port.{Port}
 use Rattle.verilog_read.specs.declared.names.Entry.{Entry}
-use Rattle.verilog_read.specs.PlacedSyntax.{PlacedName, PlacedOperand, PlacedAssign, PlacedWrite, Drive, register, first, further}
+use Rattle.verilog_syntax.specs.PlacedSyntax.{PlacedName, PlacedOperand, PlacedAssign, PlacedWrite, Drive, register, first, further}
 use Rattle.verilog_read.specs.Scope.{Scope}
-use Rattle.verilog_read.specs.Marks.{opens, goes_on, in_blocks}
+use Rattle.verilog_syntax.specs.Marks.{opens, goes_on, in_blocks}
 use Rattle.verilog_read.specs.Faults.{Slots, slot, is_free, filled_by, unless, known_faults, bits_faults, may_have, target_faults, output_of, assign_faults, Driven, memory_of, register_of, write_faults, begin_faults, drive_faults_one, after_drive, drive_faults, never_faults}
 use Rattle.verilog_read.specs.Circuit.{port_of, further_ports}
-use Rattle.verilog_read.proofs.Lookups.{none_left, none_right, unless_true}
+use Rattle.verilog_read.proofs.NoFaults.{none_left, none_right, unless_true}
 use Rattle.verilog_read.proofs.Declared.{same_bytes}
 use Rattle.verilog_read.proofs.Slots.{IsFree, AreFree, register_target, block_target}
 

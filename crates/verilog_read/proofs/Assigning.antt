@@ -3,10 +3,10 @@ use Rattle.std.proofs.Common.{◌≡◌, ℕ, zero, suc, ◌+◌, ◌<◌, Bool,
 use Rattle.std.specs.Option.{is_some}
 use Rattle.hls_base.specs.declared.refusal.Refusal.{Refusal}
 use Rattle.rtl_core.proofs.Checks.{map_drop}
-use Rattle.verilog_read.specs.declared.module.Declared.{Declared}
-use Rattle.verilog_read.specs.declared.module.DeclaredMemory.{DeclaredMemory}
-use Rattle.verilog_read.specs.ModuleViews.{declared_view, memory_view}
-use Rattle.verilog_read.specs.PlacedSyntax.{PlacedAssign, Drive}
+use Rattle.verilog_syntax.specs.declared.module.Declared.{Declared}
+use Rattle.verilog_syntax.specs.declared.module.DeclaredMemory.{DeclaredMemory}
+use Rattle.verilog_syntax.specs.ModuleViews.{declared_view, memory_view}
+use Rattle.verilog_syntax.specs.PlacedSyntax.{PlacedAssign, Drive}
 use Rattle.verilog_read.specs.Scope.{Scope}
 use Rattle.verilog_read.specs.Earliest.{noted}
 use Rattle.verilog_read.specs.Faults.{unless, Slots, slot, free_slots, never_faults, declared_names, memory_names, known_faults, target_faults, output_of, filled_by, assign_faults, after_assigns, Driven, drive_faults_one, after_drive, drive_faults, after_drives}

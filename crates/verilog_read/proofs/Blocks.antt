@@ -1,5 +1,5 @@
 -- What the edges of a module without a fault set: its registers, and the ports of its memories.
-use Rattle.std.proofs.Common.{◌≡◌, ◌⊎◌, inl, inr, ℕ, zero, suc, ◌+◌, ◌-◌, ◌^◌, ◌<◌, Bool, true, false, ◌&&◌, ◌||◌, eqb, min, List, [], ◌∷◌, ◌++◌, length, map, drop, Option, Some, None, refl, sym, ap, ◌∙◌, subst, arith}
+use Rattle.std.proofs.Common.{◌≡◌, inl, inr, ℕ, suc, ◌+◌, ◌<◌, Bool, true, false, ◌&&◌, ◌||◌, eqb, List, [], ◌∷◌, ◌++◌, length, map, drop, Option, Some, None, refl, sym, ap, ◌∙◌, subst, arith}
 use Rattle.std.specs.Prelude.{slice_get, is_some, unwrap_or}
 use Rattle.std.specs.List.{All, list_any}
 use Rattle.std.specs.Option.{option_map_or}
@@ -8,31 +8,28 @@ use Rattle.std.proofs.lemmas.Option.{none-some, same_Some, slice_get_within}
 use Rattle.std.proofs.lemmas.List.Elements.{All-nil, All-cons}
 use Rattle.rtl_core.specs.declared.design.Atom.{Atom}
 use Rattle.rtl_core.specs.declared.design.Atom.TheVariants as atom
-use Rattle.rtl_core.specs.declared.design.Reg.{Reg}
-use Rattle.rtl_core.specs.declared.design.Port.{Port}
-use Rattle.rtl_core.specs.Netlist.{Netlist, Memory}
+use Rattle.rtl_core.specs.Netlist.{Memory}
 use Rattle.rtl_core.specs.ClockStep.{Widths}
 use Rattle.rtl_core.specs.Valid.{HasBits, PortFits}
-use Rattle.rtl_core.specs.ModuleSyntax.{Write, Always, Register, Writes}
-use Rattle.rtl_core.specs.ModuleText.{OperandMeans, InOrder, none, another, WriteMeans}
+use Rattle.rtl_core.specs.ModuleText.{InOrder, none, another, WriteMeans}
 use Rattle.verilog_read.specs.declared.names.Sort.TheVariants as sort
 use Rattle.verilog_read.specs.declared.names.Entry.{Entry}
 use Rattle.verilog_read.specs.declared.names.Meaning.{Meaning}
 use Rattle.verilog_read.specs.Numbers.{declared_bits, depth_of}
-use Rattle.verilog_read.specs.PlacedSyntax.{PlacedName, PlacedOperand, PlacedDeclared, PlacedMemory, PlacedWrite, Drive, register, first, further, PlacedModule}
-use Rattle.verilog_read.specs.Scope.{Scope, scope_of, find_sort, meaning, atom_in}
-use Rattle.verilog_read.specs.Marks.{in_blocks}
-use Rattle.verilog_read.specs.Faults.{Addresses, Slots, slot, free_slots, no_slots, unless, may_have, same_atom, known_faults, bits_faults, depth_faults, memory_of, port_faults, write_faults, begin_faults, register_of, target_faults, Driven, drive_faults_one, after_drive, drive_faults, undriven, driven, write_of, is_port_of, is_port_drive, port_addresses, declared_names, memory_names}
-use Rattle.verilog_read.specs.Circuit.{nothing, register_from, register_by, port_of, further_ports, block_ports, ports_by, mems_from, circuit_of}
-use Rattle.verilog_read.proofs.Lookups.{get_map, get_back, get_drop, drop_get, none_left, none_right, unless_true}
-use Rattle.verilog_read.proofs.Unplaced.{write_plain, others_plain, blocks_plain}
-use Rattle.verilog_read.proofs.Declared.{same_bytes}
-use Rattle.verilog_read.proofs.Operands.{some_of, at_value, IsMemory, IsDeclared, found_memory, found_register, names_here, Wide, Sized, Fits, fits_means, fits_bits, known_fits, bits_fits, atom_is}
+use Rattle.verilog_syntax.specs.PlacedSyntax.{PlacedName, PlacedOperand, PlacedDeclared, PlacedMemory, PlacedWrite, Drive, register, first, further, PlacedModule}
+use Rattle.verilog_read.specs.Scope.{scope_of, find_sort, meaning, atom_in}
+use Rattle.verilog_syntax.specs.Marks.{in_blocks}
+use Rattle.verilog_read.specs.Faults.{slot, unless, may_have, same_atom, known_faults, bits_faults, depth_faults, memory_of, port_faults, write_faults, register_of, Driven, drive_faults_one, after_drive, drive_faults, undriven, driven, is_port_of, declared_names, memory_names}
+use Rattle.verilog_read.specs.Circuit.{nothing, register_from, register_by, port_of, further_ports, block_ports, ports_by, circuit_of}
+use Rattle.verilog_syntax.proofs.Places.{get_map, get_back, get_drop, drop_get}
+use Rattle.verilog_read.proofs.NoFaults.{none_left, none_right, unless_true}
+use Rattle.verilog_syntax.proofs.Unplaced.{write_plain, others_plain}
+use Rattle.verilog_read.proofs.Operands.{some_of, IsMemory, IsDeclared, found_memory, found_register, names_here, Wide, Fits, fits_means, fits_bits, known_fits, bits_fits, atom_is}
 use Rattle.verilog_read.proofs.SizedConstants.{SizedWrite, SizedDrive, IsSizedModule}
-use Rattle.verilog_read.proofs.Slots.{fills, AreFree, PutBy, put_in, in_slot, regs_fill, blocks_fill, ports_fill, register_target, block_target, port_target}
-use Rattle.verilog_read.proofs.Assigned.{TargetFits, target_fits, drives_fit, registers_free, blocks_free, Leads, leads, further_same, never_none}
-use Rattle.verilog_read.proofs.Clean.{Clean, MemoryAllowed, memory_is_allowed}
-use Rattle.verilog_read.proofs.Circuits.{memory_from, mems_at, regs_at}
+use Rattle.verilog_read.proofs.Slots.{put_in, in_slot, regs_fill, blocks_fill, ports_fill, register_target, block_target, port_target}
+use Rattle.verilog_read.proofs.Assigned.{target_fits, drives_fit, registers_free, blocks_free, leads, further_same, never_none}
+use Rattle.verilog_read.proofs.Clean.{Clean, MemoryAllowed}
+use Rattle.verilog_read.proofs.Circuits.{mems_at, regs_at}
 
 -- ---- one port
 

@@ -1,5 +1,5 @@
 -- The elements of the circuit of a module, by place.
-use Rattle.std.proofs.Common.{◌≡◌, ℕ, zero, suc, ◌+◌, ◌<◌, List, [], ◌∷◌, length, map, take, drop, Option, Some, None, refl, sym, ap, ◌∙◌, subst, arith}
+use Rattle.std.proofs.Common.{◌≡◌, ℕ, zero, suc, ◌+◌, ◌<◌, List, [], ◌∷◌, length, map, Option, Some, None, refl, ap, ◌∙◌, arith}
 use Rattle.std.specs.Prelude.{slice_get, unwrap_or}
 use Rattle.std.specs.Option.{option_map_or}
 use Rattle.std.proofs.lemmas.Option.{none-some, same_Some}
@@ -7,14 +7,14 @@ use Rattle.rtl_core.specs.declared.design.Pin.{Pin}
 use Rattle.rtl_core.specs.declared.design.OutPin.{OutPin}
 use Rattle.rtl_core.specs.declared.design.Reg.{Reg}
 use Rattle.rtl_core.specs.declared.design.Wire.{Wire}
-use Rattle.rtl_core.specs.Netlist.{Netlist, Memory}
-use Rattle.rtl_core.specs.ClockStep.{Widths, widths, widths_after}
+use Rattle.rtl_core.specs.Netlist.{Memory}
+use Rattle.rtl_core.specs.ClockStep.{widths_after}
 use Rattle.verilog_read.specs.Numbers.{declared_bits, depth_of}
-use Rattle.verilog_read.specs.PlacedSyntax.{PlacedDeclared, PlacedMemory, PlacedWire, PlacedAssign, Drive, register, first, further, PlacedModule}
+use Rattle.verilog_syntax.specs.PlacedSyntax.{PlacedDeclared, PlacedMemory, PlacedWire, PlacedAssign, Drive, register, first, further, PlacedModule}
 use Rattle.verilog_read.specs.Scope.{Scope, scope_of}
 use Rattle.verilog_read.specs.Faults.{Slots, slot}
 use Rattle.verilog_read.specs.Circuit.{nothing, input_of, wire_of, source, outputs_from, register_from, register_by, regs_from, ports_by, mems_from, circuit_of}
-use Rattle.verilog_read.proofs.Lookups.{get_map}
+use Rattle.verilog_syntax.proofs.Places.{get_map}
 use Rattle.verilog_read.proofs.Operands.{Wide}
 
 abbrev pub output_from : Scope → List PlacedAssign → Option ℕ → PlacedDeclared → OutPin

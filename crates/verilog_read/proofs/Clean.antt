@@ -1,23 +1,21 @@
 -- What holds of a module that has no fault.
-use Rattle.std.proofs.Common.{◌≡◌, ℕ, zero, suc, ◌+◌, ◌^◌, ◌<◌, ◌≤◌, Bool, true, false, ◌&&◌, eqb, ltb, leb, cond, List, [], ◌∷◌, ◌++◌, map, length, min, Option, Some, None, append_assoc, refl, sym, ap, ◌∙◌, subst, arith}
-use Rattle.std.specs.Prelude.{slice_get, bytes_eq, is_some, unwrap_or}
-use Rattle.std.specs.List.{All}
-use Rattle.std.proofs.Common.{inl, inr}
+use Rattle.std.proofs.Common.{◌≡◌, ℕ, zero, suc, ◌+◌, ◌^◌, ◌<◌, ◌≤◌, true, false, ◌&&◌, eqb, ltb, leb, cond, List, [], ◌∷◌, ◌++◌, map, length, Option, Some, None, append_assoc, refl, sym, ap, ◌∙◌, subst, arith, inl, inr}
+use Rattle.std.specs.Prelude.{bytes_eq, is_some}
 use Rattle.std.proofs.lemmas.Bool.{false≢true, and_parts, cases_Bool, leb-true, eqb-true}
 use Rattle.std.proofs.lemmas.List.{map-append}
 use Rattle.std.proofs.lemmas.Option.{none-some, same_Some}
-use Rattle.rtl_core.specs.Valid.{IsName, IsBetween, AreDistinct}
+use Rattle.rtl_core.specs.Valid.{IsBetween, AreDistinct}
 use Rattle.rtl_core.specs.ModuleTokens.{number_value}
 use Rattle.rtl_core.specs.ModuleSyntax.{DeclaredMemory, DeclaredWire}
 use Rattle.rtl_core.specs.ModuleText.{names_in, output_names, all_names, declared_name}
 use Rattle.verilog_read.specs.declared.names.Sort.{Sort}
 use Rattle.verilog_read.specs.declared.names.Sort.TheVariants as sort
 use Rattle.verilog_read.specs.Numbers.{declared_bits, log_from, depth_of}
-use Rattle.verilog_read.specs.PlacedSyntax.{PlacedName, PlacedDeclared, PlacedMemory, PlacedWire, PlacedModule}
+use Rattle.verilog_syntax.specs.PlacedSyntax.{PlacedName, PlacedDeclared, PlacedMemory, PlacedWire, PlacedModule}
 use Rattle.verilog_read.specs.Scope.{Declaration, declared_from, memories_from, wires_from, pins, declarations, scope_of}
-use Rattle.verilog_read.specs.Faults.{unless, allowed, declared_faults, no_scope, is_turn, turn_faults, lacking_faults, header_faults, wire_faults, assign_faults, after_assigns, drive_faults, after_drives, never_faults, declared_names, memory_names, no_slots, undriven, port_addresses, module_faults}
-use Rattle.verilog_read.proofs.Lookups.{none_left, none_right, unless_true}
-use Rattle.verilog_read.proofs.Unplaced.{declared_plain, memory_plain, wire_plain, name_plain, syntax_of}
+use Rattle.verilog_read.specs.Faults.{unless, allowed, declared_faults, no_scope, turn_faults, lacking_faults, header_faults, wire_faults, assign_faults, after_assigns, drive_faults, after_drives, never_faults, declared_names, memory_names, no_slots, undriven, port_addresses, module_faults}
+use Rattle.verilog_read.proofs.NoFaults.{none_left, none_right, unless_true}
+use Rattle.verilog_syntax.proofs.Unplaced.{declared_plain, memory_plain, wire_plain, name_plain, syntax_of}
 use Rattle.verilog_read.proofs.Declared.{names_of, same_bytes, declared_apart}
 
 pub record Clean (m : PlacedModule) : Type 0 where

@@ -1,25 +1,20 @@
 -- What the names of a module stand for, where no name is declared twice.
-use Rattle.std.proofs.Common.{◌≡◌, ◌≢◌, ◌⊎◌, inl, inr, ℕ, zero, suc, ◌+◌, Bool, true, false, not, cond, List, [], ◌∷◌, ◌++◌, map, Option, Some, None, append_assoc, refl, sym, ap, ◌∙◌, subst, arith}
+use Rattle.std.proofs.Common.{◌≡◌, ◌≢◌, ◌⊎◌, inl, inr, ℕ, zero, suc, ◌+◌, Bool, true, false, not, cond, List, [], ◌∷◌, ◌++◌, map, Option, Some, None, refl, sym, ap, ◌∙◌, subst, arith}
 use Rattle.std.specs.Prelude.{slice_get, bytes_eq, is_some}
 use Rattle.std.specs.List.{All}
-use Rattle.std.proofs.lemmas.Bool.{cases_Bool, false≢true, both_ways, not-true}
-use Rattle.std.proofs.lemmas.List.{map-append}
+use Rattle.std.proofs.lemmas.Bool.{cases_Bool, false≢true, both_ways}
 use Rattle.std.proofs.lemmas.List.Elements.{All-nil, All-cons, All-head, All-tail}
 use Rattle.std.proofs.lemmas.Option.{none-some, same_Some}
 use Rattle.std.proofs.lemmas.Slice.Eq.{bytes_eq-Decides}
-use Rattle.hls_base.specs.declared.refusal.Refusal.{Refusal}
 use Rattle.rtl_core.specs.Valid.{AreDistinct}
-use Rattle.rtl_core.specs.ModuleSyntax.{DeclaredMemory, DeclaredWire}
-use Rattle.rtl_core.specs.ModuleText.{all_names, declared_name}
 use Rattle.verilog_read.specs.declared.names.Sort.{Sort}
 use Rattle.verilog_read.specs.declared.names.Sort.TheVariants as sort
 use Rattle.verilog_read.specs.declared.names.Entry.{Entry}
 use Rattle.verilog_read.specs.Numbers.{declared_bits, depth_of}
-use Rattle.verilog_read.specs.PlacedSyntax.{PlacedName, PlacedDeclared, PlacedMemory, PlacedWire, PlacedModule}
+use Rattle.verilog_syntax.specs.PlacedSyntax.{PlacedDeclared, PlacedMemory, PlacedWire, PlacedModule}
 use Rattle.verilog_read.specs.Scope.{Scope, Declaration, declared_from, memories_from, wires_from, pins, declarations, with_entry, first_of, scope_of}
 use Rattle.verilog_read.specs.Faults.{unless, allowed, declaration_faults, declared_faults, no_scope}
-use Rattle.verilog_read.proofs.Lookups.{none_left, none_right, unless_true}
-use Rattle.verilog_read.proofs.Unplaced.{declared_plain, memory_plain, wire_plain, syntax_of}
+use Rattle.verilog_read.proofs.NoFaults.{none_left, none_right, unless_true}
 
 abbrev pub In : Declaration → List Declaration → Type 0
 In d [] = ⊥

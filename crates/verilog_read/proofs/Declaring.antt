@@ -9,11 +9,11 @@ use Rattle.verilog_read.specs.declared.declarations.Declaration.{Declaration as 
 use Rattle.verilog_read.specs.declared.names.Entry.{Entry}
 use Rattle.verilog_read.specs.declared.names.Sort.{Sort}
 use Rattle.verilog_read.specs.declared.names.Sort.TheVariants as sort
-use Rattle.verilog_read.specs.declared.module.Declared.{Declared}
-use Rattle.verilog_read.specs.declared.module.DeclaredMemory.{DeclaredMemory}
-use Rattle.verilog_read.specs.declared.module.DeclaredWire.{DeclaredWire}
+use Rattle.verilog_syntax.specs.declared.module.Declared.{Declared}
+use Rattle.verilog_syntax.specs.declared.module.DeclaredMemory.{DeclaredMemory}
+use Rattle.verilog_syntax.specs.declared.module.DeclaredWire.{DeclaredWire}
 use Rattle.verilog_read.specs.Numbers.{declared_bits, depth_of}
-use Rattle.verilog_read.specs.ModuleViews.{declared_view, memory_view, wire_view, name_view}
+use Rattle.verilog_syntax.specs.ModuleViews.{declared_view, memory_view, wire_view, name_view}
 use Rattle.verilog_read.specs.Scope.{Scope, Declaration, declared_from, memories_from, wires_from, first_of, with_entry}
 use Rattle.verilog_read.specs.Earliest.{noted}
 use Rattle.verilog_read.specs.Faults.{unless, allowed, declaration_faults, declared_faults, no_scope}

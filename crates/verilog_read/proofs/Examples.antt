@@ -1,29 +1,30 @@
 -- Worked examples: the counter of nine lines, and texts that are refused.
-use Rattle.std.proofs.Common.{◌≡◌, inl, inr, ℕ, zero, suc, get_or, subst, ◌<◌, ◌≤◌, List, [], ◌∷◌, ◌++◌, length, map, codes, Some, None, refl, sym, arith}
+use Rattle.std.proofs.Common.{◌≡◌, inl, inr, ℕ, zero, suc, get_or, subst, ◌<◌, List, [], ◌∷◌, ◌++◌, length, map, codes, Some, None, refl, sym, arith}
 use Rattle.std.specs.List.{Contains}
 use Rattle.hls_base.specs.declared.place.Place.{Place}
 use Rattle.hls_base.specs.declared.refusal.Refusal.{Refusal}
 use Rattle.rtl_core.specs.declared.design.Pair.TheVariants as pair
-use Rattle.rtl_core.specs.ModuleTokens.{Token, Word}
+use Rattle.rtl_core.specs.ModuleTokens.{Token}
 use Rattle.rtl_core.specs.ModuleSyntax.{Named, Fixed, syntax_tokens}
 use Rattle.rtl_core.proofs.Examples.{counter}
 use Rattle.rtl_core.proofs.CounterText.{counter_syntax}
-use Rattle.verilog_read.specs.declared.form.Form.TheVariants as f
-use Rattle.verilog_read.specs.declared.form.Form.{Form}
+use Rattle.verilog_syntax.specs.declared.form.Form.TheVariants as f
+use Rattle.verilog_syntax.specs.declared.form.Form.{Form}
 use Rattle.hls_base.specs.TextPlaces.{text_start, place_after}
 use Rattle.verilog_read.specs.Numbers.{declared_bits, depth_of}
-use Rattle.verilog_read.specs.Lexemes.{over}
-use Rattle.verilog_read.specs.Forms.{FitsAll, classes_of, IsModule}
-use Rattle.verilog_read.specs.PlacedSyntax.{PlacedName, PlacedOperand, PlacedNet, between, joined, word_of, PlacedDeclared, PlacedWire, Drive, register, PlacedModule}
-use Rattle.verilog_read.specs.Marks.{module_marks}
+use Rattle.verilog_syntax.specs.Lexemes.{over}
+use Rattle.verilog_syntax.specs.Forms.{FitsAll, classes_of, IsModule}
+use Rattle.verilog_syntax.specs.PlacedSyntax.{PlacedName, PlacedOperand, between, PlacedWire, Drive, register, PlacedModule}
+use Rattle.verilog_syntax.specs.Marks.{module_marks}
 use Rattle.verilog_read.specs.Earliest.{first_fault}
 use Rattle.verilog_read.specs.Faults.{module_faults}
 use Rattle.verilog_read.specs.Circuit.{circuit_of}
-use Rattle.verilog_read.specs.TextFaults.{limit, unknown, early, IsFirstFault, too_long, at_front}
-use Rattle.verilog_read.proofs.Pieces.{nothing_first}
-use Rattle.verilog_read.proofs.Runs.{End, Step, opened}
-use Rattle.verilog_read.proofs.Reading.{finish}
-use Rattle.verilog_read.proofs.Unplaced.{syntax_of, mark_token}
+use Rattle.verilog_syntax.specs.TextSyntax.{limit, unknown, early}
+use Rattle.verilog_read.specs.TextFaults.{IsFirstFault, too_long, at_front}
+use Rattle.verilog_syntax.proofs.Pieces.{nothing_first}
+use Rattle.verilog_syntax.proofs.Runs.{opened}
+use Rattle.verilog_syntax.proofs.Reading.{finish}
+use Rattle.verilog_syntax.proofs.Unplaced.{syntax_of, mark_token}
 
 abbrev place : ℕ → ℕ → Place
 place line column = record { line = line; column = column; part = 0 }

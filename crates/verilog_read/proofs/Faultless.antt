@@ -1,13 +1,12 @@
 -- A module that means a valid circuit has no fault: declarations, header and slots.
-use Rattle.std.proofs.Common.{◌≡◌, ◌≢◌, ◌⊎◌, inl, inr, ℕ, zero, suc, ◌+◌, ◌^◌, ◌<◌, ◌≤◌, Bool, true, false, not, ◌&&◌, ◌||◌, cond, eqb, ltb, leb, List, [], ◌∷◌, ◌++◌, length, map, take, drop, get_or, Option, Some, None, append_assoc, append-nil, refl, sym, ap, ◌∙◌, subst, arith, get_or-set_same, get_or-set_other}
+use Rattle.std.proofs.Common.{◌≡◌, ◌≢◌, inl, inr, ℕ, zero, suc, ◌+◌, ◌^◌, ◌<◌, ◌≤◌, Bool, true, false, not, ◌&&◌, ◌||◌, cond, ltb, leb, List, [], ◌∷◌, ◌++◌, length, map, take, get_or, Option, Some, None, append_assoc, append-nil, refl, sym, ap, ◌∙◌, subst, arith, get_or-set_same, get_or-set_other}
 use Rattle.std.specs.Prelude.{slice_get, slice_set, is_some, bytes_eq, IsPermutation}
-use Rattle.std.specs.List.{All, Contains, list_any, sum_by}
-use Rattle.std.proofs.lemmas.Bool.{false≢true, both_ways, cases_Bool, cases_eq, cases_order, lt-ltb, le-leb, eq-eqb, ne_eqb, and_from, not-true}
-use Rattle.std.proofs.lemmas.Option.{none-some, same_Some, slice_get_within}
-use Rattle.std.proofs.lemmas.List.Elements.{All-nil, All-cons, All-head, All-tail, All-append}
+use Rattle.std.specs.List.{All, list_any, sum_by}
+use Rattle.std.proofs.lemmas.Bool.{false≢true, cases_Bool, cases_eq, cases_order, lt-ltb, le-leb, eq-eqb, ne_eqb, and_from}
+use Rattle.std.proofs.lemmas.Option.{none-some, same_Some}
+use Rattle.std.proofs.lemmas.List.Elements.{All-nil, All-cons, All-head, All-tail}
 use Rattle.std.proofs.lemmas.List.Sums.{sum_by-cons}
 use Rattle.std.proofs.lemmas.List.Sorted.{sum_by-IsPermutation}
-use Rattle.hls_base.specs.declared.refusal.Refusal.{Refusal}
 use Rattle.rtl_core.specs.declared.design.Wire.{Wire}
 use Rattle.rtl_core.specs.Netlist.{Netlist}
 use Rattle.rtl_core.specs.ClockStep.{widths_after}
@@ -18,13 +17,13 @@ use Rattle.verilog_read.specs.declared.names.Sort.{Sort}
 use Rattle.verilog_read.specs.declared.names.Sort.TheVariants as sort
 use Rattle.verilog_read.specs.declared.names.Entry.{Entry}
 use Rattle.verilog_read.specs.Numbers.{declared_bits, log_from, depth_of}
-use Rattle.verilog_read.specs.PlacedSyntax.{PlacedName, PlacedDeclared, PlacedMemory, PlacedWire}
+use Rattle.verilog_syntax.specs.PlacedSyntax.{PlacedName, PlacedDeclared, PlacedMemory, PlacedWire}
 use Rattle.verilog_read.specs.Scope.{Scope, Declaration, declared_from, memories_from, wires_from, with_entry}
-use Rattle.verilog_read.specs.Faults.{unless, allowed, declaration_faults, declared_faults, is_turn, turn_faults, lacking_faults, header_faults, Slots, slot, is_free, filled, filled_by, never_faults}
-use Rattle.verilog_read.proofs.Lookups.{none_both, unless_none}
-use Rattle.verilog_read.proofs.Unplaced.{name_plain}
+use Rattle.verilog_read.specs.Faults.{unless, allowed, declaration_faults, declared_faults, turn_faults, lacking_faults, Slots, slot, is_free, filled, filled_by, never_faults}
+use Rattle.verilog_read.proofs.NoFaults.{none_both, unless_none}
+use Rattle.verilog_syntax.proofs.Unplaced.{name_plain}
 use Rattle.verilog_read.proofs.Declared.{names_of, bytes_same, same_bytes, IsAllowed}
-use Rattle.verilog_read.proofs.Distinct.{Among, place_among, all_among, distinct_places}
+use Rattle.verilog_read.proofs.Distinct.{place_among, all_among, distinct_places}
 use Rattle.verilog_read.proofs.Slots.{fills, IsFree, AreFree, by_long, fills_keep}
 use Rattle.verilog_read.proofs.OneCircuit.{same_log}
 

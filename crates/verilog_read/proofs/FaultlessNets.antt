@@ -1,11 +1,9 @@
 -- A net that means an expression that fits has no fault.
-use Rattle.std.proofs.Common.{◌≡◌, ◌⊎◌, inl, inr, ℕ, zero, suc, ◌+◌, ◌-◌, ◌^◌, ◌<◌, ◌≤◌, Bool, true, false, ◌&&◌, eqb, ltb, leb, min, List, [], ◌∷◌, ◌++◌, length, map, take, Option, Some, None, refl, sym, ap, ◌∙◌, subst, arith}
+use Rattle.std.proofs.Common.{◌≡◌, ℕ, ◌+◌, ◌-◌, ◌^◌, ◌<◌, ◌≤◌, true, ◌&&◌, eqb, ltb, leb, min, List, [], ◌++◌, map, Some, refl, sym, ap, ◌∙◌, subst, arith}
 use Rattle.std.specs.Prelude.{slice_get, is_some}
 use Rattle.std.specs.Option.{option_map_or, option_and_then}
 use Rattle.std.proofs.Math.Pow.{pow_mono}
-use Rattle.std.proofs.lemmas.Bool.{false≢true, lt-ltb, le-leb, eq-eqb, and_from}
-use Rattle.std.proofs.lemmas.Option.{none-some, same_Some, slice_get_within}
-use Rattle.std.proofs.lemmas.List.{length-take}
+use Rattle.std.proofs.lemmas.Bool.{lt-ltb, le-leb, eq-eqb, and_from}
 use Rattle.rtl_core.specs.declared.design.Atom.{Atom}
 use Rattle.rtl_core.specs.declared.design.Atom.TheVariants as atom
 use Rattle.rtl_core.specs.declared.design.Pair.{Pair}
@@ -15,22 +13,22 @@ use Rattle.rtl_core.specs.declared.design.Net.TheVariants as net
 use Rattle.rtl_core.specs.declared.design.Port.{Port}
 use Rattle.rtl_core.specs.Netlist.{Memory}
 use Rattle.rtl_core.specs.ClockStep.{Widths}
-use Rattle.rtl_core.specs.Valid.{IsBetween, AreDistinct, HasBits, IsConstant, OperandsFit, IsWordOf, NetFits}
+use Rattle.rtl_core.specs.Valid.{IsBetween, AreDistinct, HasBits, OperandsFit, IsWordOf, NetFits}
 use Rattle.rtl_core.specs.ModuleTokens.{number_value}
-use Rattle.rtl_core.specs.ModuleSyntax.{Operand, Named, Fixed, DeclaredMemory, DeclaredWire}
+use Rattle.rtl_core.specs.ModuleSyntax.{Operand, Named, Fixed, DeclaredWire}
 use Rattle.rtl_core.specs.ModuleText.{declared_name, OperandMeans, ExpressionMeans}
 use Rattle.verilog_read.specs.declared.names.Sort.TheVariants as sort
 use Rattle.verilog_read.specs.declared.names.Entry.{Entry}
 use Rattle.verilog_read.specs.declared.names.Meaning.{Meaning}
-use Rattle.verilog_read.specs.Numbers.{declared_bits, depth_of}
-use Rattle.verilog_read.specs.PlacedSyntax.{PlacedName, PlacedOperand, PlacedDeclared, PlacedMemory, PlacedWire, PlacedNet, alone, inverted, between, chosen, joined, slice, word_of, PlacedModule}
-use Rattle.verilog_read.specs.Scope.{declarations, scope_of, of_sort, find_sort, entry_meaning, named, meaning}
-use Rattle.verilog_read.specs.Faults.{Addresses, unless, is_in_range, may_have, may_agree, pair_fits, may_add_up, join_fits, is_part, part_fits, is_same_depth, address_fits, word_fits, net_fits, known_faults, bits_faults, atom_before, is_before, source_faults, memory_faults, net_faults, memory_of}
-use Rattle.verilog_read.proofs.Lookups.{get_back, none_both, unless_none}
-use Rattle.verilog_read.proofs.Unplaced.{declared_plain, memory_plain, wire_plain, net_plain}
-use Rattle.verilog_read.proofs.Declared.{names_of, input_entry, register_entry, memory_entry, wire_entry}
+use Rattle.verilog_read.specs.Numbers.{declared_bits}
+use Rattle.verilog_syntax.specs.PlacedSyntax.{PlacedOperand, PlacedDeclared, PlacedWire, PlacedNet, alone, inverted, between, chosen, joined, slice, word_of, PlacedModule}
+use Rattle.verilog_read.specs.Scope.{declarations, scope_of, find_sort, entry_meaning, meaning}
+use Rattle.verilog_read.specs.Faults.{Addresses, is_in_range, may_have, may_agree, pair_fits, may_add_up, join_fits, is_part, part_fits, is_same_depth, address_fits, word_fits, net_fits, known_faults, bits_faults, atom_before, is_before, source_faults, memory_faults, net_faults, memory_of}
+use Rattle.verilog_syntax.proofs.Places.{get_back}
+use Rattle.verilog_read.proofs.NoFaults.{none_both, unless_none}
+use Rattle.verilog_syntax.proofs.Unplaced.{declared_plain, wire_plain, net_plain}
+use Rattle.verilog_read.proofs.Declared.{names_of, input_entry, register_entry, wire_entry}
 use Rattle.verilog_read.proofs.Operands.{names_here}
-use Rattle.verilog_read.proofs.Nets.{SizedNet}
 
 -- the widths are those that are declared, of the first j wires
 pub record Declares (m : PlacedModule) (j : ℕ) (w : Widths) : Type 0 where

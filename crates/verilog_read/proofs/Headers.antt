@@ -7,10 +7,10 @@ use Rattle.rtl_core.proofs.Checks.{map_drop}
 use Rattle.verilog_read.specs.declared.declarations.Declaration.{Declaration as CodeDeclaration}
 use Rattle.verilog_read.specs.declared.names.Sort.{Sort}
 use Rattle.verilog_read.specs.declared.names.Sort.TheVariants as sort
-use Rattle.verilog_read.specs.PlacedSyntax.{PlacedDeclared, PlacedModule}
+use Rattle.verilog_syntax.specs.PlacedSyntax.{PlacedDeclared, PlacedModule}
 use Rattle.verilog_read.specs.Scope.{declared_from, memories_from, wires_from, pins, declarations}
-use Rattle.verilog_read.specs.declared.module.Name.{Name}
-use Rattle.verilog_read.specs.ModuleViews.{name_view}
+use Rattle.verilog_syntax.specs.declared.module.Name.{Name}
+use Rattle.verilog_syntax.specs.ModuleViews.{name_view}
 use Rattle.verilog_read.specs.DeclarationViews.{declaration_view, declaration_views}
 use Rattle.verilog_read.specs.Earliest.{noted}
 use Rattle.verilog_read.specs.Faults.{unless, is_turn, turn_faults, lacking_faults, behind_first}

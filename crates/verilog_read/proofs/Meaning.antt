@@ -1,5 +1,5 @@
 -- A module without a fault means its circuit.
-use Rattle.std.proofs.Common.{◌≡◌, ◌≢◌, ◌⊎◌, inl, inr, ℕ, zero, suc, ◌+◌, ◌-◌, ◌^◌, ◌<◌, ◌≤◌, Bool, true, false, min, List, [], ◌∷◌, ◌++◌, length, map, take, drop, Option, Some, None, append_assoc, refl, sym, ap, ◌∙◌, subst, arith}
+use Rattle.std.proofs.Common.{◌≡◌, ◌≢◌, inl, inr, ℕ, zero, suc, ◌+◌, ◌^◌, ◌<◌, true, false, List, [], ◌∷◌, ◌++◌, length, map, take, drop, Some, None, append_assoc, refl, sym, ap, ◌∙◌, subst, arith}
 use Rattle.std.specs.Prelude.{slice_get, is_some, unwrap_or, IsPermutation}
 use Rattle.std.specs.List.{All}
 use Rattle.std.specs.Option.{option_map_or}
@@ -7,38 +7,37 @@ use Rattle.std.proofs.lemmas.Bool.{false≢true}
 use Rattle.std.proofs.lemmas.Option.{none-some, same_Some, slice_get_within}
 use Rattle.std.proofs.lemmas.List.Elements.{All-nil, All-cons, All-map, All-append}
 use Rattle.rtl_core.specs.declared.design.Atom.{Atom}
-use Rattle.rtl_core.specs.declared.design.Pin.{Pin}
-use Rattle.rtl_core.specs.declared.design.OutPin.{OutPin}
 use Rattle.rtl_core.specs.declared.design.Reg.{Reg}
 use Rattle.rtl_core.specs.declared.design.Port.{Port}
-use Rattle.rtl_core.specs.Netlist.{Netlist, Memory}
+use Rattle.rtl_core.specs.Netlist.{Memory}
 use Rattle.rtl_core.specs.Interface.{outer}
 use Rattle.rtl_core.specs.ClockStep.{widths_after}
-use Rattle.rtl_core.specs.Valid.{IsName, AreDistinct, IsBetween, NetFits}
+use Rattle.rtl_core.specs.Valid.{IsName, AreDistinct, NetFits}
 use Rattle.rtl_core.specs.ModuleTokens.{number_value}
 use Rattle.rtl_core.specs.ModuleSyntax.{Declared, DeclaredMemory, DeclaredWire, Assign, Always, Register, Writes}
-use Rattle.rtl_core.specs.ModuleText.{names_in, output_names, all_names, declared_name, declared_pin, OperandMeans, ExpressionMeans, WireMeans, MemoryMeans, InOrder, none, another, AssignMeans, target, BlockMeans, Means}
+use Rattle.rtl_core.specs.ModuleText.{output_names, all_names, declared_name, declared_pin, OperandMeans, ExpressionMeans, WireMeans, MemoryMeans, InOrder, none, another, AssignMeans, target, BlockMeans, Means}
 use Rattle.verilog_read.specs.declared.names.Sort.TheVariants as sort
 use Rattle.verilog_read.specs.declared.names.Entry.{Entry}
 use Rattle.verilog_read.specs.Numbers.{declared_bits, depth_of}
-use Rattle.verilog_read.specs.PlacedSyntax.{PlacedName, PlacedOperand, PlacedDeclared, PlacedMemory, PlacedWire, PlacedAssign, PlacedWrite, Drive, register, first, further, PlacedModule}
+use Rattle.verilog_syntax.specs.PlacedSyntax.{PlacedName, PlacedOperand, PlacedDeclared, PlacedMemory, PlacedWire, PlacedAssign, PlacedWrite, Drive, register, first, further, PlacedModule}
 use Rattle.verilog_read.specs.Scope.{Scope, scope_of, find_sort, atom_in}
-use Rattle.verilog_read.specs.Marks.{in_blocks}
-use Rattle.verilog_read.specs.Parsing.{IsNamed}
-use Rattle.verilog_read.specs.Faults.{Addresses, Slots, slot, no_slots, unless, declared_names, output_of, memory_of, register_of, net_faults, net_fits, wire_faults_one, wire_faults, is_port_drive, port_addresses, output_slots, undriven, driven}
-use Rattle.verilog_read.specs.Circuit.{nothing, net_of, wire_of, input_of, source, outputs_from, regs_from, register_by, mems_from, port_of, further_ports, circuit_of}
-use Rattle.verilog_read.proofs.Lookups.{by_places, get_map, get_back, get_take, one_at, some_place, none_left, none_right, unless_true}
-use Rattle.verilog_read.proofs.Unplaced.{declared_plain, memory_plain, net_plain, wire_plain, assign_plain, write_plain, others_plain, blocks_plain, name_plain, syntax_of}
+use Rattle.verilog_syntax.specs.Marks.{in_blocks}
+use Rattle.verilog_syntax.specs.Parsing.{IsNamed}
+use Rattle.verilog_read.specs.Faults.{Addresses, Slots, slot, no_slots, declared_names, output_of, memory_of, net_faults, net_fits, wire_faults_one, wire_faults, is_port_drive, port_addresses, output_slots, undriven, driven}
+use Rattle.verilog_read.specs.Circuit.{nothing, net_of, wire_of, input_of, source, outputs_from, regs_from, port_of, further_ports, circuit_of}
+use Rattle.verilog_syntax.proofs.Places.{by_places, get_map, get_back, get_take, one_at}
+use Rattle.verilog_read.proofs.NoFaults.{none_left, none_right, unless_true}
+use Rattle.verilog_syntax.proofs.Unplaced.{declared_plain, memory_plain, net_plain, wire_plain, assign_plain, write_plain, others_plain, blocks_plain, syntax_of}
 use Rattle.verilog_read.proofs.Declared.{input_allowed, output_allowed, register_allowed, memory_allowed, wire_allowed}
-use Rattle.verilog_read.proofs.Distinct.{Among, among_place, place_among, among_all, all_among, same_elements, distinct_places, distinct_left, distinct_right, among_append, append_among, parts_apart}
+use Rattle.verilog_read.proofs.Distinct.{Among, among_place, place_among, among_all, same_elements, distinct_places, distinct_left, distinct_right, among_append, append_among, parts_apart}
 use Rattle.verilog_read.proofs.Operands.{some_of, IsMemory, IsDeclared, found_memory, found_register, found_output, names_here, register_name, memory_name, known_fits, fits_means, Fits}
 use Rattle.verilog_read.proofs.SizedConstants.{IsSizedModule}
-use Rattle.verilog_read.proofs.Slots.{fills, put_in, in_slot, one_place, assigns_fill, register_target, block_target}
-use Rattle.verilog_read.proofs.Assigned.{AssignFits, assigns_fit, Leads, leads, registers_free, blocks_free, never_none}
+use Rattle.verilog_read.proofs.Slots.{put_in, in_slot, one_place, assigns_fill, register_target, block_target}
+use Rattle.verilog_read.proofs.Assigned.{AssignFits, assigns_fit, leads, registers_free, blocks_free, never_none}
 use Rattle.verilog_read.proofs.Nets.{HoldsMemory, net_right}
 use Rattle.verilog_read.proofs.Clean.{Clean, all_apart, header_is, width_exact, pin_between, MemoryAllowed, memory_is_allowed}
 use Rattle.verilog_read.proofs.Circuits.{output_from, outputs_at, mems_at, mems_long, by_bits, wide_here}
-use Rattle.verilog_read.proofs.Blocks.{BlockRight, RegisterRight, register_right, block_right, has_block, has_edge, port_means, furthers_mean, any_place, AddressOf, port_address}
+use Rattle.verilog_read.proofs.Blocks.{register_right, block_right, has_block, has_edge, port_means, furthers_mean, any_place, port_address}
 
 -- ---- lists
 

@@ -1,33 +1,30 @@
 -- What the net of a wire without a fault means, and its width.
-use Rattle.std.proofs.Common.{◌≡◌, ℕ, suc, ◌+◌, ◌-◌, ◌^◌, ◌<◌, ◌≤◌, Bool, true, false, ◌&&◌, eqb, ltb, leb, min, List, [], ◌∷◌, ◌++◌, length, map, Option, Some, None, refl, sym, ap, ◌∙◌, subst, arith}
+use Rattle.std.proofs.Common.{◌≡◌, ℕ, ◌+◌, ◌-◌, ◌^◌, ◌<◌, ◌≤◌, true, ◌&&◌, eqb, ltb, leb, min, List, [], Option, Some, refl, sym, ap, ◌∙◌, subst, arith}
 use Rattle.std.specs.Prelude.{slice_get, is_some}
 use Rattle.std.specs.Option.{option_map_or}
-use Rattle.std.proofs.lemmas.Bool.{false≢true, and_parts, ltb-true, leb-true, eqb-true}
-use Rattle.std.proofs.lemmas.Option.{none-some, same_Some}
+use Rattle.std.proofs.lemmas.Bool.{and_parts, ltb-true, leb-true, eqb-true}
+use Rattle.std.proofs.lemmas.Option.{same_Some}
 use Rattle.rtl_core.specs.declared.design.Atom.{Atom}
-use Rattle.rtl_core.specs.declared.design.Atom.TheVariants as atom
 use Rattle.rtl_core.specs.declared.design.Pair.{Pair}
 use Rattle.rtl_core.specs.declared.design.Pair.TheVariants as pair
-use Rattle.rtl_core.specs.declared.design.Net.{Net}
 use Rattle.rtl_core.specs.declared.design.Net.TheVariants as net
 use Rattle.rtl_core.specs.declared.design.Port.{Port}
 use Rattle.rtl_core.specs.Netlist.{Memory}
 use Rattle.rtl_core.specs.ClockStep.{Widths}
-use Rattle.rtl_core.specs.Valid.{IsBetween, HasBits, IsConstant, OperandsFit, IsWordOf, NetFits}
+use Rattle.rtl_core.specs.Valid.{HasBits, IsConstant, OperandsFit, NetFits}
 use Rattle.rtl_core.specs.ModuleTokens.{number_value}
 use Rattle.rtl_core.specs.ModuleSyntax.{Operand, Named}
 use Rattle.rtl_core.specs.ModuleText.{OperandMeans, ExpressionMeans}
-use Rattle.verilog_read.specs.declared.names.Sort.TheVariants as sort
 use Rattle.verilog_read.specs.declared.names.Entry.{Entry}
 use Rattle.verilog_read.specs.declared.names.Meaning.{Meaning}
 use Rattle.verilog_read.specs.Numbers.{declared_bits}
-use Rattle.verilog_read.specs.PlacedSyntax.{PlacedName, PlacedOperand, PlacedNet, alone, inverted, between, chosen, joined, slice, word_of, PlacedModule}
-use Rattle.verilog_read.specs.Scope.{scope_of, find_sort, named, meaning, atom_in}
+use Rattle.verilog_syntax.specs.PlacedSyntax.{PlacedName, PlacedOperand, PlacedNet, alone, inverted, between, chosen, joined, slice, word_of, PlacedModule}
+use Rattle.verilog_read.specs.Scope.{scope_of, named, meaning, atom_in}
 use Rattle.verilog_read.specs.Faults.{Addresses, is_in_range, may_have, may_agree, pair_fits, may_add_up, join_fits, is_part, part_fits, is_same_depth, address_fits, word_fits, net_fits, source_faults, memory_faults, net_faults, memory_of}
 use Rattle.verilog_read.specs.Circuit.{small, memory_number, net_of}
-use Rattle.verilog_read.proofs.Lookups.{none_left, none_right, unless_true}
-use Rattle.verilog_read.proofs.Unplaced.{net_plain}
-use Rattle.verilog_read.proofs.Operands.{some_of, at_value, Value, of_input, of_register, of_wire, named_value, IsMemory, found_memory, names_here, memory_name, Wide, value_bits, value_means, Sized, Fits, fits_means, fits_bits, atom_is, known_value, source_own, source_fits}
+use Rattle.verilog_read.proofs.NoFaults.{none_left, none_right, unless_true}
+use Rattle.verilog_syntax.proofs.Unplaced.{net_plain}
+use Rattle.verilog_read.proofs.Operands.{some_of, at_value, Value, of_input, of_register, of_wire, named_value, found_memory, names_here, memory_name, Wide, Sized, Fits, fits_means, fits_bits, atom_is, known_value, source_own, source_fits}
 
 -- the constants of a net have 1 to 128 bits
 abbrev pub SizedNet : PlacedNet → Type 0

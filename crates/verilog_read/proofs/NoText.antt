@@ -1,5 +1,5 @@
 -- Bytes that have a fault are the text of no circuit, unless they are too many.
-use Rattle.std.proofs.Common.{◌≡◌, ℕ, ◌<◌, ◌≤◌, List, [], ◌∷◌, ◌++◌, length, map, append_assoc, refl, sym, ap, ◌∙◌, subst, arith, Some, None}
+use Rattle.std.proofs.Common.{◌≡◌, ℕ, ◌≤◌, List, [], ◌∷◌, ◌++◌, length, append_assoc, sym, ap, ◌∙◌, subst, arith}
 use Rattle.std.specs.Prelude.{Result, Ok, Err}
 use Rattle.std.proofs.lemmas.Option.{none-some}
 use Rattle.std.proofs.lemmas.List.{map-append}
@@ -12,14 +12,13 @@ use Rattle.rtl_core.specs.Netlist.{Netlist}
 use Rattle.rtl_core.specs.Valid.{IsName}
 use Rattle.rtl_core.specs.ModuleText.{IsModuleText}
 use Rattle.hls_base.specs.TextPlaces.{text_start}
-use Rattle.verilog_read.specs.Lexemes.{Lexeme, tokens_of}
-use Rattle.verilog_read.specs.Forms.{IsModule, BeginsModule}
-use Rattle.verilog_read.specs.PlacedSyntax.{PlacedModule}
+use Rattle.verilog_syntax.specs.Lexemes.{Lexeme, tokens_of}
+use Rattle.verilog_syntax.specs.Forms.{IsModule}
 use Rattle.verilog_read.specs.Earliest.{first_fault}
-use Rattle.verilog_read.specs.Faults.{module_faults}
-use Rattle.verilog_read.specs.TextFaults.{limit, Says, FrontFault, unknown, misplaced, early, IsFirstFault, too_long, at_front, in_module}
-use Rattle.verilog_read.proofs.OneReading.{read_first, read_all, nothing_spelled}
-use Rattle.verilog_read.proofs.Grammar.{proper, syntax_is_module}
+use Rattle.verilog_syntax.specs.TextSyntax.{limit, FrontFault, unknown, misplaced, early}
+use Rattle.verilog_read.specs.TextFaults.{IsFirstFault, too_long, at_front, in_module}
+use Rattle.verilog_syntax.proofs.OneReading.{read_first, read_all, nothing_spelled}
+use Rattle.verilog_syntax.proofs.Grammar.{proper, syntax_is_module}
 use Rattle.verilog_read.proofs.Refuted.{faultless}
 use Rattle.verilog_read.proofs.Relation.{said_means}
 

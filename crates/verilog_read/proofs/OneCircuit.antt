@@ -1,8 +1,8 @@
 -- A syntax means one circuit.
-use Rattle.std.proofs.Common.{◌≡◌, ◌≢◌, ◌⊎◌, inl, inr, ℕ, zero, suc, ◌+◌, ◌^◌, ◌<◌, ◌≤◌, List, [], ◌∷◌, ◌++◌, map, length, Some, None, refl, sym, ap, ◌∙◌, subst, arith}
-use Rattle.std.specs.Prelude.{slice_get, IsPermutation}
-use Rattle.std.specs.List.{All, Contains}
-use Rattle.std.proofs.lemmas.Option.{none-some, same_Some, slice_get_within}
+use Rattle.std.proofs.Common.{◌≡◌, inl, inr, ℕ, zero, suc, ◌^◌, ◌<◌, ◌≤◌, List, ◌∷◌, ◌++◌, map, length, Some, refl, sym, ap, ◌∙◌, subst, arith}
+use Rattle.std.specs.Prelude.{slice_get}
+use Rattle.std.specs.List.{Contains}
+use Rattle.std.proofs.lemmas.Option.{none-some, same_Some}
 use Rattle.std.proofs.Math.Pow.{pow_mono}
 use Rattle.std.proofs.lemmas.Bool.{cases_order}
 use Rattle.std.proofs.lemmas.List.Elements.{Contains-append_left, Contains-append_right}
@@ -21,8 +21,8 @@ use Rattle.rtl_core.specs.Interface.{outer}
 use Rattle.rtl_core.specs.Valid.{AreDistinct}
 use Rattle.rtl_core.specs.ModuleTokens.{number_value}
 use Rattle.rtl_core.specs.ModuleSyntax.{Operand, Named, Fixed, Expression, Alone, Inverted, Between, Chosen, Joined, Slice, WordOf, Declared, DeclaredMemory, DeclaredWire, Assign, Write, Always, Register, Writes, Syntax}
-use Rattle.rtl_core.specs.ModuleText.{Names, names_in, output_names, all_names, declared_name, declared_pin, OperandMeans, ExpressionMeans, WireMeans, MemoryMeans, InOrder, none, another, AssignMeans, WriteMeans, target, RegisterMeans, WritesMean, BlockMeans, Means}
-use Rattle.verilog_read.proofs.Lookups.{All-place, contains_place, place_contains, get_map, get_back, one_at, same_places, some_place}
+use Rattle.rtl_core.specs.ModuleText.{Names, names_in, output_names, all_names, declared_name, declared_pin, OperandMeans, ExpressionMeans, WireMeans, MemoryMeans, InOrder, none, another, AssignMeans, WriteMeans, target, BlockMeans, Means}
+use Rattle.verilog_syntax.proofs.Places.{All-place, contains_place, place_contains, get_map, get_back, one_at, same_places}
 use Rattle.verilog_read.proofs.Distinct.{Among, place_among, among_append, distinct_left, distinct_right, parts_apart, places_distinct}
 use Rattle.verilog_read.proofs.Meaning.{map_long}
 

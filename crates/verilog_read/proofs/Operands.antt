@@ -1,5 +1,5 @@
 -- What an operand means whose name is known, and its width.
-use Rattle.std.proofs.Common.{◌≡◌, ℕ, suc, ◌-◌, ◌^◌, ◌<◌, ◌≤◌, Bool, true, false, ◌&&◌, eqb, ltb, List, map, min, length, Option, Some, None, cond, [], refl, sym, ap, ◌∙◌, subst, arith}
+use Rattle.std.proofs.Common.{◌≡◌, ℕ, ◌-◌, ◌^◌, ◌<◌, ◌≤◌, Bool, true, false, ◌&&◌, eqb, ltb, List, map, min, length, Option, Some, None, cond, [], refl, sym, ap, ◌∙◌, subst, arith}
 use Rattle.std.specs.Prelude.{slice_get, is_some}
 use Rattle.std.specs.Option.{option_map, option_map_or, option_and_then}
 use Rattle.std.proofs.Math.Pow.{pow_mono}
@@ -9,19 +9,19 @@ use Rattle.rtl_core.specs.declared.design.Atom.{Atom}
 use Rattle.rtl_core.specs.declared.design.Atom.TheVariants as atom
 use Rattle.rtl_core.specs.ClockStep.{Widths}
 use Rattle.rtl_core.specs.Valid.{IsBetween, HasBits}
-use Rattle.rtl_core.specs.ModuleSyntax.{Operand, Named, Fixed}
+use Rattle.rtl_core.specs.ModuleSyntax.{Operand, Named, Fixed, DeclaredMemory, DeclaredWire}
 use Rattle.rtl_core.specs.ModuleText.{Names, names_in, declared_name, OperandMeans}
-use Rattle.rtl_core.specs.ModuleSyntax.{DeclaredMemory, DeclaredWire}
 use Rattle.verilog_read.specs.declared.names.Sort.{Sort}
 use Rattle.verilog_read.specs.declared.names.Sort.TheVariants as sort
 use Rattle.verilog_read.specs.declared.names.Entry.{Entry}
 use Rattle.verilog_read.specs.declared.names.Meaning.{Meaning}
 use Rattle.verilog_read.specs.Numbers.{declared_bits, depth_of}
-use Rattle.verilog_read.specs.PlacedSyntax.{PlacedOperand, PlacedDeclared, PlacedMemory, PlacedWire, PlacedModule}
-use Rattle.verilog_read.specs.Scope.{Scope, scope_of, same_sort, of_sort, find_sort, atom_of, entry_meaning, named, meaning, atom_in}
-use Rattle.verilog_read.specs.Faults.{unless, is_in_range, may_have, known_faults, atom_before, is_before, source_faults, bits_faults}
-use Rattle.verilog_read.proofs.Lookups.{get_map, none_left, none_right, unless_true}
-use Rattle.verilog_read.proofs.Unplaced.{declared_plain, memory_plain, wire_plain, syntax_of}
+use Rattle.verilog_syntax.specs.PlacedSyntax.{PlacedOperand, PlacedDeclared, PlacedMemory, PlacedWire, PlacedModule}
+use Rattle.verilog_read.specs.Scope.{scope_of, same_sort, of_sort, find_sort, atom_of, entry_meaning, named, meaning, atom_in}
+use Rattle.verilog_read.specs.Faults.{is_in_range, may_have, known_faults, atom_before, is_before, source_faults, bits_faults}
+use Rattle.verilog_syntax.proofs.Places.{get_map}
+use Rattle.verilog_read.proofs.NoFaults.{none_left, none_right, unless_true}
+use Rattle.verilog_syntax.proofs.Unplaced.{declared_plain, memory_plain, wire_plain, syntax_of}
 use Rattle.verilog_read.proofs.Declared.{Stands, an_input, an_output, a_register, a_memory, a_wire, entry_stands}
 
 -- ---- options

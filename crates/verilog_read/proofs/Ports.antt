@@ -4,9 +4,9 @@ use Rattle.std.proofs.lemmas.Option.{none-some, same_Some}
 use Rattle.std.proofs.lemmas.List.{drop-map, drop_all}
 use Rattle.rtl_core.specs.declared.design.Port.{Port}
 use Rattle.rtl_core.proofs.Checks.{map_drop}
-use Rattle.verilog_read.specs.declared.module.Drive.{Drive as CodeDrive}
-use Rattle.verilog_read.specs.ModuleViews.{drive_view}
-use Rattle.verilog_read.specs.PlacedSyntax.{Drive, register, first, further}
+use Rattle.verilog_syntax.specs.declared.module.Drive.{Drive as CodeDrive}
+use Rattle.verilog_syntax.specs.ModuleViews.{drive_view}
+use Rattle.verilog_syntax.specs.PlacedSyntax.{Drive, register, first, further}
 use Rattle.verilog_read.specs.Scope.{Scope}
 use Rattle.verilog_read.specs.Circuit.{first_port, port_of, block_ports, further_ports}
 

@@ -1,11 +1,11 @@
 -- A module that means a valid circuit has no fault.
-use Rattle.std.proofs.Common.{◌≡◌, ◌≢◌, ◌⊎◌, inl, inr, ℕ, zero, suc, ◌+◌, ◌^◌, ◌<◌, ◌≤◌, Bool, true, false, not, ◌&&◌, ◌||◌, eqb, List, [], ◌∷◌, ◌++◌, length, map, take, drop, Option, Some, None, append_assoc, refl, sym, ap, ◌∙◌, subst, arith}
-use Rattle.std.specs.Prelude.{slice_get, is_some, bytes_eq, IsPermutation}
-use Rattle.std.specs.List.{All, Contains, list_any}
+use Rattle.std.proofs.Common.{◌≡◌, ◌≢◌, ◌⊎◌, inl, inr, ℕ, zero, suc, ◌+◌, ◌<◌, Bool, true, false, ◌&&◌, ◌||◌, eqb, List, [], ◌∷◌, ◌++◌, length, map, take, drop, Option, Some, None, append_assoc, refl, sym, ap, ◌∙◌, subst, arith}
+use Rattle.std.specs.Prelude.{slice_get, is_some, bytes_eq}
+use Rattle.std.specs.List.{Contains}
 use Rattle.std.specs.Option.{option_map_or, option_and_then}
 use Rattle.std.proofs.lemmas.Bool.{false≢true, and_parts, and_from, eq-eqb}
 use Rattle.std.proofs.lemmas.Option.{none-some, same_Some, slice_get_within}
-use Rattle.std.proofs.lemmas.List.Elements.{All-nil, All-append, All-head, All-tail, Contains-append_left, Contains-append_right}
+use Rattle.std.proofs.lemmas.List.Elements.{All-append, Contains-append_left, Contains-append_right}
 use Rattle.std.proofs.lemmas.List.Sorted.{Contains-permutation, IsPermutation-sym}
 use Rattle.rtl_core.specs.declared.design.Atom.{Atom}
 use Rattle.rtl_core.specs.declared.design.Atom.TheVariants as atom
@@ -17,24 +17,25 @@ use Rattle.rtl_core.specs.declared.design.Wire.{Wire}
 use Rattle.rtl_core.specs.Netlist.{Netlist, Memory}
 use Rattle.rtl_core.specs.Interface.{outer}
 use Rattle.rtl_core.specs.ClockStep.{Widths, widths, widths_after}
-use Rattle.rtl_core.specs.Valid.{IsBetween, AreDistinct, HasBits, NetFits, RegisterFits, PortFits, MemoryFits, OutputFits, IsValid}
+use Rattle.rtl_core.specs.Valid.{IsBetween, AreDistinct, HasBits, RegisterFits, PortFits, MemoryFits, OutputFits, IsValid}
 use Rattle.rtl_core.specs.ModuleTokens.{number_value}
-use Rattle.rtl_core.specs.ModuleSyntax.{Operand, Declared, DeclaredMemory, DeclaredWire, Assign, Write, Always, Register, Writes}
-use Rattle.rtl_core.specs.ModuleText.{Names, names_in, output_names, all_names, declared_name, declared_pin, OperandMeans, WireMeans, MemoryMeans, InOrder, none, another, AssignMeans, WriteMeans, target, RegisterMeans, WritesMean, BlockMeans, Means}
+use Rattle.rtl_core.specs.ModuleSyntax.{Operand, Declared, DeclaredMemory, Assign, Write, Register, Writes}
+use Rattle.rtl_core.specs.ModuleText.{Names, output_names, declared_name, declared_pin, OperandMeans, WireMeans, MemoryMeans, InOrder, another, AssignMeans, WriteMeans, target, RegisterMeans, BlockMeans, Means}
 use Rattle.verilog_read.specs.declared.names.Sort.TheVariants as sort
 use Rattle.verilog_read.specs.declared.names.Entry.{Entry}
 use Rattle.verilog_read.specs.declared.names.Meaning.{Meaning}
 use Rattle.verilog_read.specs.Numbers.{declared_bits, depth_of}
-use Rattle.verilog_read.specs.PlacedSyntax.{PlacedName, PlacedOperand, PlacedDeclared, PlacedMemory, PlacedWire, PlacedAssign, PlacedWrite, Drive, register, first, further, PlacedModule}
-use Rattle.verilog_read.specs.Scope.{Declaration, declared_from, memories_from, wires_from, pins, declarations, scope_of, of_sort, find_sort, meaning}
-use Rattle.verilog_read.specs.Marks.{opens, goes_on, in_blocks}
-use Rattle.verilog_read.specs.Faults.{Addresses, unless, allowed, no_scope, declared_faults, header_faults, turn_faults, lacking_faults, is_free, filled_by, slot, free_slots, no_slots, may_have, same_atom, known_faults, bits_faults, depth_faults, net_faults, net_fits, wire_faults_one, wire_faults, target_faults, output_of, assign_faults, after_assigns, output_slots, memory_of, port_faults, write_faults, begin_faults, register_of, Driven, drive_faults_one, after_drive, drive_faults, after_drives, never_faults, declared_names, memory_names, undriven, driven, is_port_of, is_port_drive, port_addresses, assignment_faults, content_faults, module_faults}
-use Rattle.verilog_read.proofs.Lookups.{All-place, contains_place, place_contains, get_map, get_back, get_drop, drop_get, one_at, some_place, none_both, unless_none}
-use Rattle.verilog_read.proofs.Unplaced.{declared_plain, memory_plain, wire_plain, assign_plain, write_plain, others_plain, blocks_plain, syntax_of}
+use Rattle.verilog_syntax.specs.PlacedSyntax.{PlacedName, PlacedOperand, PlacedDeclared, PlacedMemory, PlacedWire, PlacedAssign, PlacedWrite, Drive, register, first, further, PlacedModule}
+use Rattle.verilog_read.specs.Scope.{declared_from, memories_from, pins, declarations, scope_of, of_sort, find_sort, meaning}
+use Rattle.verilog_syntax.specs.Marks.{in_blocks}
+use Rattle.verilog_read.specs.Faults.{unless, no_scope, declared_faults, header_faults, turn_faults, is_free, filled_by, slot, no_slots, may_have, same_atom, known_faults, bits_faults, depth_faults, net_faults, net_fits, wire_faults_one, wire_faults, target_faults, output_of, assign_faults, output_slots, memory_of, port_faults, write_faults, begin_faults, register_of, Driven, drive_faults_one, after_drive, drive_faults, never_faults, declared_names, memory_names, undriven, driven, is_port_of, is_port_drive, port_addresses, module_faults}
+use Rattle.verilog_syntax.proofs.Places.{All-place, contains_place, place_contains, get_map, get_back, get_drop, one_at, some_place}
+use Rattle.verilog_read.proofs.NoFaults.{none_both, unless_none}
+use Rattle.verilog_syntax.proofs.Unplaced.{declared_plain, memory_plain, wire_plain, assign_plain, write_plain, others_plain, blocks_plain, syntax_of}
 use Rattle.verilog_read.proofs.Declared.{names_of, bytes_same, IsAllowed, output_entry, register_entry, memory_entry}
-use Rattle.verilog_read.proofs.Distinct.{Among, place_among, all_among, among_append, distinct_left, distinct_right, places_distinct}
-use Rattle.verilog_read.proofs.Operands.{IsDeclared, found_register, IsMemory, found_memory, names_here, register_name, memory_name}
-use Rattle.verilog_read.proofs.Slots.{fills, AreFree, IsFree, free_slot, free_long, in_slot, assigns_fill, regs_fill, ports_fill, register_target, block_target, port_target}
+use Rattle.verilog_read.proofs.Distinct.{Among, place_among, all_among, distinct_left, distinct_right, places_distinct}
+use Rattle.verilog_read.proofs.Operands.{found_register, found_memory, names_here, register_name, memory_name}
+use Rattle.verilog_read.proofs.Slots.{AreFree, IsFree, free_slot, free_long, in_slot, assigns_fill, regs_fill, ports_fill, register_target, block_target, port_target}
 use Rattle.verilog_read.proofs.Clean.{pin_names_are, all_names_are}
 use Rattle.verilog_read.proofs.Meaning.{map_long, Targets, target_in, in_target}
 use Rattle.verilog_read.proofs.OneCircuit.{Apart, apart, in_order_at}

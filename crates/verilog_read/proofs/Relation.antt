@@ -1,29 +1,24 @@
 -- The text of a module without a fault is the text of its circuit, and of no other.
-use Rattle.std.proofs.Common.{◌≡◌, ℕ, ◌≤◌, List, [], length, map, refl, sym, ap, ◌∙◌, subst, None}
+use Rattle.std.proofs.Common.{◌≡◌, ℕ, ◌≤◌, List, [], length, refl, sym, ◌∙◌, subst, None}
 use Rattle.rtl_core.specs.Netlist.{Netlist}
-use Rattle.rtl_core.specs.ModuleSyntax.{Syntax, syntax_tokens}
 use Rattle.rtl_core.specs.ModuleText.{Means, IsModuleText}
 use Rattle.hls_base.specs.TextPlaces.{text_start}
-use Rattle.verilog_read.specs.Lexemes.{tokens_of}
-use Rattle.verilog_read.specs.PlacedSyntax.{PlacedModule}
-use Rattle.verilog_read.specs.Marks.{module_marks}
+use Rattle.verilog_syntax.specs.Lexemes.{tokens_of}
+use Rattle.verilog_syntax.specs.PlacedSyntax.{PlacedModule}
 use Rattle.verilog_read.specs.Earliest.{first_fault}
 use Rattle.verilog_read.specs.Faults.{module_faults}
 use Rattle.verilog_read.specs.Circuit.{circuit_of}
-use Rattle.verilog_read.specs.TextFaults.{limit, Says}
-use Rattle.verilog_read.proofs.Lookups.{no_faults}
-use Rattle.verilog_read.proofs.Unplaced.{syntax_of, stand_tokens, module_tokens}
+use Rattle.verilog_syntax.specs.TextSyntax.{limit, Says}
+use Rattle.verilog_read.proofs.NoFaults.{no_faults}
+use Rattle.verilog_syntax.proofs.Unplaced.{syntax_of}
 use Rattle.verilog_read.proofs.SizedConstants.{IsSizedModule, sized_module}
-use Rattle.verilog_read.proofs.Clean.{Clean, clean}
+use Rattle.verilog_read.proofs.Clean.{clean}
 use Rattle.verilog_read.proofs.Meaning.{means}
 use Rattle.verilog_read.proofs.Validity.{valid}
-use Rattle.verilog_read.proofs.OneReading.{spells, read_all}
-use Rattle.verilog_read.proofs.OneSyntax.{same_syntax}
+use Rattle.verilog_syntax.proofs.OneReading.{spells, read_all}
+use Rattle.verilog_syntax.proofs.OneSyntax.{same_syntax}
 use Rattle.verilog_read.proofs.OneCircuit.{one_circuit}
-
--- the tokens of what is said
-pub said_tokens : (bytes : List ℕ) (m : PlacedModule) (said : Says bytes m) → tokens_of said.lexemes ≡ syntax_tokens (syntax_of m)
-said_tokens bytes m said = stand_tokens said.lexemes (module_marks m) said.stand ∙ module_tokens m said.blocks
+use Rattle.verilog_syntax.proofs.OneFront.{said_tokens}
 
 pub said_sized : (bytes : List ℕ) (m : PlacedModule) → length bytes ≤ limit → Says bytes m → IsSizedModule m
 said_sized bytes m few said = sized_module bytes text_start said.end said.lexemes m few said.reads said.stand

@@ -1,10 +1,10 @@
 -- By which assignment each is assigned first.
-use Rattle.std.proofs.Common.{◌≡◌, ◌⊎◌, inl, inr, ℕ, zero, suc, ◌+◌, ◌<◌, Bool, true, false, not, cond, List, [], ◌∷◌, length, map, get_or, set, Option, Some, None, refl, sym, ap, ◌∙◌, subst, arith, length-set, get_or-set_same, get_or-set_other}
+use Rattle.std.proofs.Common.{◌≡◌, ◌⊎◌, inl, inr, ℕ, zero, suc, ◌+◌, ◌<◌, true, false, cond, List, [], ◌∷◌, length, map, get_or, set, Option, Some, None, refl, sym, ap, ◌∙◌, subst, arith, length-set, get_or-set_same, get_or-set_other}
 use Rattle.std.specs.Prelude.{slice_get, is_some, slice_set}
-use Rattle.std.proofs.lemmas.Bool.{cases_Bool, cases_eq, false≢true, not-true, both_ways}
+use Rattle.std.proofs.lemmas.Bool.{cases_Bool, cases_eq, false≢true, not-true}
 use Rattle.std.proofs.lemmas.Option.{none-some, same_Some}
 use Rattle.verilog_read.specs.declared.names.Entry.{Entry}
-use Rattle.verilog_read.specs.PlacedSyntax.{PlacedAssign, PlacedWrite, Drive, register, first, further}
+use Rattle.verilog_syntax.specs.PlacedSyntax.{PlacedAssign, Drive, register, first, further}
 use Rattle.verilog_read.specs.Scope.{Scope}
 use Rattle.verilog_read.specs.Faults.{Slots, slot, is_free, filled, filled_by, free_slots, output_of, after_assigns, Driven, memory_of, register_of, after_drive, after_drives}
 

@@ -1,10 +1,10 @@
 -- The circuit of a module without a fault is valid.
-use Rattle.std.proofs.Common.{◌≡◌, ℕ, zero, suc, ◌+◌, ◌<◌, ◌≤◌, false, true, List, [], ◌∷◌, ◌++◌, length, map, take, drop, Option, Some, None, append_assoc, append-nil, refl, sym, ap, ◌∙◌, subst, arith}
+use Rattle.std.proofs.Common.{◌≡◌, ℕ, suc, ◌+◌, ◌<◌, false, true, List, [], ◌∷◌, ◌++◌, length, map, take, drop, Some, None, append_assoc, append-nil, refl, sym, ap, ◌∙◌, subst, arith}
 use Rattle.std.specs.Prelude.{slice_get}
 use Rattle.std.specs.List.{All}
 use Rattle.std.proofs.lemmas.Option.{none-some, same_Some, slice_get_within}
 use Rattle.std.proofs.lemmas.List.{map-append}
-use Rattle.std.proofs.lemmas.List.Elements.{All-nil, All-cons, All-map, All-append}
+use Rattle.std.proofs.lemmas.List.Elements.{All-cons, All-map, All-append}
 use Rattle.rtl_core.specs.declared.design.Pin.{Pin}
 use Rattle.rtl_core.specs.declared.design.OutPin.{OutPin}
 use Rattle.rtl_core.specs.declared.design.Reg.{Reg}
@@ -16,15 +16,15 @@ use Rattle.rtl_core.specs.Valid.{IsName, AreDistinct, pin_names, IsBetween, HasB
 use Rattle.rtl_core.specs.ModuleText.{declared_name}
 use Rattle.verilog_read.specs.declared.names.Sort.TheVariants as sort
 use Rattle.verilog_read.specs.declared.names.Entry.{Entry}
-use Rattle.verilog_read.specs.Numbers.{declared_bits, depth_of}
-use Rattle.verilog_read.specs.PlacedSyntax.{PlacedDeclared, PlacedMemory, PlacedWire, PlacedAssign, PlacedWrite, Drive, register, first, further, PlacedModule}
-use Rattle.verilog_read.specs.Scope.{Scope, Declaration, atom_in, pins, declared_from, memories_from, wires_from, declarations, scope_of}
-use Rattle.verilog_read.specs.Marks.{in_blocks}
-use Rattle.verilog_read.specs.Parsing.{IsNamed}
-use Rattle.verilog_read.specs.Faults.{Slots, no_slots, output_of, output_slots, driven, register_of}
-use Rattle.verilog_read.specs.Circuit.{net_of, wire_of, input_of, outputs_from, port_of, further_ports, circuit_of}
-use Rattle.verilog_read.proofs.Lookups.{by_places, get_map, get_back, one_at, some_place}
-use Rattle.verilog_read.proofs.Unplaced.{declared_plain, syntax_of}
+use Rattle.verilog_read.specs.Numbers.{declared_bits}
+use Rattle.verilog_syntax.specs.PlacedSyntax.{PlacedDeclared, PlacedAssign, Drive, register, first, further, PlacedModule}
+use Rattle.verilog_read.specs.Scope.{Scope, Declaration, atom_in, pins, declared_from, memories_from, wires_from, scope_of}
+use Rattle.verilog_syntax.specs.Marks.{in_blocks}
+use Rattle.verilog_syntax.specs.Parsing.{IsNamed}
+use Rattle.verilog_read.specs.Faults.{Slots, output_slots, driven}
+use Rattle.verilog_read.specs.Circuit.{wire_of, input_of, outputs_from, port_of, further_ports, circuit_of}
+use Rattle.verilog_syntax.proofs.Places.{by_places, get_map, get_back, one_at, some_place}
+use Rattle.verilog_syntax.proofs.Unplaced.{declared_plain}
 use Rattle.verilog_read.proofs.Declared.{names_of, declared_apart, input_allowed, output_allowed, register_allowed, wire_allowed}
 use Rattle.verilog_read.proofs.Distinct.{distinct_left}
 use Rattle.verilog_read.proofs.Operands.{Wide, fits_bits}
@@ -32,7 +32,7 @@ use Rattle.verilog_read.proofs.SizedConstants.{IsSizedModule}
 use Rattle.verilog_read.proofs.Slots.{register_target}
 use Rattle.verilog_read.proofs.Clean.{Clean, pin_between, input_between, output_between, register_between, pin_names_are}
 use Rattle.verilog_read.proofs.Circuits.{outputs_long, regs_long, mems_long, wide_here}
-use Rattle.verilog_read.proofs.Blocks.{BlockRight, RegisterRight, register_right, block_right, has_block, has_edge, port_fits, furthers_fit}
+use Rattle.verilog_read.proofs.Blocks.{register_right, block_right, has_block, has_edge, port_fits, furthers_fit}
 use Rattle.verilog_read.proofs.Meaning.{map_twice, memory_here, wire_right, output_shown}
 
 -- wires that fit one after another

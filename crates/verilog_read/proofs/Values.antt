@@ -1,18 +1,12 @@
--- The numbers that digits write.
-use Rattle.std.proofs.Common.{◌≡◌, inl, inr, ℕ, zero, suc, ◌+◌, ◌-◌, ◌*◌, ◌%◌, ◌^◌, ◌<◌, ◌≤◌, eqb, ltb, cond, false, Some, List, [], ◌∷◌, ◌++◌, length, take, drop, get_or, refl, sym, ap, ◌∙◌, arith}
+-- Constants and depths by their digits.
+use Rattle.std.proofs.Common.{◌≡◌, inl, inr, ℕ, zero, suc, ◌+◌, ◌-◌, ◌*◌, ◌%◌, ◌^◌, ◌<◌, ◌≤◌, eqb, ltb, cond, false, Some, List, [], ◌∷◌, length, take, drop, get_or, refl, sym, ap, ◌∙◌, arith}
 use Rattle.std.specs.Prelude.{min}
 use Rattle.std.proofs.lemmas.Bool.{cases_Bool, cases_lt, le-ltb, eqb-true, eq-eqb}
 use Rattle.std.proofs.Math.Pow.{pow_mono}
 use Rattle.verilog_read.specs.Numbers.{log_from}
-use Rattle.std.proofs.lemmas.List.{take-append-drop, take_more}
+use Rattle.std.proofs.lemmas.List.{take-append-drop}
 use Rattle.rtl_core.specs.ModuleTokens.{value_behind, digit_value}
-
-pub value_append : (base n : ℕ) (xs ys : List ℕ) → value_behind base n (xs ++ ys) ≡ value_behind base (value_behind base n xs) ys
-value_append base n [] ys = refl
-value_append base n (x ∷ xs) ys = value_append base (n * base + digit_value x) xs ys
-
-pub value_more : (base : ℕ) (xs : List ℕ) (i : ℕ) → i < length xs → value_behind base 0 (take (i + 1) xs) ≡ value_behind base 0 (take i xs) * base + digit_value (get_or xs i 0)
-value_more base xs i h = ap (value_behind base 0) (take_more xs i 0 h) ∙ value_append base 0 (take i xs) (get_or xs i 0 ∷ [])
+use Rattle.verilog_syntax.proofs.Values.{value_append, value_more}
 
 value_grows : (n : ℕ) (xs : List ℕ) → n ≤ value_behind 16 n xs
 value_grows n [] = omega arith

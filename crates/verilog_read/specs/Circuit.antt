@@ -15,7 +15,7 @@ use Rattle.rtl_core.specs.ModuleTokens.{number_value}
 use Rattle.rtl_core.specs.ModuleSyntax.{Named}
 use Rattle.verilog_read.specs.declared.names.Entry.{Entry}
 use Rattle.verilog_read.specs.Numbers.{declared_bits, depth_of}
-use Rattle.verilog_read.specs.PlacedSyntax.{PlacedName, PlacedNet, alone, inverted, between, chosen, joined, slice, word_of, PlacedDeclared, PlacedMemory, PlacedWire, PlacedAssign, PlacedWrite, Drive, register, first, further, PlacedModule}
+use Rattle.verilog_syntax.specs.PlacedSyntax.{PlacedName, PlacedNet, alone, inverted, between, chosen, joined, slice, word_of, PlacedDeclared, PlacedMemory, PlacedWire, PlacedAssign, PlacedWrite, Drive, register, first, further, PlacedModule}
 use Rattle.verilog_read.specs.Scope.{Scope, scope_of, atom_in}
 use Rattle.verilog_read.specs.Faults.{Slots, slot, memory_of, output_slots, driven}
 

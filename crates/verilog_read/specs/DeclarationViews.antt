@@ -1,7 +1,7 @@
 -- Declarations without where they lie in memory.
 use Rattle.std.specs.Prelude.{List, map}
 use Rattle.verilog_read.specs.declared.declarations.Declaration.{Declaration as CodeDeclaration}
-use Rattle.verilog_read.specs.ModuleViews.{name_view}
+use Rattle.verilog_syntax.specs.ModuleViews.{name_view}
 use Rattle.verilog_read.specs.Scope.{Declaration}
 
 abbrev pub declaration_view : CodeDeclaration → Declaration

@@ -9,7 +9,7 @@ use Rattle.verilog_read.specs.declared.names.Sort.TheVariants as sort
 use Rattle.verilog_read.specs.declared.names.Entry.{Entry}
 use Rattle.verilog_read.specs.declared.names.Meaning.{Meaning}
 use Rattle.verilog_read.specs.Numbers.{declared_bits, depth_of}
-use Rattle.verilog_read.specs.PlacedSyntax.{PlacedName, PlacedDeclared, PlacedMemory, PlacedWire, PlacedModule}
+use Rattle.verilog_syntax.specs.PlacedSyntax.{PlacedName, PlacedDeclared, PlacedMemory, PlacedWire, PlacedModule}
 
 -- what each name stands for, if anything
 abbrev pub Scope : Type 0

@@ -1,56 +1,14 @@
--- What a text says, and its first fault.
-use Rattle.std.specs.Prelude.{◌≡◌, ℕ, ◌<◌, ◌≤◌, List, [], ◌∷◌, ◌++◌, length, nat_lt, slice_index_or, true, false, Some, if◌then◌else◌}
-use Rattle.std.specs.List.{All}
-use Rattle.hls_base.specs.declared.place.Place.{Place}
+-- The first fault of a text.
+use Rattle.std.specs.Prelude.{◌≡◌, ℕ, ◌<◌, ◌≤◌, List, length, Some}
 use Rattle.hls_base.specs.declared.refusal.Refusal.{Refusal}
-use Rattle.hls_base.specs.declared.refusal.Fail.{Fail}
-use Rattle.hls_base.specs.declared.refusal.Fail.TheVariants as fail
-use Rattle.verilog_read.specs.declared.token.Token.{Token}
-use Rattle.verilog_read.specs.declared.parser.Stop.{Stop}
-use Rattle.verilog_read.specs.declared.parser.Stop.TheVariants as stop
-use Rattle.verilog_read.specs.ModuleViews.{blank}
 use Rattle.hls_base.specs.TextPlaces.{text_start}
-use Rattle.verilog_read.specs.Lexemes.{Lexeme, tokens_of, Reads, NothingBegins}
-use Rattle.verilog_read.specs.Forms.{IsModule, BeginsModule}
-use Rattle.verilog_read.specs.PlacedSyntax.{PlacedWire, PlacedModule}
-use Rattle.verilog_read.specs.Marks.{NetStands, Stand, in_blocks, module_marks}
-use Rattle.verilog_read.specs.Parsing.{IsNamed}
+use Rattle.verilog_syntax.specs.PlacedSyntax.{PlacedModule}
 use Rattle.verilog_read.specs.Earliest.{first_fault}
 use Rattle.verilog_read.specs.Faults.{module_faults}
-
-abbrev pub limit : ℕ
-limit = 67108864
-
--- the bytes are the text of what the module says, at its places
-pub record Says (bytes : List ℕ) (m : PlacedModule) : Type 0 where
-  pub lexemes : List Lexeme
-  pub end : Place
-  pub reads : Reads bytes text_start lexemes [] end
-  pub stand : Stand lexemes (module_marks m)
-  pub grammar : IsModule (tokens_of lexemes)
-  pub blocks : in_blocks false m.drives ≡ true
-  pub nets : All (λ (x : PlacedWire). NetStands x.place x.net) m.wires
-  pub named : IsNamed m
-
--- A byte at which no token begins, where the tokens before it are those with which a module's text begins; the first token that no module's text has there; or the end of a text that is none, though one begins with its tokens.
-pub data FrontFault (bytes : List ℕ) : Refusal → Type 0 where
-  unknown : (lexemes : List Lexeme) (rest : List ℕ) (place : Place) → Reads bytes text_start lexemes rest place → NothingBegins rest → BeginsModule (tokens_of lexemes)
-      → FrontFault bytes (record { rule = 50; place = place })
-  misplaced : (before : List Lexeme) (wrong : Lexeme) (after : List Lexeme) (rest : List ℕ) (end : Place) → Reads bytes text_start (before ++ wrong ∷ after) rest end → BeginsModule (tokens_of before)
-      → ¬ BeginsModule (tokens_of (before ++ wrong ∷ [])) → FrontFault bytes (record { rule = 51; place = wrong.place })
-  early : (lexemes : List Lexeme) (end : Place) → Reads bytes text_start lexemes [] end → BeginsModule (tokens_of lexemes) → ¬ IsModule (tokens_of lexemes)
-      → FrontFault bytes (record { rule = 51; place = end })
+use Rattle.verilog_syntax.specs.TextSyntax.{limit, Says, FrontFault}
 
 -- the first fault of a text: its length, then its tokens, and only then what it says
 pub data IsFirstFault (bytes : List ℕ) : Refusal → Type 0 where
   too_long : limit < length bytes → IsFirstFault bytes (record { rule = 56; place = text_start })
   at_front : (fault : Refusal) → length bytes ≤ limit → FrontFault bytes fault → IsFirstFault bytes fault
   in_module : (m : PlacedModule) (fault : Refusal) → length bytes ≤ limit → Says bytes m → first_fault (module_faults m) ≡ Some fault → IsFirstFault bytes fault
-
--- where the tokens are refused that go on with no token behind so many
-abbrev pub refusal_behind : List Token → Refusal → ℕ → Refusal
-refusal_behind tokens end n = if nat_lt n (length tokens) then record { rule = 51; place = (slice_index_or tokens n blank).place } else end
-
-abbrev pub failure_of : List Token → Refusal → Stop → Fail
-failure_of tokens end (stop.Behind n) = fail.Refused (refusal_behind tokens end n)
-failure_of tokens end stop.Memory = fail.Memory

@@ -1,5 +1,5 @@
 ghost use Rattle.std.specs.Prelude.{◌≡◌, ◌++◌, [], is_some, map, IfOk};
-ghost use Rattle.verilog_read.specs.ModuleViews.{operand_view, value_view, net_view, name_view, wire_view, assign_view, write_view, drive_view, declared_view, memory_view, module_view};
+ghost use Rattle.verilog_syntax.specs.ModuleViews.{operand_view, value_view, net_view, name_view, wire_view, assign_view, write_view, drive_view, declared_view, memory_view, module_view};
 ghost use Rattle.rtl_core.specs.ModuleSyntax.{Named};
 ghost use Rattle.verilog_read.specs.NameTable.{scope_in};
 ghost use Rattle.verilog_read.specs.AddressSets.{addresses_in};
@@ -8,15 +8,15 @@ ghost use Rattle.verilog_read.specs.Faults.{known_faults, bits_faults, atom_befo
 
 use crate::drives::check_drives;
 use crate::fault::FirstFault;
-use crate::module::{
-    Assign, Declared, DeclaredMemory, DeclaredWire, Drive, Expression, Module, Name, Operand,
-    Value, Write,
-};
 use crate::names::{Entry, Names, Sort};
 use crate::number::bits_of;
 use crate::widths::{Addresses, may_have, net_fits};
 use rtl_core::design::Atom;
 use std::alloc::{AllocError, Global};
+use verilog_syntax::module::{
+    Assign, Declared, DeclaredMemory, DeclaredWire, Drive, Expression, Module, Name, Operand,
+    Value, Write,
+};
 
 pub fn check_operand(names: &Names, operand: Operand, first: &mut FirstFault)
     ensures { first.new.found ≡ noted first.old.found (known_faults (scope_in names.now) (operand_view operand.entry)) }

@@ -1,7 +1,7 @@
 ghost use Rattle.std.specs.Prelude.{◌≡◌, List, map, min, drop, IfOk};
 ghost use Rattle.rtl_core.specs.Netlist.{netlist_of, memory_of as netlist_memory};
 ghost use Rattle.rtl_core.specs.declared.design.Port.{Port};
-ghost use Rattle.verilog_read.specs.ModuleViews.{net_view, name_view, value_view, declared_view, memory_view, wire_view, assign_view, write_view, drive_view, module_view};
+ghost use Rattle.verilog_syntax.specs.ModuleViews.{net_view, name_view, value_view, declared_view, memory_view, wire_view, assign_view, write_view, drive_view, module_view};
 ghost use Rattle.verilog_read.specs.NameTable.{scope_in};
 ghost use Rattle.verilog_read.specs.Numbers.{declared_bits};
 ghost use Rattle.verilog_read.specs.Scope.{atom_in};
@@ -9,15 +9,16 @@ ghost use Rattle.verilog_read.specs.Faults.{slot};
 ghost use Rattle.verilog_read.specs.Circuit.{nothing, small, memory_number, net_of, wire_of, input_of, source, outputs_from, register_from, register_by, regs_from, port_of, further_ports, block_ports, first_port, further_port, ports_by, mems_from, circuit_with};
 
 use crate::checks::Assigned;
-use crate::module::{
-    Assign, Declared, DeclaredMemory, DeclaredWire, Drive, Expression, Module, Name, Operand,
-    Value, Write,
-};
 use crate::names::{Names, Sort};
-use crate::number::{bits_of, depth_of, number_value};
+use crate::number::{bits_of, depth_of};
 use hls_base::text::Text;
 use rtl_core::design::{Atom, Design, Mem, Net, OutPin, Pin, Port, Reg, Wire};
 use std::alloc::{AllocError, Global};
+use verilog_syntax::module::{
+    Assign, Declared, DeclaredMemory, DeclaredWire, Drive, Expression, Module, Name, Operand,
+    Value, Write,
+};
+use verilog_syntax::number::number_value;
 
 /// What stands where nothing is assigned.
 const NOTHING: Atom = Atom::Constant { bits: 1, value: 0 };

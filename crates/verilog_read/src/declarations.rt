@@ -1,5 +1,5 @@
 ghost use Rattle.std.specs.Prelude.{◌≡◌, List, ℕ, ◌++◌, map, drop, IfOk, OnOk};
-ghost use Rattle.verilog_read.specs.ModuleViews.{declared_view, memory_view, wire_view, name_view, module_view};
+ghost use Rattle.verilog_syntax.specs.ModuleViews.{declared_view, memory_view, wire_view, name_view, module_view};
 ghost use Rattle.verilog_read.specs.NameTable.{scope_in};
 ghost use Rattle.verilog_read.specs.Scope.{declared_from, memories_from, wires_from, declarations, first_of};
 ghost use Rattle.verilog_read.specs.Earliest.{noted};
@@ -7,10 +7,10 @@ ghost use Rattle.verilog_read.specs.Faults.{allowed, declared_faults, no_scope, 
 ghost use Rattle.verilog_read.specs.DeclarationViews.{declaration_view, declaration_views};
 
 use crate::fault::FirstFault;
-use crate::module::{Declared, DeclaredMemory, DeclaredWire, Module, Name};
 use crate::names::{Entry, Names, Sort};
 use crate::number::{bits_of, depth_of};
 use std::alloc::{AllocError, Global};
+use verilog_syntax::module::{Declared, DeclaredMemory, DeclaredWire, Module, Name};
 
 #[derive(Clone, Copy)]
 pub struct Declaration<'a> {

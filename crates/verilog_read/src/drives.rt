@@ -1,15 +1,15 @@
 //! What happens at an edge: registers are set, and ports write.
 ghost use Rattle.std.specs.Prelude.{◌≡◌, ℕ, List, [], Option, ◌++◌, map, bytes_eq};
-ghost use Rattle.verilog_read.specs.ModuleViews.{operand_view, name_view, write_view, drive_view};
+ghost use Rattle.verilog_syntax.specs.ModuleViews.{operand_view, name_view, write_view, drive_view};
 ghost use Rattle.verilog_read.specs.NameTable.{scope_in};
 ghost use Rattle.verilog_read.specs.Earliest.{noted};
 ghost use Rattle.verilog_read.specs.Faults.{bits_faults, known_faults, target_faults, filled_by, depth_faults, memory_of, port_faults, write_faults, begin_faults, register_of, unless, drive_faults, after_drives, drive_faults_one, after_drive};
 
 use crate::checks::{check_bits, check_operand, check_target, fill_by, is_free};
 use crate::fault::FirstFault;
-use crate::module::{Drive, Name, Operand, Write};
 use crate::names::{Entry, Names, Sort};
 use crate::widths::may_have;
+use verilog_syntax::module::{Drive, Name, Operand, Write};
 
 fn check_depth(names: &Names, address: Operand, depth: Option<u8>, first: &mut FirstFault)
     ensures { first.new.found ≡ noted first.old.found (depth_faults (scope_in names.now) (operand_view address.entry) depth) }

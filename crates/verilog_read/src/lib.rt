@@ -7,44 +7,34 @@ ghost use Rattle.hls_base.specs.Refusals.{IfRefused};
 ghost use Rattle.rtl_core.specs.Netlist.{Netlist, netlist_of};
 ghost use Rattle.rtl_core.specs.ModuleText.{IsModuleText};
 ghost use Rattle.verilog_read.specs.NameTable.{scope_in};
-ghost use Rattle.verilog_read.specs.ModuleViews.{module_view};
+ghost use Rattle.verilog_syntax.specs.ModuleViews.{module_view};
 ghost use Rattle.verilog_read.specs.Scope.{scope_of, pins, declarations};
 ghost use Rattle.verilog_read.specs.Earliest.{noted, first_fault};
 ghost use Rattle.verilog_read.specs.Faults.{header_faults, declared_faults, no_scope, content_faults, module_faults, output_slots, driven};
 ghost use Rattle.verilog_read.specs.Circuit.{circuit_of};
-ghost use Rattle.verilog_read.specs.TextFaults.{limit, IsFirstFault, refusal_behind, failure_of};
+ghost use Rattle.verilog_syntax.specs.TextSyntax.{limit};
+ghost use Rattle.verilog_read.specs.TextFaults.{IsFirstFault};
 
-mod characters;
 mod checks;
 mod circuit;
 mod declarations;
 mod drives;
 mod fault;
-mod form;
-mod lexer;
-mod module;
 mod names;
 mod number;
-mod parser;
-mod token;
 mod widths;
 
 use crate::checks::{Assigned, check_assignments, check_wires};
 use crate::circuit::circuit_of;
 use crate::declarations::{check_header, declarations, names_of};
 use crate::fault::FirstFault;
-use crate::lexer::{Lexed, lex};
-use crate::module::Module;
 use crate::names::Names;
-use crate::parser::{Stop, parse};
 use crate::widths::addresses_of;
-use hls_base::place::TEXT_START;
-use hls_base::refusal::{Fail, Refusal};
+use hls_base::refusal::Fail;
 use rtl_core::design::Design;
 use std::alloc::{AllocError, Global};
-
-/// The most bytes that a module's text may have.
-const TEXT_LIMIT: usize = 67_108_864;
+use verilog_syntax::module::Module;
+use verilog_syntax::read_syntax;
 
 /// What the names of a module stand for. The faults of its header and its declarations are noted.
 fn check_declarations<'a>(
@@ -95,30 +85,6 @@ fn design_of(alloc: Global, module: &Module) -> Result<Design, Fail>
     }
 }
 
-/// Where the tokens are refused that go on with no token behind so many.
-fn refusal_behind(lexed: &Lexed, seen: usize) -> Refusal
-    ensures { result ≡ refusal_behind lexed.now.tokens.items lexed.now.end seen }
-{
-    if seen < lexed.tokens.len() {
-        Refusal {
-            rule: 51,
-            place: lexed.tokens[seen].place,
-        }
-    } else {
-        lexed.end
-    }
-}
-
-/// Why the tokens are no module.
-fn failure_of(lexed: &Lexed, stop: Stop) -> Fail
-    ensures { result ≡ failure_of lexed.now.tokens.items lexed.now.end stop }
-{
-    match stop {
-        Stop::Behind(seen) => Fail::Refused(refusal_behind(lexed, seen)),
-        Stop::Memory => Fail::Memory,
-    }
-}
-
 /// The circuit of a module's text, or the text's first fault.
 pub fn read(alloc: Global, bytes: &[u8]) -> Result<Design, Fail>
     ensures within { IfOk result (λ d. length bytes.now ≤ limit) }
@@ -128,16 +94,6 @@ pub fn read(alloc: Global, bytes: &[u8]) -> Result<Design, Fail>
     ensures once { IfRefused result (λ r. (q : Refusal) → IsFirstFault bytes.now q → q ≡ r) }
     ensures no_text { IfRefused result (λ r. length bytes.now ≤ limit → (d : Netlist) → IsModuleText bytes.now d → ⊥) }
 {
-    if bytes.len() > TEXT_LIMIT {
-        return Err(Fail::Refused(Refusal {
-            rule: 56,
-            place: TEXT_START,
-        }));
-    }
-    let lexed = lex(alloc, bytes)?;
-    match parse(alloc, &lexed.tokens) {
-        Ok(module) if lexed.end.rule == 51 => design_of(alloc, &module),
-        Ok(_) => Err(Fail::Refused(lexed.end)),
-        Err(stop) => Err(failure_of(&lexed, stop)),
-    }
+    let module = read_syntax(alloc, bytes)?;
+    design_of(alloc, &module)
 }

@@ -1,13 +1,13 @@
 ghost use Rattle.std.specs.Prelude.{◌≡◌, List, ℕ, IfOk, OnOk, is_some, not, None, Some};
-ghost use Rattle.verilog_read.specs.ModuleViews.{value_view, operand_view, name_view, net_view, declared_view, memory_view, wire_view, assign_view, write_view, drive_view, module_view};
+ghost use Rattle.verilog_syntax.specs.ModuleViews.{value_view, operand_view, name_view, net_view, declared_view, memory_view, wire_view, assign_view, write_view, drive_view, module_view};
 ghost use Rattle.verilog_read.specs.NameTable.{scope_in};
 ghost use Rattle.verilog_read.specs.Scope.{same_sort, find_sort, named, meaning, atom_in, with_entry};
 
-use crate::module::Value;
 use crate::number::constant_value;
 use indexmap::IndexMap;
 use rtl_core::design::Atom;
 use std::alloc::{AllocError, Global};
+use verilog_syntax::module::Value;
 
 #[derive(Clone, Copy, PartialEq, Eq)]
 pub enum Sort {

@@ -1,22 +1,9 @@
-ghost use Rattle.std.specs.Prelude.{◌≡◌, ◌+◌, ◌*◌, ◌<◌, ◌^◌, min, SomeIff};
-ghost use Rattle.rtl_core.specs.ModuleTokens.{number_value, value_behind, digit_value};
+ghost use Rattle.std.specs.Prelude.{◌≡◌, ◌+◌, ◌*◌, ◌<◌, ◌^◌, SomeIff};
+ghost use Rattle.rtl_core.specs.ModuleTokens.{value_behind, digit_value};
 ghost use Rattle.verilog_read.specs.Numbers.{declared_bits, depth_of};
 
-use crate::characters::digit_value;
-
-/// Greater than every number that a module's text may have.
-pub const MANY: u32 = 1_000_000;
-
-/// The number that decimal digits write, or `MANY` where it is greater.
-pub fn number_value(digits: &[u8]) -> u32
-    ensures { result ≡ min (number_value digits.now) 1_000_000 }
-{
-    let mut value = 0u32;
-    for digit in digits {
-        value = (value * 10 + u32::from(digit_value(*digit))).min(MANY);
-    }
-    value
-}
+use verilog_syntax::characters::digit_value;
+use verilog_syntax::number::number_value;
 
 /// The number with one hexadecimal digit more behind its digits, if it has 128 bits.
 fn with_hex_digit(value: u128, digit: u8) -> Option<u128>

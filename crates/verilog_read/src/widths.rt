@@ -1,16 +1,17 @@
 ghost use Rattle.std.specs.Prelude.{◌≡◌, ℕ, ◌^◌, ◌==◌, ◌||◌, ◌&&◌, nat_lt, min, map, IfOk, OnOk};
-ghost use Rattle.verilog_read.specs.ModuleViews.{operand_view, value_view, net_view, name_view, write_view, drive_view};
+ghost use Rattle.verilog_syntax.specs.ModuleViews.{operand_view, value_view, net_view, name_view, write_view, drive_view};
 ghost use Rattle.verilog_read.specs.NameTable.{scope_in};
 ghost use Rattle.verilog_read.specs.Faults.{same_atom, is_port_of, is_port_drive, port_addresses, is_in_range, may_have, may_agree, pair_fits, may_add_up, join_fits, is_part, part_fits, is_same_depth, address_fits, word_fits, net_fits};
 ghost use Rattle.verilog_read.specs.AddressSets.{address_of, addresses_in};
 ghost use Rattle.rtl_core.specs.declared.design.Atom.{Atom};
 
-use crate::module::{Drive, Expression, Name, Operand, Value, Write};
 use crate::names::{Entry, Meaning, Names, Sort};
-use crate::number::{constant_value, number_value};
+use crate::number::constant_value;
 use indexmap::IndexSet;
 use rtl_core::design::{Atom, Pair};
 use std::alloc::{AllocError, Global};
+use verilog_syntax::module::{Drive, Expression, Name, Operand, Value, Write};
+use verilog_syntax::number::number_value;
 
 #[derive(Clone, Copy, Debug, PartialEq, Eq, Hash)]
 pub enum Address {

@@ -1,5 +1,5 @@
 use Rattle.std.proofs.Common.{◌+◌, ◌∙◌, ap, map, arith}
-use Rattle.verilog_read.specs.ModuleViews.{module_view, name_view, declared_view}
+use Rattle.verilog_syntax.specs.ModuleViews.{module_view, name_view, declared_view}
 use Rattle.verilog_read.specs.DeclarationViews.{declaration_views}
 use Rattle.verilog_read.specs.Scope.{pins, declarations}
 use Rattle.verilog_read.specs.Earliest.{noted}

@@ -1,5 +1,5 @@
 use Rattle.std.proofs.Common.{◌≡◌, ◌∙◌, sym, ap, None, ◌++◌}
-use Rattle.verilog_read.specs.ModuleViews.{module_view}
+use Rattle.verilog_syntax.specs.ModuleViews.{module_view}
 use Rattle.verilog_read.specs.NameTable.{scope_in}
 use Rattle.verilog_read.specs.Scope.{Scope, scope_of, pins, declarations}
 use Rattle.verilog_read.specs.Earliest.{noted}

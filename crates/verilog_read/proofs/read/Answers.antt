@@ -1,44 +1,35 @@
-use Rattle.std.proofs.Common.{List, Err, subst}
-use Rattle.verilog_read.specs.declared.token.Token.{Token}
-use Rattle.verilog_read.specs.ModuleViews.{module_view}
-use Rattle.verilog_read.specs.Parsing.{IsParsed, StopsRight, tokens_in}
-use Rattle.verilog_read.specs.TextFaults.{too_long}
-use Rattle.verilog_read.proofs.NoText.{no_text, refused_no_text}
-use Rattle.verilog_read.proofs.OneFault.{one_fault, refused_once}
-use Rattle.verilog_read.proofs.Texts.{refused_stop, refused_end, says, read_within, read_text, read_only, read_refused}
+use Rattle.verilog_syntax.specs.declared.module.Module.{Module}
+use Rattle.verilog_syntax.specs.ModuleViews.{module_view}
+use Rattle.verilog_read.proofs.NoText.{refused_no_text}
+use Rattle.verilog_read.proofs.OneFault.{refused_once}
+use Rattle.verilog_read.proofs.Texts.{read_within, read_text, read_only, read_refused, refused_front}
 use Rattle.verilog_read.proofs.read.Goals as goal
-
-pub returns-then-bytes-gt-TEXT_LIMIT : goal.returns-then-bytes-gt-TEXT_LIMIT
-returns-then-bytes-gt-TEXT_LIMIT c =
-    let first = too_long c.if-bytes-gt-TEXT_LIMIT.true in record { within = tt; text = tt; only = tt; refused = first; once = λ q is. one_fault c.args.bytes.now q _ is first; no_text = no_text c.args.bytes.now _ first }
-
-pub returns-in-Ok : goal.returns-in-Ok
-returns-in-Ok c =
-    let m = module_view c.in-Ok.module in
-    let lexed = c.in_ok-lexed.lexed in
-    let parsed = subst (λ (x : List Token). IsParsed x m) c.deref.ensures.value c.in-Ok.ensures.parsed in
-    let said = says c.args.bytes.now lexed.tokens.items lexed.end m c.in_ok-lexed.ensures parsed c.if-lexed-eq51.true in
-    let first = read_refused c.args.bytes.now m c.design_of.result c.if-bytes-gt-TEXT_LIMIT.false said c.design_of.ensures.refused in
-    record {
-      within = read_within c.args.bytes.now c.design_of.result c.if-bytes-gt-TEXT_LIMIT.false;
-      text = read_text c.args.bytes.now m c.design_of.result c.if-bytes-gt-TEXT_LIMIT.false said c.design_of.ensures.found;
-      only = read_only c.args.bytes.now m c.design_of.result c.if-bytes-gt-TEXT_LIMIT.false said c.design_of.ensures.found;
-      refused = first;
-      once = refused_once c.args.bytes.now c.design_of.result first;
-      no_text = refused_no_text c.args.bytes.now c.design_of.result first;
-    }
-
-pub returns-in-Ok-2 : goal.returns-in-Ok-2
-returns-in-Ok-2 c =
-    let m = module_view c.in-Ok-2.field-0 in
-    let lexed = c.in_ok-lexed.lexed in
-    let parsed = subst (λ (x : List Token). IsParsed x m) c.deref.ensures.value c.in-Ok-2.ensures.parsed in
-    let first = refused_end c.args.bytes.now lexed.tokens.items lexed.end m c.if-bytes-gt-TEXT_LIMIT.false c.in_ok-lexed.ensures parsed c.if-lexed-eq51.false in
-    record { within = tt; text = tt; only = tt; refused = first; once = λ q is. one_fault c.args.bytes.now q lexed.end is first; no_text = no_text c.args.bytes.now lexed.end first }
 
 pub returns : goal.returns
 returns c =
-    let lexed = c.in_ok-lexed.lexed in
-    let first = refused_stop c.args.bytes.now lexed.tokens.items lexed.end c.in-Err.stop c.failure_of.result c.if-bytes-gt-TEXT_LIMIT.false c.in_ok-lexed.ensures
-    (subst (λ (x : List Token). StopsRight (tokens_in x) c.in-Err.stop) c.deref.ensures.value c.in-Err.ensures.stopped) c.failure_of.ensures in
-    record { within = tt; text = tt; only = tt; refused = first; once = refused_once c.args.bytes.now (Err c.failure_of.result) first; no_text = refused_no_text c.args.bytes.now (Err c.failure_of.result) first }
+    let bytes = c.args.bytes.now in
+    let m = module_view c.in_ok-module.module in
+    let small = c.in_ok-module.ensures.within in
+    let said = c.in_ok-module.ensures.says in
+    let first = read_refused bytes m c.design_of.result small said c.design_of.ensures.refused in
+    record {
+      within = read_within bytes c.design_of.result small;
+      text = read_text bytes m c.design_of.result small said c.design_of.ensures.found;
+      only = read_only bytes m c.design_of.result small said c.design_of.ensures.found;
+      refused = first;
+      once = refused_once bytes c.design_of.result first;
+      no_text = refused_no_text bytes c.design_of.result first;
+    }
+
+pub returns-in_err-module-clause-refused : goal.returns-in_err-module-clause-refused
+returns-in_err-module-clause-refused c = refused_front Module c.args.bytes.now c.from_residual.result c.in_err-module.field-0.0 c.from_residual.ensures.1 (λ y e. e) c.in_err-module.ensures.refused
+
+pub returns-in_err-module-clause-once : goal.returns-in_err-module-clause-once
+returns-in_err-module-clause-once c =
+    refused_once c.args.bytes.now c.from_residual.result
+    (refused_front Module c.args.bytes.now c.from_residual.result c.in_err-module.field-0.0 c.from_residual.ensures.1 (λ y e. e) c.in_err-module.ensures.refused)
+
+pub returns-in_err-module-clause-no_text : goal.returns-in_err-module-clause-no_text
+returns-in_err-module-clause-no_text c =
+    refused_no_text c.args.bytes.now c.from_residual.result
+    (refused_front Module c.args.bytes.now c.from_residual.result c.in_err-module.field-0.0 c.from_residual.ensures.1 (λ y e. e) c.in_err-module.ensures.refused)

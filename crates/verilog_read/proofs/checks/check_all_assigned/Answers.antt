@@ -1,5 +1,5 @@
 use Rattle.std.proofs.Common.{ap, map, ◌∙◌}
-use Rattle.verilog_read.specs.ModuleViews.{module_view, declared_view, memory_view}
+use Rattle.verilog_syntax.specs.ModuleViews.{module_view, declared_view, memory_view}
 use Rattle.verilog_read.specs.Earliest.{noted}
 use Rattle.verilog_read.specs.Faults.{never_faults, declared_names, memory_names}
 use Rattle.verilog_read.proofs.Loops.{noted_three}

@@ -1,6 +1,6 @@
 use Rattle.std.proofs.Common.{ap, ◌∙◌, sym}
 use Rattle.rtl_core.proofs.Checks.{map_drop}
-use Rattle.verilog_read.specs.ModuleViews.{assign_view}
+use Rattle.verilog_syntax.specs.ModuleViews.{assign_view}
 use Rattle.verilog_read.specs.NameTable.{scope_in}
 use Rattle.verilog_read.specs.Earliest.{noted}
 use Rattle.verilog_read.specs.Faults.{assign_faults, after_assigns}

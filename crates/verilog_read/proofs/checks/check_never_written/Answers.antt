@@ -1,5 +1,5 @@
 use Rattle.std.proofs.Common.{ap, ◌∙◌, sym}
-use Rattle.verilog_read.specs.ModuleViews.{memory_view}
+use Rattle.verilog_syntax.specs.ModuleViews.{memory_view}
 use Rattle.verilog_read.specs.Earliest.{noted}
 use Rattle.verilog_read.specs.Faults.{never_faults, memory_names}
 use Rattle.verilog_read.proofs.Loops.{none_left}

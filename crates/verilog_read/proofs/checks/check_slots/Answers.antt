@@ -1,5 +1,5 @@
 use Rattle.std.proofs.Common.{ap, ◌∙◌, ◌++◌, []}
-use Rattle.verilog_read.specs.ModuleViews.{module_view}
+use Rattle.verilog_syntax.specs.ModuleViews.{module_view}
 use Rattle.verilog_read.specs.NameTable.{scope_in}
 use Rattle.verilog_read.specs.Earliest.{noted}
 use Rattle.verilog_read.specs.Faults.{Driven, assign_faults, after_assigns, drive_faults, after_drives, never_faults, declared_names, memory_names}

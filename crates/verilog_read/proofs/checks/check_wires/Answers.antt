@@ -1,6 +1,6 @@
 use Rattle.std.proofs.Common.{map, drop, ap, ◌∙◌, ◌+◌, sym}
 use Rattle.rtl_core.proofs.Checks.{map_drop}
-use Rattle.verilog_read.specs.ModuleViews.{wire_view}
+use Rattle.verilog_syntax.specs.ModuleViews.{wire_view}
 use Rattle.verilog_read.specs.NameTable.{scope_in}
 use Rattle.verilog_read.specs.AddressSets.{addresses_in}
 use Rattle.verilog_read.specs.Earliest.{noted}

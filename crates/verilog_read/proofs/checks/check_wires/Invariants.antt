@@ -1,5 +1,5 @@
 use Rattle.std.proofs.Common.{◌≡◌, map, drop}
-use Rattle.verilog_read.specs.ModuleViews.{wire_view}
+use Rattle.verilog_syntax.specs.ModuleViews.{wire_view}
 use Rattle.verilog_read.specs.NameTable.{scope_in}
 use Rattle.verilog_read.specs.AddressSets.{addresses_in}
 use Rattle.verilog_read.specs.Earliest.{noted}

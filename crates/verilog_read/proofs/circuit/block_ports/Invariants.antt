@@ -1,5 +1,5 @@
 use Rattle.std.proofs.Common.{◌≡◌, ◌++◌, ◌-◌, map, drop, length}
-use Rattle.verilog_read.specs.ModuleViews.{drive_view}
+use Rattle.verilog_syntax.specs.ModuleViews.{drive_view}
 use Rattle.verilog_read.specs.NameTable.{scope_in}
 use Rattle.verilog_read.specs.Circuit.{further_ports, block_ports}
 use Rattle.verilog_read.proofs.circuit.block_ports.Given as goal

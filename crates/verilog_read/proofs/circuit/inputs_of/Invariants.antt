@@ -1,5 +1,5 @@
 use Rattle.std.proofs.Common.{◌≡◌, map, take}
-use Rattle.verilog_read.specs.ModuleViews.{declared_view}
+use Rattle.verilog_syntax.specs.ModuleViews.{declared_view}
 use Rattle.verilog_read.specs.Circuit.{input_of}
 use Rattle.verilog_read.proofs.circuit.inputs_of.Given as goal
 

@@ -1,6 +1,6 @@
 use Rattle.std.proofs.Common.{◌≡◌, ◌++◌, map, drop}
 use Rattle.rtl_core.specs.Netlist.{memory_of as netlist_memory}
-use Rattle.verilog_read.specs.ModuleViews.{memory_view, drive_view}
+use Rattle.verilog_syntax.specs.ModuleViews.{memory_view, drive_view}
 use Rattle.verilog_read.specs.NameTable.{scope_in}
 use Rattle.verilog_read.specs.Circuit.{mems_from}
 use Rattle.verilog_read.proofs.circuit.mems_of.Given as goal

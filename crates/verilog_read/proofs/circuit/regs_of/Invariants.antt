@@ -1,5 +1,5 @@
 use Rattle.std.proofs.Common.{◌≡◌, ◌++◌, map, drop}
-use Rattle.verilog_read.specs.ModuleViews.{declared_view, drive_view}
+use Rattle.verilog_syntax.specs.ModuleViews.{declared_view, drive_view}
 use Rattle.verilog_read.specs.NameTable.{scope_in}
 use Rattle.verilog_read.specs.Circuit.{regs_from}
 use Rattle.verilog_read.proofs.circuit.regs_of.Given as goal

@@ -1,5 +1,5 @@
 use Rattle.std.proofs.Common.{◌≡◌, map, take}
-use Rattle.verilog_read.specs.ModuleViews.{wire_view}
+use Rattle.verilog_syntax.specs.ModuleViews.{wire_view}
 use Rattle.verilog_read.specs.NameTable.{scope_in}
 use Rattle.verilog_read.specs.Circuit.{wire_of}
 use Rattle.verilog_read.proofs.circuit.wires_of.Given as goal

@@ -1,5 +1,5 @@
 use Rattle.std.proofs.Common.{ap}
-use Rattle.verilog_read.specs.ModuleViews.{declared_view}
+use Rattle.verilog_syntax.specs.ModuleViews.{declared_view}
 use Rattle.verilog_read.specs.Scope.{declared_from}
 use Rattle.verilog_read.proofs.Loops.{none_left, grown_all}
 use Rattle.verilog_read.proofs.Declaring.{declared_more}

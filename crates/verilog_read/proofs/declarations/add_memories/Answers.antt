@@ -1,5 +1,5 @@
 use Rattle.std.proofs.Common.{ap}
-use Rattle.verilog_read.specs.ModuleViews.{memory_view}
+use Rattle.verilog_syntax.specs.ModuleViews.{memory_view}
 use Rattle.verilog_read.specs.Scope.{memories_from}
 use Rattle.verilog_read.proofs.Loops.{none_left, grown_all}
 use Rattle.verilog_read.proofs.Declaring.{memory_more}

@@ -1,5 +1,5 @@
 use Rattle.std.proofs.Common.{◌≡◌, ◌++◌, map, drop}
-use Rattle.verilog_read.specs.ModuleViews.{memory_view}
+use Rattle.verilog_syntax.specs.ModuleViews.{memory_view}
 use Rattle.verilog_read.specs.Scope.{memories_from}
 use Rattle.verilog_read.specs.DeclarationViews.{declaration_views}
 use Rattle.verilog_read.proofs.declarations.add_memories.Given as goal

@@ -1,5 +1,5 @@
 use Rattle.std.proofs.Common.{ap}
-use Rattle.verilog_read.specs.ModuleViews.{wire_view}
+use Rattle.verilog_syntax.specs.ModuleViews.{wire_view}
 use Rattle.verilog_read.specs.Scope.{wires_from}
 use Rattle.verilog_read.proofs.Loops.{none_left, grown_all}
 use Rattle.verilog_read.proofs.Declaring.{wire_more}

@@ -1,5 +1,5 @@
 use Rattle.std.proofs.Common.{◌≡◌, map, drop}
-use Rattle.verilog_read.specs.ModuleViews.{name_view}
+use Rattle.verilog_syntax.specs.ModuleViews.{name_view}
 use Rattle.verilog_read.specs.DeclarationViews.{declaration_view, declaration_views}
 use Rattle.verilog_read.specs.Earliest.{noted}
 use Rattle.verilog_read.specs.Faults.{turn_faults}

@@ -1,5 +1,5 @@
 use Rattle.rtl_core.proofs.Checks.{map_drop}
-use Rattle.verilog_read.specs.ModuleViews.{drive_view}
+use Rattle.verilog_syntax.specs.ModuleViews.{drive_view}
 use Rattle.verilog_read.specs.NameTable.{scope_in}
 use Rattle.verilog_read.specs.Faults.{Driven}
 use Rattle.verilog_read.proofs.Assigning.{drive_on, drives_on}

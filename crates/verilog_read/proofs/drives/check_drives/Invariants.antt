@@ -1,5 +1,5 @@
 use Rattle.std.proofs.Common.{◌≡◌, [], map, drop}
-use Rattle.verilog_read.specs.ModuleViews.{drive_view}
+use Rattle.verilog_syntax.specs.ModuleViews.{drive_view}
 use Rattle.verilog_read.specs.NameTable.{scope_in}
 use Rattle.verilog_read.specs.Earliest.{noted}
 use Rattle.verilog_read.specs.Faults.{drive_faults, after_drives}

@@ -1,5 +1,5 @@
 use Rattle.std.proofs.Common.{ap, ◌∙◌, ◌++◌}
-use Rattle.verilog_read.specs.ModuleViews.{write_view}
+use Rattle.verilog_syntax.specs.ModuleViews.{write_view}
 use Rattle.verilog_read.specs.NameTable.{scope_in}
 use Rattle.verilog_read.specs.Earliest.{noted}
 use Rattle.verilog_read.specs.Faults.{bits_faults, known_faults, port_faults, write_faults, begin_faults, memory_of}

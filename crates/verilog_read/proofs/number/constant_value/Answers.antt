@@ -1,7 +1,8 @@
 use Rattle.std.proofs.Common.{◌≡◌, ◌∙◌, ap, arith, take, subst, ◌<◌, ◌^◌}
 use Rattle.std.proofs.lemmas.List.{take_all}
 use Rattle.rtl_core.specs.ModuleTokens.{value_behind}
-use Rattle.verilog_read.proofs.Values.{value_more, value_too_large}
+use Rattle.verilog_syntax.proofs.Values.{value_more}
+use Rattle.verilog_read.proofs.Values.{value_too_large}
 use Rattle.verilog_read.proofs.number.constant_value.Goals as goal
 
 pub returns-in_err-value : goal.returns-in_err-value

@@ -1,6 +1,6 @@
 use Rattle.std.proofs.Common.{◌≡◌, ℕ, ◌||◌, map, drop}
 use Rattle.rtl_core.specs.declared.design.Atom.{Atom}
-use Rattle.verilog_read.specs.ModuleViews.{drive_view}
+use Rattle.verilog_syntax.specs.ModuleViews.{drive_view}
 use Rattle.verilog_read.specs.NameTable.{scope_in}
 use Rattle.verilog_read.specs.AddressSets.{addresses_in}
 use Rattle.verilog_read.specs.Faults.{port_addresses}

@@ -1,6 +1,6 @@
 use Rattle.std.proofs.Common.{◌≡◌, false, sym, subst}
-use Rattle.verilog_read.specs.declared.module.Value.{Value}
-use Rattle.verilog_read.specs.ModuleViews.{value_view}
+use Rattle.verilog_syntax.specs.declared.module.Value.{Value}
+use Rattle.verilog_syntax.specs.ModuleViews.{value_view}
 use Rattle.verilog_read.specs.Faults.{is_in_range}
 use Rattle.verilog_read.proofs.Values.{too_large}
 use Rattle.verilog_read.proofs.widths.is_in_range.Goals as goal

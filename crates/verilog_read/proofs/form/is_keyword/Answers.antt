@@ -1,5 +1,0 @@
-use Rattle.verilog_read.proofs.Classes.{no_keyword}
-use Rattle.verilog_read.proofs.form.is_keyword.Goals as goal
-
-pub returns-in_default : goal.returns-in_default
-returns-in_default c = no_keyword c.args.kind c.args.wanted c.requires c.in_default.not-Keyword

@@ -1,5 +1,0 @@
-use Rattle.verilog_read.proofs.Classes.{no_name}
-use Rattle.verilog_read.proofs.form.is_name.Goals as goal
-
-pub returns-in_default : goal.returns-in_default
-returns-in_default c = no_name c.args.kind c.in_default.not-Name

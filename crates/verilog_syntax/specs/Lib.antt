@@ -1,0 +1,12 @@
+pub mod Characters
+pub mod Signs
+pub mod Fronts
+pub mod Lexemes
+pub mod Views
+pub mod Operators
+pub mod PlacedSyntax
+pub mod Marks
+pub mod ModuleViews
+pub mod Forms
+pub mod Parsing
+pub mod TextSyntax
