@@ -8,12 +8,12 @@ use Rattle.std.proofs.lemmas.Bool.{cases_lt}
 use Rattle.c_tree.specs.declared.statement.Stmt.{Stmt}
 use Rattle.c_tree.specs.View.{body_of}
 use Rattle.c_tree.specs.Tree as tree
-use Rattle.c_tree.specs.Tree.{ItemTree, FunctionTree, ProgramTree}
+use Rattle.c_tree.specs.Tree.{ItemTree, ProgramTree}
 use Rattle.c_checked.specs.Faults.{is_lesser, lesser, least, IsLeast, fault_if}
 use Rattle.c_checked.specs.Recursion.{callers, recursion_faults}
 use Rattle.c_checked.specs.Limits.{limit_faults, new_function_places, file_arrays, file_objects, kept_faults}
 use Rattle.c_checked.specs.Programs.{items_faults, body_names, top_faults, program_faults, is_empty, body_name_of, is_body_of, top_name, is_faultless, is_well_formed}
-use Rattle.c_types.proofs.Least.{less-trans, less-trans-not}
+use Rattle.c_declarations.proofs.Least.{less-trans, less-trans-not}
 
 -- ---- the least fault
 

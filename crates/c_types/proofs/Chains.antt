@@ -16,7 +16,8 @@ use Rattle.c_types.specs.declared.steps.Changed.{Changed}
 use Rattle.c_types.specs.declared.steps.Step.{Step}
 use Rattle.c_types.specs.declared.steps.Step.TheVariants as s
 use Rattle.c_types.specs.Chains.{Found, found, found_of, changed_fault, step, steps}
-use Rattle.c_types.proofs.Trees.{binary_tree, binary_faults, assign_tree, assign_faults, comma_tree, comma_faults}
+use Rattle.c_declarations.proofs.Trees.{binary_tree, assign_tree, comma_tree}
+use Rattle.c_types.proofs.ExpressionFaults.{binary_faults, assign_faults, comma_faults}
 use Rattle.c_types.proofs.Operands.{target_parts, changed_parts}
 
 pub steps_more : (ss : List Step) (s : Step) (part : Found) → steps (ss ++ s ∷ []) part ≡ steps ss (step s part)

@@ -13,7 +13,7 @@ use Rattle.c_checked.specs.Faults.{lesser, least}
 use Rattle.c_checked.specs.Names.{Shape, Declared, sense_of, count, target_faults}
 use Rattle.c_checked.specs.Conflicts.{Access, accesses, all_accesses, between, conflicts_among, conflicts_inside, change_of}
 use Rattle.c_checked.specs.Expressions.{expression_faults, changed_faults, operand_faults, is_given, name_given_faults}
-use Rattle.c_types.proofs.Least.{least_append, least_more}
+use Rattle.c_declarations.proofs.Least.{least_append, least_more}
 
 pub target_parts : (t : Target) → target_of t ≡ tree.target t.name (trees_of t.subscripts.items) t.at
 target_parts t = fold_out-Target Tree TargetTree tree_step target_step t

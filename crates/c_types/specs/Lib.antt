@@ -1,11 +1,1 @@
-pub mod Views
-pub mod Senses
-pub mod Entries
-pub mod Layers
-pub mod Written
-pub mod Extended
-pub mod Linked
-pub mod Noted
 pub mod Chains
-pub mod Called
-pub mod Known

@@ -9,24 +9,13 @@ ghost use Rattle.c_checked.specs.Calls.{call_faults, same_elements, void_faults}
 ghost use Rattle.c_checked.specs.Expressions.{name_given_faults};
 ghost use Rattle.c_checked.specs.Calls as spec;
 
-use crate::faults::{fault, fault_if, lesser};
-use crate::names::{Scopes, Sense, Shape, is_same_name};
+use c_declarations::faults::{fault, fault_if, lesser};
+use c_declarations::names::{Scopes, Sense, Shape, is_in};
 use c_token::ctype::CType;
 use c_tree::expression::Expr;
 use hls_base::place::Place;
 use hls_base::refusal::Refusal;
 use hls_base::text::Text;
-
-pub fn is_in(word: &Text, words: &[Text]) -> bool
-    ensures { result ≡ tokens.is_in word.now words.now }
-{
-    for other in words {
-        if is_same_name(word, other) {
-            return true;
-        }
-    }
-    false
-}
 
 pub fn is_array(shape: &Shape) -> bool
     ensures { result ≡ shapes.is_array shape.now }
@@ -149,7 +138,7 @@ fn all_fit(names: &Scopes, params: &[Shape], args: &[Expr]) -> bool
 }
 
 /// How many subscripts or arguments there are.
-#[tactic(auto, using(crate::proofs::Lists::count_trees))]
+#[tactic(auto, using(crate::proofs::Counts::count_trees))]
 pub fn count(es: &[Expr]) -> usize
     ensures { result ≡ shapes.count (trees_of es.now) }
 {
@@ -157,7 +146,7 @@ pub fn count(es: &[Expr]) -> usize
 }
 
 /// The least fault of a call besides those inside its arguments.
-#[tactic(auto, using(crate::proofs::Least::least_append))]
+#[tactic(auto, using(c_declarations::proofs::Least::least_append))]
 pub fn call_fault(
     bodies: &[Text],
     names: &Scopes,

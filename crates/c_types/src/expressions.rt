@@ -11,12 +11,12 @@ ghost use Rattle.c_checked.specs.Expressions as spec;
 ghost use Rattle.c_types.specs.Chains.{is_innermost};
 ghost use Rattle.c_tree.specs.Tree as tree;
 
-use crate::accesses::{Accesses, change_of, read_of};
 use crate::calls::{call_fault, count, is_array, name_given_fault, params_of, void_fault};
-use crate::conflicts::{between, conflict_inside};
-use crate::faults::lesser;
-use crate::names::{Scopes, Shape, target_fault, use_fault};
 use crate::steps::{Changed, Judged, Step, assigned, chosen, joined};
+use c_conflicts::accesses::{Accesses, change_of, read_of};
+use c_conflicts::conflicts::{between, conflict_inside};
+use c_declarations::faults::lesser;
+use c_declarations::names::{Scopes, Shape, target_fault, use_fault};
 use c_tree::expression::{Expr, Target};
 use hls_base::place::Place;
 use hls_base::refusal::Refusal;
@@ -35,7 +35,7 @@ struct Operands {
 ///
 /// Operators of one chain are gone through in a loop, so that the depth of the recursion is bounded by how deep the source nests.
 #[cycle(expression)]
-#[tactic(auto, using(crate::proofs::Trees::choice_faults, crate::proofs::Trees::choice_accesses))]
+#[tactic(auto, using(crate::proofs::ExpressionFaults::choice_faults, crate::proofs::ExpressionFaults::choice_accesses))]
 pub fn expression(
     alloc: Global,
     bodies: &[Text],
@@ -90,7 +90,7 @@ pub fn expression(
 /// The part of a chain that none of its operators is at the top of.
 #[inline(never)]
 #[cycle(expression)]
-#[tactic(auto, using(crate::proofs::Trees::choice_faults, crate::proofs::Trees::choice_accesses))]
+#[tactic(auto, using(crate::proofs::ExpressionFaults::choice_faults, crate::proofs::ExpressionFaults::choice_accesses))]
 fn innermost(
     alloc: Global,
     bodies: &[Text],
@@ -157,7 +157,7 @@ fn named(alloc: Global, names: &Scopes, name: &Text, at: Place) -> Result<Judged
 /// An element that is read.
 #[inline(never)]
 #[cycle(expression)]
-#[tactic(auto, using(crate::proofs::Least::least_append))]
+#[tactic(auto, using(c_declarations::proofs::Least::least_append))]
 fn element(
     alloc: Global,
     bodies: &[Text],
@@ -181,7 +181,7 @@ fn element(
 
 #[inline(never)]
 #[cycle(expression)]
-#[tactic(auto, using(crate::proofs::Least::least_append))]
+#[tactic(auto, using(c_declarations::proofs::Least::least_append))]
 fn call(
     alloc: Global,
     bodies: &[Text],

@@ -8,34 +8,22 @@ ghost use Rattle.c_checked.specs.Calls as calls;
 ghost use Rattle.c_checked.specs.Labels as labels;
 ghost use Rattle.c_checked.specs.Statements.{with_param, with_params, function_faults};
 ghost use Rattle.c_checked.specs.Statements as spec;
-ghost use Rattle.c_types.specs.Extended.{Extends};
+ghost use Rattle.c_declarations.specs.Extended.{Extends};
 
-use crate::arrays::{function_arrays, limit_fault, param_places};
-use crate::calls::{is_in, same_result, same_shapes};
-use crate::faults::{fault_if, lesser};
-use crate::labels::Around;
-use crate::lengths::form_of;
-use crate::names::{Declared, Scopes, Sense, Shape};
+use crate::calls::{same_result, same_shapes};
 use crate::parts::lengths_fault;
 use crate::statements::block;
+use c_declarations::arrays::{function_arrays, limit_fault, param_places};
+use c_declarations::faults::{fault_if, lesser};
+use c_declarations::lengths::{form_of, shapes_of};
+use c_declarations::names::{Declared, Scopes, Sense, Shape, is_in};
+use c_labels::labels::Around;
 use c_token::ctype::CType;
 use c_tree::function::{Function, Param};
 use c_tree::statement::Stmt;
 use hls_base::refusal::Refusal;
 use hls_base::text::Text;
 use std::alloc::{AllocError, Global};
-
-/// The types of parameters.
-pub fn shapes_of(alloc: Global, params: &[Param]) -> Result<Vec<Shape>, AllocError>
-    ensures { IfOk result (λ ss. ss.items ≡ param_shapes (map param_of params.now)) }
-{
-    let mut shapes = Vec::new(alloc);
-    for param in params {
-        let form = form_of(alloc, false, &param.object)?;
-        shapes.push(form.shape)?;
-    }
-    Ok(shapes)
-}
 
 /// Whether what the name of the function stands for is another type.
 fn disagrees(names: &Scopes, f: &Function, params: &[Shape]) -> bool
@@ -94,7 +82,7 @@ fn name_fault(has_body: bool, start: usize, names: &Scopes, param: &Param) -> Op
 }
 
 /// The least fault of a parameter, and its declaration.
-#[tactic(auto, using(crate::proofs::Least::least_append))]
+#[tactic(auto, using(c_declarations::proofs::Least::least_append))]
 fn param_fault(
     alloc: Global,
     bodies: &[Text],
@@ -160,7 +148,7 @@ fn body_fault(
 }
 
 /// The least fault of a function besides its declaration. `bodies` names the functions with a body.
-#[tactic(auto, using(crate::proofs::Least::least_append))]
+#[tactic(auto, using(c_declarations::proofs::Least::least_append))]
 pub fn function_fault(
     alloc: Global,
     bodies: &[Text],

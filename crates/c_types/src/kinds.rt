@@ -4,7 +4,7 @@ ghost use Rattle.c_tree.specs.View.{tree_of};
 ghost use Rattle.c_checked.specs.Names.{sense_of};
 ghost use Rattle.c_checked.specs.Names as spec;
 
-use crate::names::{Scopes, Sense};
+use c_declarations::names::{Scopes, Sense};
 use c_token::ctype::CType;
 use c_tree::expression::Expr;
 use c_value::chain::{chain_length, part_at};

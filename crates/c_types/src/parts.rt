@@ -5,10 +5,10 @@ ghost use Rattle.c_tree.specs.View.{tree_of, action_of, init_of, inits_of};
 ghost use Rattle.c_checked.specs.Faults.{least};
 ghost use Rattle.c_checked.specs.Expressions.{expression_faults, expression_of, actions_faults, optional_faults, lengths_faults, init_faults, inits_faults, optional_init_faults};
 
-use crate::accesses::Accesses;
 use crate::expressions::{changed, expression};
-use crate::faults::lesser;
-use crate::names::Scopes;
+use c_conflicts::accesses::Accesses;
+use c_declarations::faults::lesser;
+use c_declarations::names::Scopes;
 use c_tree::action::Action;
 use c_tree::expression::Expr;
 use c_tree::object::Init;
@@ -44,7 +44,7 @@ pub fn optional_fault(
 }
 
 /// The least fault of an action, which is an expression whose value is not used.
-#[tactic(auto, using(crate::proofs::Least::least_append))]
+#[tactic(auto, using(c_declarations::proofs::Least::least_append))]
 fn action_fault(
     alloc: Global,
     bodies: &[Text],
@@ -108,7 +108,7 @@ pub fn lengths_fault(
 
 /// The least fault of the expressions of an initialiser.
 #[cycle(inits)]
-#[tactic(auto, using(crate::proofs::Inits::single_faults, crate::proofs::Inits::list_faults))]
+#[tactic(auto, using(crate::proofs::ExpressionFaults::single_faults, crate::proofs::ExpressionFaults::list_faults))]
 fn init_fault(
     alloc: Global,
     bodies: &[Text],

@@ -12,17 +12,17 @@ ghost use Rattle.c_checked.specs.Names.{kind_of as spec_kind_of};
 ghost use Rattle.c_checked.specs.Labels as labels;
 ghost use Rattle.c_checked.specs.Statements.{with_object, with_objects, names_behind, names_in_for, statement_faults, block_faults, else_faults, first_faults};
 ghost use Rattle.c_checked.specs.Statements as spec;
-ghost use Rattle.c_types.specs.Written.{around_view};
-ghost use Rattle.c_types.specs.Extended.{Extends};
+ghost use Rattle.c_labels.specs.Written.{around_view};
+ghost use Rattle.c_declarations.specs.Extended.{Extends};
 
-use crate::faults::{fault_if, lesser};
 use crate::kinds::kind_of;
-use crate::labels::{Around, has_no_value, outside_fault, repeated_fault, return_fault};
-use crate::lengths::form_of;
-use crate::names::{Declared, Scopes, Sense};
 use crate::parts::{
     actions_fault, lengths_fault, optional_fault, optional_init_fault, value_fault,
 };
+use c_declarations::faults::{fault_if, lesser};
+use c_declarations::lengths::form_of;
+use c_declarations::names::{Declared, Scopes, Sense};
+use c_labels::labels::{Around, has_no_value, outside_fault, repeated_fault, return_fault};
 use c_tree::action::Action;
 use c_tree::expression::Expr;
 use c_tree::object::Object;
@@ -34,7 +34,7 @@ use hls_base::text::Text;
 use std::alloc::{AllocError, Global};
 
 /// The least fault of an object in a scope that began with so many names, and its declaration.
-#[tactic(auto, using(crate::proofs::Least::least_append))]
+#[tactic(auto, using(c_declarations::proofs::Least::least_append))]
 fn object_fault(
     alloc: Global,
     bodies: &[Text],
@@ -78,7 +78,7 @@ pub fn objects_fault(
 
 /// The least fault of a statement in a scope that began with so many names, and its declarations.
 #[cycle(statements)]
-#[tactic(auto, using(crate::proofs::StatementTrees::block_parts, crate::proofs::StatementTrees::declare_parts, crate::proofs::StatementTrees::act_parts, crate::proofs::StatementTrees::if_parts, crate::proofs::StatementTrees::switch_parts, crate::proofs::StatementTrees::case_parts, crate::proofs::StatementTrees::while_parts, crate::proofs::StatementTrees::do_parts, crate::proofs::StatementTrees::for_parts, crate::proofs::StatementTrees::break_parts, crate::proofs::StatementTrees::continue_parts, crate::proofs::StatementTrees::return_parts))]
+#[tactic(auto, using(crate::proofs::StatementFaults::block_parts, crate::proofs::StatementFaults::declare_parts, crate::proofs::StatementFaults::act_parts, crate::proofs::StatementFaults::if_parts, crate::proofs::StatementFaults::switch_parts, crate::proofs::StatementFaults::case_parts, crate::proofs::StatementFaults::while_parts, crate::proofs::StatementFaults::do_parts, crate::proofs::StatementFaults::for_parts, crate::proofs::StatementFaults::break_parts, crate::proofs::StatementFaults::continue_parts, crate::proofs::StatementFaults::return_parts))]
 fn statement(
     alloc: Global,
     bodies: &[Text],

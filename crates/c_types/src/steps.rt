@@ -5,9 +5,9 @@ ghost use Rattle.c_checked.specs.Faults.{least};
 ghost use Rattle.c_checked.specs.Conflicts.{operand_conflicts};
 ghost use Rattle.c_types.specs.Chains as spec;
 
-use crate::accesses::Accesses;
-use crate::conflicts::{between, conflict_inside, operand_conflict};
-use crate::faults::lesser;
+use c_conflicts::accesses::Accesses;
+use c_conflicts::conflicts::{between, conflict_inside, operand_conflict};
+use c_declarations::faults::lesser;
 use c_tree::operator::Binary;
 use hls_base::refusal::Refusal;
 use std::alloc::{AllocError, Global};

@@ -4,8 +4,8 @@ use Rattle.c_checked.specs.Faults.{least}
 use Rattle.c_checked.specs.Limits.{limit_faults, param_places, function_arrays}
 use Rattle.c_checked.specs.Statements.{with_params, params_faults, body_faults}
 use Rattle.c_types.proofs.Accepted.{body_some}
-use Rattle.c_types.proofs.Least.{join}
-use Rattle.c_types.proofs.StatementTrees.{extends_params, extends_more, extends_by, may_forget, has_forgotten}
+use Rattle.c_declarations.proofs.Least.{join}
+use Rattle.c_declarations.proofs.StatementTrees.{extends_params, extends_more, extends_by, may_forget, has_forgotten}
 use Rattle.c_types.proofs.functions.function_fault.Goals as goal
 
 pub forget-requires : goal.forget-requires

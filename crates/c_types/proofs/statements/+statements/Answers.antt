@@ -11,9 +11,10 @@ use Rattle.c_checked.specs.Faults.{lesser, least}
 use Rattle.c_checked.specs.Labels.{in_part, in_loop, in_switch, block_labels, repeated_faults}
 use Rattle.c_checked.specs.Expressions.{expression_faults}
 use Rattle.c_checked.specs.Statements.{statement_faults, block_faults, else_faults, names_behind}
-use Rattle.c_types.specs.Written.{around_view}
-use Rattle.c_types.proofs.Least.{least_thread}
-use Rattle.c_types.proofs.StatementTrees.{if_parts, switch_parts, while_parts, do_parts, extends_behind, extends_in_for, extends_more, extends_by, may_forget, has_forgotten, names_behind_for}
+use Rattle.c_labels.specs.Written.{around_view}
+use Rattle.c_declarations.proofs.Least.{least_thread}
+use Rattle.c_types.proofs.StatementFaults.{if_parts, switch_parts, while_parts, do_parts}
+use Rattle.c_declarations.proofs.StatementTrees.{extends_behind, extends_in_for, extends_more, extends_by, may_forget, has_forgotten, names_behind_for}
 use Rattle.c_types.proofs.statements.+statements.Goals as goal
 
 pub block-loop-stmt-preserved : goal.block-loop-stmt-preserved

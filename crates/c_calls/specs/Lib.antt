@@ -1,0 +1,4 @@
+pub mod Views
+pub mod Called
+pub mod Linked
+pub mod Loops

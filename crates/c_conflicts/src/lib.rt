@@ -1,0 +1,5 @@
+//! Accesses of names, and changes in conflict.
+#![tactic(auto)]
+
+pub mod accesses;
+pub mod conflicts;

@@ -1,0 +1,6 @@
+pub mod Views
+pub mod Senses
+pub mod Entries
+pub mod Layers
+pub mod Written
+pub mod Extended

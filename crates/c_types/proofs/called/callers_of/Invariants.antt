@@ -1,7 +1,0 @@
-use Rattle.std.proofs.Common.{◌≡◌, ◌++◌, [], drop, map}
-use Rattle.c_tree.specs.View.{item_of}
-use Rattle.c_checked.specs.Recursion.{callers}
-use Rattle.c_types.proofs.called.callers_of.Given as goal
-
-abbrev pub invariant-loop-item : goal.invariant-loop-item
-invariant-loop-item l = l.callers.items ++ callers l.names (map item_of (drop l.item-index l.items)) ≡ callers [] (map item_of l.items)

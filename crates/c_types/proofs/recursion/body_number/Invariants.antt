@@ -1,6 +1,0 @@
-use Rattle.std.proofs.Common.{◌≡◌, ◌+◌, drop}
-use Rattle.c_checked.specs.Recursion.{body_of}
-use Rattle.c_types.proofs.recursion.body_number.Given as goal
-
-abbrev pub invariant-loop-i : goal.invariant-loop-i
-invariant-loop-i l = body_of (drop l.i l.callers) l.name + l.i ≡ body_of l.callers l.name

@@ -1,7 +1,0 @@
-use Rattle.std.proofs.Common.{◌≡◌, drop}
-use Rattle.c_checked.specs.Faults.{lesser, least}
-use Rattle.c_checked.specs.Recursion.{recursion_faults}
-use Rattle.c_types.proofs.recursion.recursion_fault.Given as goal
-
-abbrev pub invariant-loop-caller : goal.invariant-loop-caller
-invariant-loop-caller l = lesser l.worst (least (recursion_faults l.callers (drop l.caller-index l.callers))) ≡ least (recursion_faults l.callers l.callers)

@@ -1,7 +1,0 @@
-use Rattle.std.proofs.Common.{◌≡◌, drop}
-use Rattle.c_checked.specs.Faults.{lesser, least}
-use Rattle.c_checked.specs.Recursion.{round_faults}
-use Rattle.c_types.proofs.recursion.round_fault.Given as goal
-
-abbrev pub invariant-loop-call : goal.invariant-loop-call
-invariant-loop-call l = lesser l.worst (least (round_faults l.callers l.g (drop l.call-index l.calls))) ≡ least (round_faults l.callers l.g l.calls)

@@ -1,6 +1,0 @@
-use Rattle.std.proofs.Common.{◌≡◌, ◌++◌, drop}
-use Rattle.c_types.specs.Linked.{sources}
-use Rattle.c_types.proofs.recursion.sources_of.Given as goal
-
-abbrev pub invariant-loop-link : goal.invariant-loop-link
-invariant-loop-link l = l.found.items ++ sources (drop l.link-index l.linked) l.callee ≡ sources l.linked l.callee
