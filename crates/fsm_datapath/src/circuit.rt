@@ -4,8 +4,10 @@ use crate::units::UnitTable;
 use clock_ir::timed::Timed;
 use hls_base::number::{NodeId, OpId, VarId};
 use hls_base::refusal::impossible;
-use ir_core::body::{Body, Operand, Source};
+use ir_core::body::{Body, Op, Operand, Source};
 use ir_core::cfg::{Cfg, End, Node};
+use live_variables::live::{Live, live_variables};
+use live_variables::var_set::VarSet;
 use reg_binding::registers::Registers;
 use rtl_core::design::{Atom, Design};
 use rtl_logic::logic::Logic;
@@ -42,6 +44,8 @@ pub struct Circuit<'a> {
     pub logic: Logic,
     pub control: Control,
     pub units: UnitTable,
+    /// Which variables may still be read.
+    pub live: Live,
     /// The register of each variable that is read somewhere.
     variables: Vec<Option<Atom>>,
     /// The register of each place that is held.
@@ -65,6 +69,7 @@ impl<'a> Circuit<'a> {
             logic,
             control,
             units: UnitTable::new(alloc),
+            live: live_variables(alloc, cfg)?,
             variables: Vec::new(alloc),
             held: BTreeMap::new(alloc),
             holders: BTreeMap::new(alloc),
@@ -77,7 +82,7 @@ impl<'a> Circuit<'a> {
     /// A register for each variable that is read somewhere.
     fn add_variables(&mut self) -> Result<(), AllocError> {
         let cfg = self.cfg;
-        let read = variables_read(self.alloc, cfg)?;
+        let read = variables_read(self.alloc, cfg, &self.live)?;
         for k in 0..cfg.frame.variables.len() {
             let register = if read.get(k).copied().unwrap_or(false) {
                 Some(self.logic.register(cfg.frame.variables[k])?)
@@ -189,16 +194,26 @@ fn note_all(read: &mut [bool], operands: &[Operand]) {
     }
 }
 
-fn note_body(read: &mut [bool], body: &Body<Timed>) {
-    for op in &body.ops {
+fn note_ops(read: &mut [bool], ops: &[Op<Timed>]) {
+    for op in ops {
         note_all(read, op.args.as_slice());
         if let Some(guard) = op.guard {
             note(read, guard);
         }
     }
-    for out in &body.outs {
-        note(read, out.value);
+}
+
+/// Notes what goes into variables; behind a block only into those that are live there.
+fn note_outs(read: &mut [bool], node: &Node<Timed>, behind: &VarSet) {
+    for out in &body_of(node).outs {
+        if matches!(node, Node::Looped(_)) || behind.contains(out.variable) {
+            note(read, out.value);
+        }
     }
+}
+
+fn note_body(read: &mut [bool], body: &Body<Timed>) {
+    note_ops(read, &body.ops);
     if let Some(test) = body.test {
         note(read, test);
     }
@@ -222,10 +237,11 @@ fn note_end(read: &mut [bool], end: &End) {
 }
 
 /// Which variables are read somewhere.
-fn variables_read(alloc: Global, cfg: &Cfg<Timed>) -> Result<Vec<bool>, AllocError> {
+fn variables_read(alloc: Global, cfg: &Cfg<Timed>, live: &Live) -> Result<Vec<bool>, AllocError> {
     let mut read = vec![in alloc; false; cfg.frame.variables.len()]?;
     for node in &cfg.nodes {
         note_body(&mut read, body_of(node));
+        note_outs(&mut read, node, &live.behind(alloc, node)?);
         if let Node::Plain(block) = node {
             note_end(&mut read, &block.end);
         }

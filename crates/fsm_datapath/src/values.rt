@@ -8,6 +8,7 @@ use hls_base::number::{NodeId, OpId, VarId};
 use hls_base::refusal::impossible;
 use ir_core::body::{Body, OpKind, Operand, Out, Source};
 use ir_core::cfg::{Block, End, Loop, Node};
+use live_variables::var_set::VarSet;
 use reg_binding::registers::Registers;
 use rtl_core::design::Atom;
 use rtl_logic::select::constant;
@@ -163,18 +164,42 @@ impl<'a> Circuit<'a> {
         for k in 0..self.cfg.nodes.len() {
             let node = node_id(k);
             match self.node(node) {
-                Some(Node::Plain(block)) => self.write_block(node, block, ret, origins)?,
-                Some(Node::Looped(region)) => self.write_loop(node, region)?,
+                Some(it) => self.write_node(node, it, ret, origins)?,
                 None => {}
             }
         }
         Ok(())
     }
 
-    fn write_loop(&mut self, node: NodeId, region: &Loop<Timed>) -> Result<(), AllocError> {
+    fn write_node(
+        &mut self,
+        node: NodeId,
+        it: &Node<Timed>,
+        ret: Option<Atom>,
+        origins: &[Vec<Origin>],
+    ) -> Result<(), AllocError> {
+        let behind = self.live.behind(self.alloc, it)?;
+        match it {
+            Node::Plain(block) => {
+                self.write_block_outs(node, block, &behind, origins)?;
+                let time = (block.length as u64).saturating_sub(1);
+                self.write_end(Reading { node, time }, &block.end, ret)
+            }
+            Node::Looped(region) => self.write_loop(node, region, &behind),
+        }
+    }
+
+    /// The variables that are live behind a loop take their values as it is left.
+    fn write_loop(
+        &mut self,
+        node: NodeId,
+        region: &Loop<Timed>,
+        behind: &VarSet,
+    ) -> Result<(), AllocError> {
         let leave = self.control.leave(node);
         for out in &region.body.outs {
-            if let Some(variable) = self.variable(out.variable)
+            if behind.contains(out.variable)
+                && let Some(variable) = self.variable(out.variable)
                 && let Some(op) = maker(&region.body, out.variable)
             {
                 let value = self.exit_value(node, op)?;
@@ -184,20 +209,23 @@ impl<'a> Circuit<'a> {
         self.control.enter(region.next, leave)
     }
 
-    fn write_block(
+    /// The variables that are live behind a block take their values in its last cycle.
+    fn write_block_outs(
         &mut self,
         node: NodeId,
         block: &Block<Timed>,
-        ret: Option<Atom>,
+        behind: &VarSet,
         origins: &[Vec<Origin>],
     ) -> Result<(), AllocError> {
         let last = (block.length as u64).saturating_sub(1);
         let leave = self.at(node, last)?;
         self.control.set_leave(node, leave);
         for out in &block.body.outs {
-            self.write_out(node, *out, origins)?;
+            if behind.contains(out.variable) {
+                self.write_out(node, *out, origins)?;
+            }
         }
-        self.write_end(Reading { node, time: last }, &block.end, ret)
+        Ok(())
     }
 
     /// A variable takes its value at the end of a block, also one that is only just there.

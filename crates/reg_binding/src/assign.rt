@@ -7,13 +7,19 @@ use clock_ir::timed::Timed;
 use hls_base::number::{NodeId, OpId};
 use hls_base::refusal::impossible;
 use ir_core::cfg::{Cfg, Node};
+use live_variables::live::live_variables;
+use live_variables::var_set::VarSet;
 use std::alloc::{AllocError, Global};
 
-/// The lives of the values of a node, sorted by the cycle from which they are there, and the interval of a loop.
-fn lives_of(alloc: Global, node: &Node<Timed>) -> Result<(Vec<Life>, Option<u32>), AllocError> {
+/// The lives of the values of a node, sorted by the cycle from which they are there, and the interval of a loop. Variables that are not live behind the node take no values over.
+fn lives_of(
+    alloc: Global,
+    node: &Node<Timed>,
+    behind: &VarSet,
+) -> Result<(Vec<Life>, Option<u32>), AllocError> {
     let (mut lives, ii) = match node {
-        Node::Plain(block) => (block_lives(alloc, block)?, None),
-        Node::Looped(region) => (loop_lives(alloc, region)?, Some(region.ii)),
+        Node::Plain(block) => (block_lives(alloc, block, behind)?, None),
+        Node::Looped(region) => (loop_lives(alloc, region, behind)?, Some(region.ii)),
     };
     lives.sort()?;
     Ok((lives, ii))
@@ -41,11 +47,12 @@ fn add_held(
 pub fn assign(alloc: Global, cfg: &Cfg<Timed>) -> Result<Registers, AllocError> {
     let mut widths = Vec::new(alloc);
     let mut held = Vec::new(alloc);
+    let live = live_variables(alloc, cfg)?;
     for (number, node) in cfg.nodes.iter().enumerate() {
         let Ok(id) = u32::try_from(number) else {
             return Err(impossible());
         };
-        let (lives, ii) = lives_of(alloc, node)?;
+        let (lives, ii) = lives_of(alloc, node, &live.behind(alloc, node)?)?;
         let choices = share(alloc, &lives, ii, &mut widths)?;
         add_held(NodeId(id), &lives, &choices, &mut held)?;
     }

@@ -5,6 +5,7 @@ use ir_core::body::{Body, Operand, Source};
 use ir_core::cfg::{Block, End};
 use ir_core::stamp::Stamp;
 use ir_operation::timing::result_bits;
+use live_variables::var_set::VarSet;
 use std::alloc::{AllocError, Global};
 
 fn note_operand(reads: &mut [Option<u64>], operand: Operand, time: u64) {
@@ -42,22 +43,28 @@ fn note_end(end: &End, reads: &mut [Option<u64>], time: u64) {
     }
 }
 
-/// Notes what variables take over.
-fn note_outs<S: Stamp>(body: &Body<S>, reads: &mut [Option<u64>], time: u64) {
+/// Notes what variables that are live behind the block take over.
+fn note_outs<S: Stamp>(body: &Body<S>, behind: &VarSet, reads: &mut [Option<u64>], time: u64) {
     for out in &body.outs {
-        note_operand(reads, out.value, time);
+        if behind.contains(out.variable) {
+            note_operand(reads, out.value, time);
+        }
     }
 }
 
 /// The lives of the results that are read while they are in a register.
-pub fn block_lives<S: Stamp>(alloc: Global, block: &Block<S>) -> Result<Vec<Life>, AllocError> {
+pub fn block_lives<S: Stamp>(
+    alloc: Global,
+    block: &Block<S>,
+    behind: &VarSet,
+) -> Result<Vec<Life>, AllocError> {
     let ops = &block.body.ops;
     let mut reads: Vec<Option<u64>> = vec![in alloc; None; ops.len()]?;
     note_args(&block.body, &mut reads);
     if block.length > 0 {
         let last = u64::from(block.length - 1);
         note_end(&block.end, &mut reads, last);
-        note_outs(&block.body, &mut reads, last);
+        note_outs(&block.body, behind, &mut reads, last);
     }
     let mut lives = Vec::new(alloc);
     for (number, op) in ops.iter().enumerate() {

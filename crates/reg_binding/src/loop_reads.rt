@@ -6,6 +6,7 @@ use ir_core::body::{Body, Op, Operand, Source};
 use ir_core::cfg::Loop;
 use ir_core::stamp::Stamp;
 use ir_operation::timing::result_bits;
+use live_variables::var_set::VarSet;
 use std::alloc::{AllocError, Global};
 
 /// The operations that make the values of the variables that the loop changes.
@@ -102,10 +103,12 @@ impl Reads {
         self.note(test, time);
     }
 
-    /// Notes that the values of variables are read as the loop is left.
-    fn note_outs<S: Stamp>(&mut self, body: &Body<S>, time: u64) {
+    /// Notes that the values of variables that are live behind the loop are read as it is left.
+    fn note_outs<S: Stamp>(&mut self, body: &Body<S>, behind: &VarSet, time: u64) {
         for out in &body.outs {
-            self.note(out.value, time);
+            if behind.contains(out.variable) {
+                self.note(out.value, time);
+            }
         }
     }
 }
@@ -172,7 +175,11 @@ fn add_places<S: Stamp>(
 }
 
 /// The lives of the results that are read, in each place through which they pass.
-pub fn loop_lives<S: Stamp>(alloc: Global, region: &Loop<S>) -> Result<Vec<Life>, AllocError> {
+pub fn loop_lives<S: Stamp>(
+    alloc: Global,
+    region: &Loop<S>,
+    behind: &VarSet,
+) -> Result<Vec<Life>, AllocError> {
     let body = &region.body;
     let mut reads = Reads {
         makers: Makers::new(alloc, body)?,
@@ -183,7 +190,7 @@ pub fn loop_lives<S: Stamp>(alloc: Global, region: &Loop<S>) -> Result<Vec<Life>
         reads.note_op(op);
     }
     reads.note_test(body);
-    reads.note_outs(body, u64::from(region.ii) + u64::from(region.exit));
+    reads.note_outs(body, behind, u64::from(region.ii) + u64::from(region.exit));
     let mut lives = Vec::new(alloc);
     for (number, op) in body.ops.iter().enumerate() {
         let Ok(id) = u32::try_from(number) else {
