@@ -1,6 +1,6 @@
 -- A step of a machine takes what is left of the run on by one step.
-use Rattle.std.proofs.Common.{◌≡◌, ◌≢◌, ℕ, zero, suc, ◌+◌, ◌-◌, ◌*◌, ◌<◌, ◌≤◌, Bool, true, false, List, [], ◌∷◌, ◌++◌, length, map, take, drop, Option, Some, None, Result, Ok, Err, refl, sym, ap, ◌∙◌, subst, inl, inr, arith, append_assoc}
-use Rattle.std.specs.Prelude.{slice_get, ◌==◌, if◌then◌else◌}
+use Rattle.std.proofs.Common.{◌≡◌, ℕ, suc, ◌+◌, ◌-◌, ◌*◌, ◌≤◌, Bool, true, false, List, [], ◌∷◌, ◌++◌, length, map, take, drop, Option, Some, None, Result, Ok, Err, refl, sym, ap, ◌∙◌, subst, inl, inr, arith, append_assoc}
+use Rattle.std.specs.Prelude.{slice_get, if◌then◌else◌}
 use Rattle.std.proofs.lemmas.Bool.{cases_eq, eq-eqb, ne_eqb}
 use Rattle.std.proofs.lemmas.List.{length-append}
 use Rattle.hls_base.specs.declared.point.Point.{Point}
@@ -17,11 +17,11 @@ use Rattle.ir_core.specs.declared.cfg.Node.TheVariants as node
 use Rattle.ir_core.specs.declared.stamp.Untimed.{Untimed}
 use Rattle.machine_laws.specs.declared.machine.Halt.{Halt}
 use Rattle.machine_laws.specs.declared.machine.Halt.TheVariants as halt
-use Rattle.run_steps.specs.Steps.{Ran, ran, went, goes, fails, waits, then_, after}
+use Rattle.run_steps.specs.Steps.{Ran, ran, goes, fails, then_, after}
 use Rattle.run_steps.specs.Valued.{Valued, is, faulty, valued}
-use Rattle.block_meaning.specs.Bodies.{Words, Ranged, Shapes, op_of, operations, with_outs}
-use Rattle.block_meaning.specs.TreeRuns.{Way, Turn, again, over, if_again, repeat, way_behind, iteration}
-use Rattle.block_meaning.specs.FlatRuns.{Going, to, ends, going, body_of, shapes_of, block_left, node_run, node_then, going_on, from_node, flat_run}
+use Rattle.block_meaning.specs.Bodies.{Words, Ranged, op_of, operations, with_outs}
+use Rattle.block_meaning.specs.TreeRuns.{Way, Turn, if_again, repeat, way_behind, iteration}
+use Rattle.block_meaning.specs.FlatRuns.{Going, to, ends, going, body_of, shapes_of, block_left, node_run, node_then, from_node, flat_run}
 use Rattle.seq_machine.specs.declared.effects.Broken.{Broken}
 use Rattle.seq_machine.specs.declared.state.State.{State}
 use Rattle.seq_machine.specs.States.{results_of, words_of, ranged_of, Keeps, Stays, FitsBody}

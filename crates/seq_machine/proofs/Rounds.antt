@@ -1,5 +1,5 @@
 -- Operations one after another, and iterations of a loop.
-use Rattle.std.proofs.Common.{◌≡◌, ℕ, zero, suc, ◌+◌, ◌-◌, ◌<◌, ◌≤◌, Bool, true, false, List, [], ◌∷◌, ◌++◌, length, get_or, min, map, take, drop, Option, Some, None, Result, Ok, Err, refl, sym, ap, ◌∙◌, subst, arith}
+use Rattle.std.proofs.Common.{◌≡◌, ℕ, zero, suc, ◌+◌, ◌-◌, ◌<◌, ◌≤◌, Bool, true, false, List, [], ◌∷◌, ◌++◌, length, get_or, min, map, take, drop, Result, Ok, Err, refl, sym, ap, ◌∙◌, subst, arith}
 use Rattle.std.specs.Prelude.{OnOk, if◌then◌else◌}
 use Rattle.std.proofs.lemmas.List.{drop_more, drop_all, drop_min, take_min, take_all, length-drop, take-map, drop-map}
 use Rattle.hls_base.specs.declared.place.Place.{Place}
@@ -10,17 +10,17 @@ use Rattle.ir_core.specs.declared.body.Op.{Op}
 use Rattle.ir_core.specs.declared.cfg.End.{End}
 use Rattle.ir_core.specs.declared.stamp.Untimed.{Untimed}
 use Rattle.machine_laws.specs.declared.machine.Halt.TheVariants as halt
-use Rattle.run_steps.specs.Steps.{Ran, ran, goes, fails, then_, pass, reached}
+use Rattle.run_steps.specs.Steps.{Ran, goes, fails, reached}
 use Rattle.run_steps.specs.Valued.{Valued, is, faulty, and_then, valued}
 use Rattle.block_meaning.specs.Bodies.{OpTree, Shapes, Words, Ranged, Performed, op_of, perform, operations, with_outs}
 use Rattle.block_meaning.specs.TreeRuns.{Turn, again, over, tested, goes_round, iterated, iteration}
-use Rattle.block_meaning.specs.FlatRuns.{body_of, going}
+use Rattle.block_meaning.specs.FlatRuns.{body_of}
 use Rattle.machine_memory.specs.Contents.{dims_in}
 use Rattle.seq_machine.specs.declared.effects.Broken.{Broken}
 use Rattle.seq_machine.specs.declared.state.State.{State}
 use Rattle.seq_machine.specs.Held.{IsThere, found, shapes}
 use Rattle.seq_machine.specs.States.{results_of, words_of, ranged_of, Keeps, Stays, ArraysThere, VariablesThere, IsThereIn, settled}
-use Rattle.seq_machine.specs.Steps.{behind, HasGone, left_in, HasStepped, one_less, undefined_, left_behind, HasIterated}
+use Rattle.seq_machine.specs.Steps.{behind, left_in, HasStepped, one_less, undefined_}
 
 pub keeps_then : (a b c : State) → Keeps a b → Keeps b c → Keeps a c
 keeps_then a b c x y = record { variables = y.variables ∙ x.variables; results = y.results ∙ x.results; args = y.args ∙ x.args; fresh = y.fresh ∙ x.fresh; dims = y.dims ∙ x.dims }

@@ -1,12 +1,8 @@
 -- What the state of a machine shows of a run.
-use Rattle.std.specs.Prelude.{◌≡◌, ℕ, zero, suc, ◌+◌, ◌<◌, ◌≤◌, List, [], ◌∷◌, ◌++◌, length, map, take, slice_get, Option, Some, None, Result, Ok, Err}
+use Rattle.std.specs.Prelude.{◌≡◌, ℕ, ◌<◌, ◌≤◌, List, [], ◌∷◌, length, take, Result, Ok, Err}
 use Rattle.ir_core.specs.declared.body.Body.{Body}
 use Rattle.ir_core.specs.declared.body.Op.{Op}
 use Rattle.ir_core.specs.declared.body.Out.{Out}
-use Rattle.ir_core.specs.declared.cfg.Cfg.{Cfg}
-use Rattle.ir_core.specs.declared.cfg.Memory.{Memory}
-use Rattle.ir_core.specs.declared.cfg.Node.{Node}
-use Rattle.ir_core.specs.declared.cfg.Node.TheVariants as node
 use Rattle.ir_core.specs.declared.stamp.Untimed.{Untimed}
 use Rattle.block_meaning.specs.Bodies.{Words, Ranged}
 use Rattle.machine_memory.specs.Contents.{dims_in, words_in}

@@ -1,5 +1,5 @@
 -- What a step of a state does, as the definition of a run of blocks has it.
-use Rattle.std.specs.Prelude.{◌≡◌, ℕ, zero, suc, ◌+◌, ◌≤◌, Bool, true, false, List, [], ◌∷◌, ◌++◌, length, map, drop, Option, Some, None, Result, Ok, Err}
+use Rattle.std.specs.Prelude.{◌≡◌, ℕ, suc, ◌+◌, ◌≤◌, Bool, true, false, List, [], ◌∷◌, ◌++◌, length, map, drop, Result, Ok, Err}
 use Rattle.hls_base.specs.declared.point.Point.{Point}
 use Rattle.ir_core.specs.declared.body.Body.{Body}
 use Rattle.ir_core.specs.declared.cfg.End.{End}
@@ -9,7 +9,7 @@ use Rattle.run_steps.specs.Steps.{Ran, ran, goes, fails}
 use Rattle.run_steps.specs.Valued.{Valued, is, faulty}
 use Rattle.block_meaning.specs.Bodies.{Words, Shapes, Ranged, op_of, operations, with_outs}
 use Rattle.block_meaning.specs.FlatRuns.{Going, to, ends, going, body_of}
-use Rattle.block_meaning.specs.TreeRuns.{Turn, again, over, iteration}
+use Rattle.block_meaning.specs.TreeRuns.{again, over, iteration}
 use Rattle.seq_machine.specs.declared.effects.Broken.{Broken}
 use Rattle.seq_machine.specs.declared.state.State.{State}
 use Rattle.seq_machine.specs.States.{results_of, words_of, ranged_of}

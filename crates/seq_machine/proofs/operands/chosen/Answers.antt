@@ -1,4 +1,4 @@
-use Rattle.std.proofs.Common.{◌≡◌, ℕ, ◌∷◌, ◌+◌, ◌∙◌, sym, ap, drop, get_or, false, List, ◌<◌, length}
+use Rattle.std.proofs.Common.{◌≡◌, ℕ, ◌+◌, ◌∙◌, sym, ap, drop, get_or, false, List, ◌<◌, length}
 use Rattle.std.specs.Prelude.{if◌then◌else◌}
 use Rattle.ir_core.specs.declared.body.Operand.{Operand}
 use Rattle.hls_base.specs.declared.number.NodeId.{NodeId}

@@ -1,4 +1,4 @@
-use Rattle.std.proofs.Common.{◌≡◌, ℕ, arith}
+use Rattle.std.proofs.Common.{arith}
 use Rattle.block_meaning.specs.Bodies.{operand}
 use Rattle.seq_machine.specs.Held.{holding}
 use Rattle.seq_machine.proofs.Reading.{read_more}

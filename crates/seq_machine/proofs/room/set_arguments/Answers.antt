@@ -1,4 +1,4 @@
-use Rattle.std.proofs.Common.{◌≡◌, ◌+◌, length, drop, sym, ap, ◌∙◌, subst}
+use Rattle.std.proofs.Common.{◌+◌, length, drop, sym, ap, ◌∙◌, subst}
 use Rattle.block_meaning.specs.FirstContents.{with_arguments}
 use Rattle.seq_machine.specs.Held.{held}
 use Rattle.seq_machine.specs.Sizes.{ParametersThere}

@@ -1,4 +1,4 @@
-use Rattle.std.proofs.Common.{◌≡◌, length, sym, ◌∙◌, subst}
+use Rattle.std.proofs.Common.{length, sym, ◌∙◌, subst}
 use Rattle.seq_machine.specs.Sizes.{KeptThere}
 use Rattle.seq_machine.proofs.Reading.{kept_more}
 use Rattle.seq_machine.proofs.room.set_kept.Goals as goal

@@ -1,10 +1,10 @@
-use Rattle.std.proofs.Common.{◌≡◌, ◌≤◌, ℕ, List, map, take, length, ap, ◌∙◌, sym, arith}
+use Rattle.std.proofs.Common.{◌≡◌, ℕ, map, take, length, ap, ◌∙◌, arith}
 use Rattle.ir_core.specs.declared.body.Out.{Out}
 use Rattle.block_meaning.specs.Bodies.{Words, operand}
 use Rattle.machine_memory.specs.Contents.{words_in}
 use Rattle.machine_memory.specs.Filling.{filled}
 use Rattle.machine_memory.proofs.Banks.{written_back}
-use Rattle.seq_machine.specs.Held.{held, holding}
+use Rattle.seq_machine.specs.Held.{holding}
 use Rattle.seq_machine.specs.States.{results_of}
 use Rattle.seq_machine.proofs.Reading.{assigned, front_back}
 use Rattle.seq_machine.proofs.state.State.assign.Goals as goal

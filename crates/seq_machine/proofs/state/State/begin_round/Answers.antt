@@ -1,4 +1,4 @@
-use Rattle.std.proofs.Common.{◌≡◌, ℕ, List, length, min, arith}
+use Rattle.std.proofs.Common.{◌≡◌, length, min, arith}
 use Rattle.run_steps.specs.Valued.{is, faulty}
 use Rattle.block_meaning.specs.TreeRuns.{tested}
 use Rattle.machine_memory.specs.Contents.{dims_in}

@@ -1,4 +1,4 @@
-use Rattle.std.proofs.Common.{◌≡◌, ◌<◌, ℕ, List, map, get_or, length, refl, subst, arith}
+use Rattle.std.proofs.Common.{◌≡◌, ◌<◌, List, map, get_or, length, refl, subst, arith}
 use Rattle.ir_core.specs.declared.body.Op.{Op}
 use Rattle.ir_core.specs.declared.stamp.Untimed.{Untimed}
 use Rattle.block_meaning.specs.Bodies.{op_of, perform, performed}

@@ -1,4 +1,4 @@
-use Rattle.std.proofs.Common.{◌≡◌, ◌-◌, ℕ, List, length, drop, sym, ap, ◌∙◌, subst}
+use Rattle.std.proofs.Common.{◌-◌, List, length, drop, sym, ap, ◌∙◌, subst}
 use Rattle.ir_core.specs.declared.body.Out.{Out}
 use Rattle.run_steps.specs.Valued.{is, faulty}
 use Rattle.block_meaning.specs.Bodies.{with_outs}

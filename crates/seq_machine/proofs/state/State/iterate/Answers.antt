@@ -1,4 +1,4 @@
-use Rattle.std.proofs.Common.{◌≡◌, ◌+◌, ◌∷◌, [], suc, true, false, sym, ap, ◌∙◌, arith}
+use Rattle.std.proofs.Common.{◌≡◌, ◌+◌, ◌∷◌, [], suc, true, sym, ap, ◌∙◌, arith}
 use Rattle.run_steps.specs.Steps.{goes}
 use Rattle.run_steps.specs.Valued.{is, faulty}
 use Rattle.block_meaning.specs.TreeRuns.{again, goes_round, iteration}

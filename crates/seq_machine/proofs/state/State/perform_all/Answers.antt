@@ -1,11 +1,10 @@
-use Rattle.std.proofs.Common.{◌≡◌, ◌+◌, ◌++◌, ◌∷◌, [], ℕ, List, map, drop, get_or, sym, ap, ◌∙◌, subst, refl, arith}
-use Rattle.ir_core.specs.declared.body.Op.{Op}
+use Rattle.std.proofs.Common.{◌≡◌, ℕ, List, map, get_or, sym, ◌∙◌, subst, arith}
 use Rattle.ir_core.specs.declared.stamp.Untimed.{Untimed}
 use Rattle.run_steps.specs.Valued.{is, faulty}
-use Rattle.block_meaning.specs.Bodies.{op_of, operations, perform, performed}
+use Rattle.block_meaning.specs.Bodies.{op_of, perform, performed}
 use Rattle.machine_memory.specs.Contents.{dims_in}
-use Rattle.seq_machine.specs.Held.{shapes, IsThere, found}
-use Rattle.seq_machine.specs.States.{results_of, words_of, Keeps, Stays, ArraysThere}
+use Rattle.seq_machine.specs.Held.{shapes, IsThere}
+use Rattle.seq_machine.specs.States.{results_of, words_of}
 use Rattle.seq_machine.proofs.Rounds.{keeps_then, stays_then, there_at, part_more, part_stops}
 use Rattle.seq_machine.proofs.state.State.perform_all.Goals as goal
 
