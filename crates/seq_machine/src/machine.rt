@@ -111,6 +111,7 @@ impl<'a> Machine<Untimed> for SeqMachine<'a> {
 
     fn ret(&self) -> Option<u64>
         ensures ended { is_ended self.now.state.halt ≡ false → result ≡ None }
+        ensures void { self.now.cfg.now.frame.ret ≡ 0 → result ≡ None }
         ensures result { is_ended self.now.state.halt ≡ true → 0 < self.now.cfg.now.frame.ret →
             result ≡ self.now.state.returned }
     {
