@@ -42,8 +42,11 @@ pub record Words : Type 0 where
 abbrev pub with_word : (ℕ → ℕ) → ℕ → ℕ → ℕ → ℕ
 with_word f i w j = if i == j then w else f j
 
+abbrev pub with_element : ℕ → ℕ → ℕ → (ℕ → ℕ → ℕ) → ℕ → ℕ → ℕ
+with_element m address w memories k = if m == k then with_word (memories k) address w else memories k
+
 abbrev pub with_memory_word : ℕ → ℕ → ℕ → Words → Words
-with_memory_word m address w t = record t { memories = λ k. if m == k then with_word (t.memories k) address w else t.memories k }
+with_memory_word m address w t = record t { memories = with_element m address w t.memories }
 
 -- ---- operands
 

@@ -2,3 +2,4 @@ pub mod Bodies
 pub mod Trees
 pub mod TreeRuns
 pub mod FlatRuns
+pub mod FirstContents

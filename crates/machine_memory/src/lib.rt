@@ -1,4 +1,5 @@
 //! The memories of a program that runs.
 #![tactic(auto)]
 
+mod bank;
 pub mod memories;

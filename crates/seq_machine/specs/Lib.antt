@@ -1,0 +1,5 @@
+pub mod Held
+pub mod Sizes
+pub mod States
+pub mod Steps
+pub mod Rest

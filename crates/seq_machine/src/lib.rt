@@ -1,6 +1,8 @@
 //! A program of blocks runs, one operation after another.
 #![tactic(auto)]
 
+mod effects;
 pub mod machine;
-mod program;
+mod operands;
+mod room;
 mod state;

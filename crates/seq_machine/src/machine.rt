@@ -1,4 +1,16 @@
-use crate::program::{Program, program_of};
+//! The machine that runs a flat program, one operation after another.
+ghost use Rattle.std.specs.Prelude.{◌≡◌, ℕ, ◌≤◌, ◌<◌, ◌+◌, length, IfOk, false, true};
+ghost use Rattle.hls_base.specs.ArrayAddress.{addresses};
+ghost use Rattle.block_meaning.specs.Bodies.{Words};
+ghost use Rattle.block_meaning.specs.FirstContents.{first_words};
+ghost use Rattle.block_meaning.specs.FlatRuns.{flat_run};
+ghost use Rattle.hls_base.specs.declared.place.Place.{Place};
+ghost use Rattle.hls_base.specs.declared.refusal.UbRule.{UbRule};
+ghost use Rattle.machine_laws.specs.Halts.{HasHalted, is_ended};
+ghost use Rattle.machine_memory.specs.Contents.{dims_in, dims_at, element_in};
+ghost use Rattle.seq_machine.specs.Rest.{IsWhole, HasRoom, GoesOn, rest, beginning, EndsSo, FailsSo};
+ghost use Rattle.seq_machine.specs.States.{words_of};
+
 use crate::state::State;
 use hls_base::inputs::Inputs;
 use hls_base::number::ArrayId;
@@ -9,59 +21,110 @@ use std::alloc::{AllocError, Global};
 
 /// Runs a program of blocks: a step is one operation, one block's end, or one iteration of a loop node, the one whose test is 0 included.
 #[derive(Debug, Drop)]
-pub struct SeqMachine {
-    program: Program,
+pub struct SeqMachine<'a> {
+    cfg: &'a Cfg<Untimed>,
     state: State,
+    ghost room: { HasRoom cfg.now state },
 }
 
-impl SeqMachine {
+fn is_running(halt: Halt) -> bool
+    ensures running { result ≡ true → halt ≡ Halt.Running }
+    ensures halted { result ≡ false → HasHalted halt }
+{
+    match halt {
+        Halt::Running => true,
+        _ => false,
+    }
+}
+
+impl<'a> SeqMachine<'a> {
+    /// The machine at the beginning of the program's run with these inputs.
     pub fn new(
         alloc: Global,
-        cfg: &Cfg<Untimed>,
+        cfg: &'a Cfg<Untimed>,
         inputs: &Inputs,
-    ) -> Result<SeqMachine, AllocError> {
-        let program = program_of(alloc, cfg)?;
-        let state = State::new(alloc, cfg, &program, inputs)?;
-        Ok(SeqMachine { program, state })
+    ) -> Result<SeqMachine<'a>, AllocError>
+        ensures program { IfOk result (λ m. m.cfg.now ≡ cfg.now) }
+        ensures begins { IfOk result (λ m. IsWhole cfg.now →
+            GoesOn 0 (beginning cfg.now (first_words cfg.now.frame inputs.now)) (rest m.cfg.now m.state)) }
+    {
+        let state = State::new(alloc, cfg, inputs)?;
+        Ok(SeqMachine { cfg, state })
     }
 
+    /// A law: where the run of the program from some contents has come to this machine, and this machine has halted, that run ends so, however many more points it may pass.
+    pub fn halts_as_the_run(&self)
+        ensures ended { (t : Words) (most n : ℕ) →
+            GoesOn most (beginning self.now.cfg.now t) (rest self.now.cfg.now self.now.state) →
+            self.now.state.halt ≡ Halt.Ended → most ≤ n →
+            EndsSo (flat_run self.now.cfg.now t n) self.now.state.returned (words_of self.now.state) }
+        ensures undefined { (t : Words) (most n : ℕ) (rule : UbRule) (place : Place) →
+            GoesOn most (beginning self.now.cfg.now t) (rest self.now.cfg.now self.now.state) →
+            self.now.state.halt ≡ Halt.Undefined rule place → most ≤ n →
+            FailsSo (flat_run self.now.cfg.now t n) rule place }
+    {}
+
     /// So many steps, or fewer where it halts.
-    fn go_on(&mut self, steps: u64) {
+    fn go_on(&mut self, steps: u64)
+        ensures goes_on { IsWhole self.old.cfg.now →
+            GoesOn steps (rest self.old.cfg.now self.old.state) (rest self.new.cfg.now self.new.state) }
+        ensures program { self.new.cfg.now ≡ self.old.cfg.now }
+    {
         for _ in 0..steps {
-            if self.state.halt != Halt::Running {
+            if !is_running(self.state.halt) {
                 break;
             }
-            self.state.step(&self.program);
+            self.state.advance(self.cfg);
         }
     }
 }
 
-impl Machine<Untimed> for SeqMachine {
+impl<'a> Machine<Untimed> for SeqMachine<'a> {
     ghost halt = { λ m. m.state.halt };
 
-    fn step(&mut self) -> Halt {
-        if self.state.halt == Halt::Running {
-            self.state.step(&self.program);
+    fn step(&mut self) -> Halt
+        ensures answer { result ≡ self.new.state.halt }
+        ensures stays { HasHalted self.old.state.halt → self.new ≡ self.old }
+        ensures goes_on { IsWhole self.old.cfg.now →
+            GoesOn 1 (rest self.old.cfg.now self.old.state) (rest self.new.cfg.now self.new.state) }
+        ensures program { self.new.cfg.now ≡ self.old.cfg.now }
+    {
+        if is_running(self.state.halt) {
+            self.state.advance(self.cfg);
         }
         self.state.halt
     }
 
-    fn run(&mut self, steps: u64) -> Halt {
-        if steps > 0 && self.state.halt == Halt::Running {
+    fn run(&mut self, steps: u64) -> Halt
+        ensures answer { result ≡ self.new.state.halt }
+        ensures stays { HasHalted self.old.state.halt → self.new ≡ self.old }
+        ensures none { steps ≡ 0 → self.new ≡ self.old }
+        ensures goes_on { IsWhole self.old.cfg.now →
+            GoesOn steps (rest self.old.cfg.now self.old.state) (rest self.new.cfg.now self.new.state) }
+        ensures program { self.new.cfg.now ≡ self.old.cfg.now }
+    {
+        if steps > 0 && is_running(self.state.halt) {
             self.go_on(steps);
         }
         self.state.halt
     }
 
-    fn ret(&self) -> Option<u64> {
-        if self.program.is_void || self.state.halt != Halt::Ended {
-            None
-        } else {
-            self.state.returned
+    fn ret(&self) -> Option<u64>
+        ensures ended { is_ended self.now.state.halt ≡ false → result ≡ None }
+        ensures void { self.now.cfg.now.frame.ret ≡ 0 → result ≡ None }
+        ensures result { is_ended self.now.state.halt ≡ true → 0 < self.now.cfg.now.frame.ret →
+            result ≡ self.now.state.returned }
+    {
+        match self.state.halt {
+            Halt::Ended if self.cfg.frame.ret > 0 => self.state.returned,
+            _ => None,
         }
     }
 
-    fn element(&self, array: ArrayId, index: u32) -> u64 {
+    fn element(&self, array: ArrayId, index: u32) -> u64
+        ensures { index < length (addresses (dims_at (dims_in self.now.state.memories) array)) →
+            result ≡ element_in self.now.state.memories array index }
+    {
         self.state.memories.element(array, index)
     }
 }

@@ -1,83 +1,72 @@
 //! What changes as a program runs.
-use crate::program::{
-    Action, Assignment, Case, Program, Stage, Way, Work, most_actions, most_args, most_assignments,
-};
+ghost use Rattle.std.specs.Prelude.{◌≡◌, ◌≤◌, ◌<◌, ◌+◌, ◌++◌, ◌∷◌, [], ℕ, List, map, take, length, get_or, min, drop, slice_get, Some, OnOk, IfOk};
+ghost use Rattle.ir_core.specs.declared.body.Op.{Op};
+ghost use Rattle.ir_core.specs.declared.stamp.Untimed.{Untimed};
+ghost use Rattle.block_meaning.specs.Bodies as bodies;
+ghost use Rattle.block_meaning.specs.TreeRuns as trees;
+ghost use Rattle.block_meaning.specs.FlatRuns as flat;
+ghost use Rattle.block_meaning.specs.FirstContents.{first_words};
+ghost use Rattle.machine_memory.specs.Contents.{dims_in};
+ghost use Rattle.seq_machine.specs.Held.{shapes, IsThere, found};
+ghost use Rattle.seq_machine.specs.Sizes.{HasArgs};
+ghost use Rattle.seq_machine.specs.States.{results_of, words_of, ranged_of, Keeps, Stays, FitsBody, ArraysThere, VariablesThere, IsThereIn, settled};
+ghost use Rattle.seq_machine.specs.Rest.{IsWhole, HasRoom, GoesOn, rest, moved};
+ghost use Rattle.seq_machine.specs.Steps.{HasGone, HasStepped, HasIterated};
+
+use crate::effects::{Broken, act, check, first_bits};
+use crate::operands::{Target, goes_round, going, is_allowed, read_all, read_outs, set_outs};
+use crate::room::{first_variables, sizes_of};
 use hls_base::inputs::Inputs;
 use hls_base::number::NodeId;
-use hls_base::refusal::UbRule;
-use ir_core::body::{OpKind, Source};
-use ir_core::cfg::{Cfg, Frame};
+use hls_base::point::Point;
+use ir_core::body::{Body, Op, Operand, Out, Source};
+use ir_core::cfg::{Cfg, End, Node};
 use ir_core::stamp::Untimed;
-use ir_operation::value::{evaluate, is_defined};
 use machine_laws::machine::Halt;
 use machine_memory::memories::Memories;
 use std::alloc::{AllocError, Global};
 
-/// Before the operation `position` of the stage `node`. `args` and `fresh` are buffers.
+/// Behind the first `position` operations of a block, whose results are there. `args` and `fresh` are buffers.
 #[derive(Debug, Drop)]
 pub struct State {
     pub memories: Memories,
     pub variables: Vec<u64>,
     pub results: Vec<u64>,
-    args: Vec<u64>,
-    fresh: Vec<u64>,
-    node: NodeId,
-    position: usize,
+    pub args: Vec<u64>,
+    pub fresh: Vec<u64>,
+    pub node: NodeId,
+    pub position: usize,
     pub halt: Halt,
     pub returned: Option<u64>,
 }
 
-fn word_at(words: &[u64], index: usize) -> u64 {
-    if index < words.len() { words[index] } else { 0 }
-}
-
-fn set_word(words: &mut [u64], index: usize, word: u64) {
-    if index < words.len() {
-        words[index] = word;
-    }
-}
-
-/// The variables as a run begins: the parameters have the arguments, the scalars that stay have their first values, and the others are 0.
-fn first_variables(alloc: Global, frame: &Frame, inputs: &Inputs) -> Result<Vec<u64>, AllocError> {
-    let mut variables = vec![in alloc; 0u64; frame.variables.len()]?;
-    for kept in &frame.kept {
-        set_word(&mut variables, kept.variable.0 as usize, kept.value);
-    }
-    let scalars = inputs.scalars.items();
-    for (param, value) in frame.params.iter().zip(scalars.iter()) {
-        set_word(&mut variables, param.0 as usize, *value);
-    }
-    Ok(variables)
-}
-
-/// The rule that an operation breaks where C gives it no value.
-fn broken_rule(action: &Action, args: &[u64]) -> Option<UbRule> {
-    if is_defined(action.kind, action.signed, action.bits, args) {
-        return None;
-    }
-    let right = word_at(args, 1);
-    match action.kind {
-        OpKind::Div | OpKind::Rem if right == 0 => Some(UbRule::DivideByZero),
-        OpKind::Div | OpKind::Rem => Some(UbRule::QuotientRange),
-        OpKind::Shl | OpKind::Shr if right >= u64::from(action.bits) => Some(UbRule::ShiftCount),
-        OpKind::Shl | OpKind::Shr => Some(UbRule::ShiftLeft),
-        _ => Some(UbRule::Overflow),
+/// How many operations come before the test is known.
+fn tested(test: Option<Operand>) -> usize
+    ensures { result ≡ trees.tested test }
+{
+    match test {
+        Some(test) => match test.value {
+            Source::Result(op) => op.0 as usize + 1,
+            _ => 0,
+        },
+        None => 0,
     }
 }
 
 impl State {
-    pub fn new(
-        alloc: Global,
-        cfg: &Cfg<Untimed>,
-        program: &Program,
-        inputs: &Inputs,
-    ) -> Result<State, AllocError> {
+    /// The state at the beginning of a run.
+    pub fn new(alloc: Global, cfg: &Cfg<Untimed>, inputs: &Inputs) -> Result<State, AllocError>
+        ensures room { IfOk result (λ s. HasRoom cfg.now s) }
+        ensures first { IfOk result (λ s. IsWhole cfg.now →
+            HasGone (flat.to cfg.now.first.0) (first_words cfg.now.frame inputs.now) s) }
+    {
+        let sizes = sizes_of(&cfg.nodes);
         Ok(State {
             memories: Memories::new(alloc, &cfg.frame.memories, inputs)?,
             variables: first_variables(alloc, &cfg.frame, inputs)?,
-            results: vec![in alloc; 0u64; most_actions(program)]?,
-            args: vec![in alloc; 0u64; most_args(program)]?,
-            fresh: vec![in alloc; 0u64; most_assignments(program)]?,
+            results: vec![in alloc; 0u64; sizes.results]?,
+            args: vec![in alloc; 0u64; sizes.args]?,
+            fresh: vec![in alloc; 0u64; sizes.fresh]?,
             node: cfg.first,
             position: 0,
             halt: Halt::Running,
@@ -85,189 +74,261 @@ impl State {
         })
     }
 
-    fn read(&self, source: Source) -> u64 {
-        match source {
-            Source::Constant(word) => word,
-            Source::Variable(variable) => word_at(&self.variables, variable.0 as usize),
-            Source::Result(op) => word_at(&self.results, op.0 as usize),
-        }
+    /// Runs an operation.
+    pub fn perform(
+        &mut self,
+        widths: &[u8],
+        ops: &[Op<Untimed>],
+        op: &Op<Untimed>,
+    ) -> Result<(), Broken>
+        requires args { length op.now.args.items ≤ length self.old.args.items }
+        requires results { self.old.position < length self.old.results.items }
+        ensures does { IsThere op.now.array (dims_in self.old.memories) →
+            bodies.perform (shapes widths.now (dims_in self.old.memories)) (map bodies.op_of ops.now)
+            (bodies.op_of op.now) (results_of self.old) (words_of self.old)
+            ≡ found result
+            (bodies.performed (get_or self.new.results.items self.old.position 0) (words_of self.new)) }
+        ensures next { OnOk result (self.new.position ≡ self.old.position + 1) }
+        ensures bound { self.new.position ≤ length self.new.results.items }
+        ensures behind { OnOk result (results_of self.new
+            ≡ results_of self.old ++ get_or self.new.results.items self.old.position 0 ∷ []) }
+        ensures keeps { Keeps self.old self.new }
+        ensures stays { Stays self.old self.new }
+    {
+        let count = op.args.len();
+        let done = self.position;
+        read_all(
+            &self.variables,
+            &self.results[..done],
+            op.args.as_slice(),
+            &mut self.args,
+        );
+        let allowed = is_allowed(&self.variables, &self.results[..done], op.guard);
+        check(&self.memories, op, allowed, &self.args[..count])?;
+        let from_bits = first_bits(widths, ops, op);
+        let result = act(
+            &mut self.memories,
+            op,
+            allowed,
+            from_bits,
+            &self.args[..count],
+        );
+        self.results[done] = result;
+        self.position = done + 1;
+        Ok(())
     }
 
-    /// Reads the arguments of an operation into the buffer.
-    fn take_args(&mut self, args: &[Source]) {
-        for (index, source) in args.iter().enumerate() {
-            let word = self.read(*source);
-            set_word(&mut self.args, index, word);
-        }
-    }
-
-    fn is_allowed(&self, action: &Action) -> bool {
-        match action.guard {
-            Some(guard) => self.read(guard) != 0,
-            None => true,
-        }
-    }
-
-    /// The rule that a flagged operation breaks at the arguments in the buffer.
-    fn fault(&self, action: &Action) -> Option<UbRule> {
-        let args = &self.args[..action.args.len().min(self.args.len())];
-        match (action.kind, action.array) {
-            (OpKind::Load, Some(array)) if !self.memories.is_in_range(array, args) => {
-                Some(UbRule::Index)
-            }
-            (OpKind::Store, Some(array)) if !self.memories.is_in_range(array, args) => {
-                Some(UbRule::Index)
-            }
-            (OpKind::Load | OpKind::Store, _) => None,
-            _ => broken_rule(action, args),
-        }
-    }
-
-    fn load(&self, action: &Action) -> u64 {
-        let args = &self.args[..action.args.len().min(self.args.len())];
-        match action.array {
-            Some(array) => self.memories.load(array, args),
-            None => 0,
-        }
-    }
-
-    fn store(&mut self, action: &Action) {
-        let count = action.args.len().min(self.args.len());
-        if let Some(array) = action.array {
-            if count > 0 {
-                let word = self.args[count - 1];
-                self.memories.store(array, &self.args[..count - 1], word);
-            }
-        }
-    }
-
-    /// The result of an operation whose arguments are in the buffer, after what it does.
-    fn act(&mut self, action: &Action, allowed: bool) -> u64 {
-        match action.kind {
-            OpKind::Load if allowed => self.load(action),
-            OpKind::Load => 0,
-            OpKind::Store => {
-                if allowed {
-                    self.store(action);
-                }
-                0
-            }
-            _ => {
-                let args = &self.args[..action.args.len().min(self.args.len())];
-                evaluate(
-                    action.kind,
-                    action.signed,
-                    action.bits,
-                    action.from_bits,
-                    args,
-                )
+    /// Runs some of the operations of a block, up to the first that has no meaning.
+    fn perform_all(
+        &mut self,
+        widths: &[u8],
+        ops: &[Op<Untimed>],
+        part: &[Op<Untimed>],
+    ) -> Result<(), Broken>
+        requires args { HasArgs part.now (length self.old.args.items) }
+        requires results { self.old.position + length part.now ≤ length self.old.results.items }
+        ensures does { ArraysThere part.now (dims_in self.old.memories) →
+            bodies.operations (shapes widths.now (dims_in self.old.memories)) (map bodies.op_of ops.now)
+            (map bodies.op_of part.now) (results_of self.old) (words_of self.old)
+            ≡ found result (ranged_of self.new) }
+        ensures next { OnOk result (self.new.position ≡ self.old.position + length part.now) }
+        ensures bound { self.new.position ≤ length self.new.results.items }
+        ensures keeps { Keeps self.old self.new }
+        ensures stays { Stays self.old self.new }
+    {
+        for op in part {
+            match self.perform(widths, ops, op) {
+                Ok(()) => {}
+                Err(broken) => return Err(broken),
             }
         }
-    }
-
-    /// Runs the operation of this number.
-    fn perform(&mut self, action: &Action, number: usize) {
-        self.take_args(&action.args);
-        let allowed = self.is_allowed(action);
-        if let Some(place) = action.flag {
-            if allowed {
-                if let Some(rule) = self.fault(action) {
-                    self.halt = Halt::Undefined(rule, place);
-                    return;
-                }
-            }
-        }
-        let result = self.act(action, allowed);
-        set_word(&mut self.results, number, result);
-    }
-
-    /// Runs the operations from one number up to another, or to the first that has no meaning.
-    fn perform_range(&mut self, actions: &[Action], from: usize, to: usize) {
-        for number in from..to.min(actions.len()) {
-            self.perform(&actions[number], number);
-            if self.halt != Halt::Running {
-                return;
-            }
-        }
+        Ok(())
     }
 
     /// Gives the variables their values, all from those before.
-    fn assign(&mut self, assignments: &[Assignment]) {
-        for (index, assignment) in assignments.iter().enumerate() {
-            let word = self.read(assignment.value);
-            set_word(&mut self.fresh, index, word);
-        }
-        for (index, assignment) in assignments.iter().enumerate() {
-            let word = word_at(&self.fresh, index);
-            set_word(&mut self.variables, assignment.variable, word);
+    pub fn assign(&mut self, outs: &[Out])
+        requires outs { length outs.now ≤ length self.old.fresh.items }
+        requires position { self.old.position ≤ length self.old.results.items }
+        ensures does { VariablesThere outs.now (length self.old.variables.items) → words_of self.new
+            ≡ bodies.with_outs outs.now (record { results = results_of self.old; words = words_of self.old }) }
+        ensures position { self.new.position ≡ self.old.position }
+        ensures keeps { Keeps self.old self.new }
+        ensures stays { Stays self.old self.new }
+    {
+        read_outs(
+            &self.variables,
+            &self.results[..self.position],
+            outs,
+            &mut self.fresh,
+        );
+        set_outs(&mut self.variables, outs, &self.fresh);
+    }
+
+    /// Stops where an operation had no meaning.
+    fn settle(&mut self, done: Result<(), Broken>)
+        ensures { self.new ≡ settled done self.old }
+    {
+        if let Err(broken) = done {
+            self.halt = Halt::Undefined(broken.rule, broken.place);
         }
     }
 
-    fn go_to(&mut self, node: NodeId) {
-        self.node = node;
-        self.position = 0;
-    }
-
-    fn chosen(&self, cases: &[Case], other: NodeId) -> NodeId {
-        for case in cases {
-            if self.read(case.test) != 0 {
-                return case.to;
+    /// Leaves a block whose operations are done.
+    fn leave(&mut self, body: &Body<Untimed>, end: &End)
+        requires outs { length body.now.outs.items ≤ length self.old.fresh.items }
+        requires position { self.old.position ≤ length self.old.results.items }
+        requires running { self.old.halt ≡ Halt.Running }
+        ensures does { VariablesThere body.now.outs.items (length self.old.variables.items) →
+            HasGone (flat.going end.now (words_of self.old) (results_of self.old))
+            (bodies.with_outs body.now.outs.items (ranged_of self.old)) self.new }
+        ensures position { self.new.position ≤ length self.new.results.items }
+        ensures keeps { Keeps self.old self.new }
+    {
+        let target = going(&self.variables, &self.results[..self.position], end);
+        self.assign(&body.outs);
+        match target {
+            Target::Node(node) => {
+                self.node = node;
+                self.position = 0;
             }
-        }
-        other
-    }
-
-    /// Leaves a block.
-    fn leave(&mut self, work: &Work, way: &Way) {
-        match way {
-            Way::Choose { cases, other } => {
-                let next = self.chosen(cases, *other);
-                self.assign(&work.assignments);
-                self.go_to(next);
-            }
-            Way::Return(value) => {
-                self.returned = value.map(|source| self.read(source));
-                self.assign(&work.assignments);
+            Target::End(word) => {
+                self.returned = word;
                 self.halt = Halt::Ended;
             }
         }
     }
 
-    /// Runs one iteration of a loop, or leaves the loop where its test is 0.
-    fn iterate(&mut self, work: &Work, next: NodeId) {
-        self.perform_range(&work.actions, 0, work.tested);
-        if self.halt != Halt::Running {
-            return;
+    /// Runs one operation of a block, or leaves it behind the last one.
+    fn block_step(&mut self, widths: &[u8], body: &Body<Untimed>, end: &End)
+        requires fits { FitsBody self.old body.now }
+        requires position { self.old.position ≤ length self.old.results.items }
+        requires running { self.old.halt ≡ Halt.Running }
+        ensures does { IsThereIn self.old body.now →
+            HasStepped (shapes widths.now (dims_in self.old.memories)) body.now end.now self.old self.new }
+        ensures position { self.new.position ≤ length self.new.results.items }
+        ensures keeps { Keeps self.old self.new }
+    {
+        let position = self.position;
+        if position < body.ops.len() {
+            let done = self.perform(widths, &body.ops, &body.ops[position]);
+            self.settle(done);
+        } else {
+            self.leave(body, end);
         }
-        if let Some(test) = work.test {
-            if self.read(test) == 0 {
-                self.go_to(next);
-                return;
+    }
+
+    /// Runs the operations before the test of a loop, and tells whether the iteration goes on.
+    fn begin_round(&mut self, widths: &[u8], body: &Body<Untimed>) -> Result<bool, Broken>
+        requires fits { FitsBody self.old body.now }
+        ensures does { ArraysThere body.now.ops.items (dims_in self.old.memories) →
+            bodies.operations (shapes widths.now (dims_in self.old.memories))
+            (map bodies.op_of body.now.ops.items)
+            (map bodies.op_of (take (trees.tested body.now.test) body.now.ops.items)) []
+            (words_of self.old)
+            ≡ found result (ranged_of self.new) }
+        ensures round { IfOk result
+            (λ goes. goes ≡ trees.goes_round body.now.test (words_of self.new) (results_of self.new)) }
+        ensures next { OnOk result
+            (self.new.position ≡ min (trees.tested body.now.test) (length body.now.ops.items)) }
+        ensures bound { self.new.position ≤ length self.new.results.items }
+        ensures keeps { Keeps self.old self.new }
+        ensures stays { Stays self.old self.new }
+    {
+        self.position = 0;
+        let tested = tested(body.test).min(body.ops.len());
+        match self.perform_all(widths, &body.ops, &body.ops[..tested]) {
+            Ok(()) => Ok(goes_round(&self.variables, &self.results[..self.position], body.test)),
+            Err(broken) => Err(broken),
+        }
+    }
+
+    /// Runs the operations of a loop that are left, and sets the variables.
+    fn end_round(&mut self, widths: &[u8], body: &Body<Untimed>) -> Result<(), Broken>
+        requires fits { FitsBody self.old body.now }
+        requires position { self.old.position ≤ length body.now.ops.items }
+        ensures does { IsThereIn self.old body.now → (r : bodies.Ranged)
+            × (bodies.operations (shapes widths.now (dims_in self.old.memories))
+            (map bodies.op_of body.now.ops.items)
+            (map bodies.op_of (drop self.old.position body.now.ops.items))
+            (results_of self.old) (words_of self.old) ≡ found result r)
+            × OnOk result (words_of self.new ≡ bodies.with_outs body.now.outs.items r) }
+        ensures bound { self.new.position ≤ length self.new.results.items }
+        ensures keeps { Keeps self.old self.new }
+        ensures stays { Stays self.old self.new }
+    {
+        match self.perform_all(widths, &body.ops, &body.ops[self.position..]) {
+            Ok(()) => {
+                self.assign(&body.outs);
+                Ok(())
+            }
+            Err(broken) => Err(broken),
+        }
+    }
+
+    /// Runs one iteration of a loop. Answers false where its test is 0.
+    fn iterate(
+        &mut self,
+        widths: &[u8],
+        point: &Point,
+        body: &Body<Untimed>,
+    ) -> Result<bool, Broken>
+        requires fits { FitsBody self.old body.now }
+        ensures does { IsThereIn self.old body.now →
+            HasIterated (shapes widths.now (dims_in self.old.memories)) point.now body.now result
+            self.old self.new }
+        ensures bound { self.new.position ≤ length self.new.results.items }
+        ensures keeps { Keeps self.old self.new }
+        ensures stays { Stays self.old self.new }
+    {
+        match self.begin_round(widths, body) {
+            Ok(goes) => {
+                if goes {
+                    match self.end_round(widths, body) {
+                        Ok(()) => Ok(true),
+                        Err(broken) => Err(broken),
+                    }
+                } else {
+                    Ok(false)
+                }
+            }
+            Err(broken) => Err(broken),
+        }
+    }
+
+    /// Goes to the next iteration of a loop, or to the node behind it.
+    fn turn(&mut self, next: NodeId, turned: Result<bool, Broken>)
+        ensures { self.new ≡ moved next turned self.old }
+    {
+        match turned {
+            Ok(goes) => {
+                if !goes {
+                    self.node = next;
+                }
+                self.position = 0;
+            }
+            Err(broken) => {
+                self.halt = Halt::Undefined(broken.rule, broken.place);
             }
         }
-        self.perform_range(&work.actions, work.tested, work.actions.len());
-        if self.halt == Halt::Running {
-            self.assign(&work.assignments);
-        }
     }
 
-    fn block_step(&mut self, work: &Work, way: &Way) {
-        let position = self.position;
-        if position < work.actions.len() {
-            self.perform(&work.actions[position], position);
-            self.position = position + 1;
-        } else {
-            self.leave(work, way);
-        }
-    }
-
-    /// One step of a run that has not halted.
-    pub fn step(&mut self, program: &Program) {
+    /// One step of a run that goes on.
+    pub fn advance(&mut self, cfg: &Cfg<Untimed>)
+        requires room { HasRoom cfg.now self.old }
+        requires running { self.old.halt ≡ Halt.Running }
+        ensures goes_on { IsWhole cfg.now → GoesOn 1 (rest cfg.now self.old) (rest cfg.now self.new) }
+        ensures room { HasRoom cfg.now self.new }
+    {
         let index = self.node.0 as usize;
-        if index < program.stages.len() {
-            match &program.stages[index] {
-                Stage::Block { work, way } => self.block_step(work, way),
-                Stage::Loop { work, next } => self.iterate(work, *next),
+        if index < cfg.nodes.len() {
+            match &cfg.nodes[index] {
+                Node::Plain(block) => {
+                    self.block_step(&cfg.frame.variables, &block.body, &block.end);
+                }
+                Node::Looped(region) => {
+                    let turned = self.iterate(&cfg.frame.variables, &region.point, &region.body);
+                    self.turn(region.next, turned);
+                }
             }
         }
     }

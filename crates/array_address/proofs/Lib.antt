@@ -1,0 +1,2 @@
+pub mod AddressWords
+pub mod Rising

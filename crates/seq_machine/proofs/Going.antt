@@ -1,0 +1,263 @@
+-- A step of a machine takes what is left of the run on by one step.
+use Rattle.std.proofs.Common.{◌≡◌, ℕ, suc, ◌+◌, ◌-◌, ◌*◌, ◌≤◌, Bool, true, false, List, [], ◌∷◌, ◌++◌, length, map, take, drop, Option, Some, None, Result, Ok, Err, refl, sym, ap, ◌∙◌, subst, inl, inr, arith, append_assoc}
+use Rattle.std.specs.Prelude.{slice_get, if◌then◌else◌}
+use Rattle.std.proofs.lemmas.Bool.{cases_eq, eq-eqb, ne_eqb}
+use Rattle.std.proofs.lemmas.List.{length-append}
+use Rattle.hls_base.specs.declared.point.Point.{Point}
+use Rattle.hls_base.specs.declared.number.NodeId.{NodeId}
+use Rattle.hls_base.specs.declared.place.Place.{Place}
+use Rattle.hls_base.specs.declared.refusal.UbRule.{UbRule}
+use Rattle.ir_core.specs.declared.body.Body.{Body}
+use Rattle.ir_core.specs.declared.cfg.Block.{Block}
+use Rattle.ir_core.specs.declared.cfg.Cfg.{Cfg}
+use Rattle.ir_core.specs.declared.cfg.End.{End}
+use Rattle.ir_core.specs.declared.cfg.Loop.{Loop}
+use Rattle.ir_core.specs.declared.cfg.Node.{Node}
+use Rattle.ir_core.specs.declared.cfg.Node.TheVariants as node
+use Rattle.ir_core.specs.declared.stamp.Untimed.{Untimed}
+use Rattle.machine_laws.specs.declared.machine.Halt.{Halt}
+use Rattle.machine_laws.specs.declared.machine.Halt.TheVariants as halt
+use Rattle.run_steps.specs.Steps.{Ran, ran, goes, fails, then_, after}
+use Rattle.run_steps.specs.Valued.{Valued, is, faulty, valued}
+use Rattle.block_meaning.specs.Bodies.{Words, Ranged, op_of, operations, with_outs}
+use Rattle.block_meaning.specs.TreeRuns.{Way, Turn, if_again, repeat, way_behind, iteration}
+use Rattle.block_meaning.specs.FlatRuns.{Going, to, ends, going, body_of, shapes_of, block_left, node_run, node_then, from_node, flat_run}
+use Rattle.seq_machine.specs.declared.effects.Broken.{Broken}
+use Rattle.seq_machine.specs.declared.state.State.{State}
+use Rattle.seq_machine.specs.States.{results_of, words_of, ranged_of, Keeps, Stays, FitsBody}
+use Rattle.seq_machine.specs.Steps.{behind, HasGone, left_in, HasStepped, one_less, undefined_, left_behind, HasIterated}
+use Rattle.seq_machine.specs.Sizes.{body_in}
+use Rattle.seq_machine.specs.Rest.{HasRoom, next_of, block_rest, node_rest, rest_by, rest, beginning, GoesOn, moved, EndsSo, FailsSo}
+
+-- ---- runs behind points
+
+abbrev Run : Type 0
+Run = Ran Words (Option ℕ)
+
+pub behind_none : {S A : Type 0} (r : Ran S A) → r ≡ behind [] r
+behind_none r = refl
+
+pub behind_then : {S A B : Type 0} (points : List Point) (r : Ran S A) (next : A → S → ℕ → Ran S B) → then_ (behind points r) next ≡ behind points (then_ r next)
+behind_then points r next = ap (λ l. ran l (after r.outcome next).outcome) (append_assoc points r.trace (after r.outcome next).trace)
+
+behind_both : {S A : Type 0} (ps qs : List Point) (r : Ran S A) → behind ps (behind qs r) ≡ behind (ps ++ qs) r
+behind_both ps qs r = ap (λ l. ran l r.outcome) (sym (append_assoc ps qs r.trace))
+
+pub stands : (run : ℕ → ℕ → Run) → GoesOn 0 run run
+stands run = record {
+  nodes = 0;
+  points = [];
+  few_nodes = omega arith;
+  few_points = omega arith;
+  same = λ k n. ap (λ j. run j (0 + n)) (let e : 0 + k ≡ k = omega arith in e) ∙ ap (run k) (let e : 0 + n ≡ n = omega arith in e);
+}
+
+pub goes_further : (m l most : ℕ) (a b c : ℕ → ℕ → Run) → m + l ≤ most → GoesOn m a b → GoesOn l b c → GoesOn most a c
+goes_further m l most a b c h x y =
+    let sizes = length-append x.points y.points in
+    record {
+      nodes = x.nodes + y.nodes;
+      points = x.points ++ y.points;
+      few_nodes = omega (arith, x.few_nodes, y.few_nodes);
+      few_points = omega (arith, x.few_points, y.few_points, sizes);
+      same = λ k n.
+          ap (λ j. a j (length (x.points ++ y.points) + n)) (let e : x.nodes + y.nodes + k ≡ x.nodes + (y.nodes + k) = omega arith in e)
+          ∙ ap (a (x.nodes + (y.nodes + k))) (let e : length (x.points ++ y.points) + n ≡ length x.points + (length y.points + n) = omega (arith, sizes) in e)
+          ∙ x.same (y.nodes + k) (length y.points + n) ∙ ap (behind x.points) (y.same k n) ∙ behind_both x.points y.points (c k n);
+    }
+
+-- a step that enters a node, or passes a point, or neither
+abbrev Same : ℕ → List Point → (ℕ → ℕ → Run) → (ℕ → ℕ → Run) → Type 0
+Same nodes points before after_ = (k n : ℕ) → before (nodes + k) (length points + n) ≡ behind points (after_ k n)
+
+-- ---- room
+
+fits_kept : (old new : State) (b : Body Untimed) → Keeps old new → FitsBody old b → FitsBody new b
+fits_kept old new b k h = (omega (arith, h.0, k.results), omega (arith, h.1, k.fresh), λ i op e. omega (arith, h.2 i op e, k.args))
+
+pub room_kept : (cfg : Cfg Untimed) (old new : State) → HasRoom cfg old → Keeps old new → new.position ≤ length new.results.items → HasRoom cfg new
+room_kept cfg old new h k p = record { bodies = λ i it e. fits_kept old new (body_in it) k (h.bodies i it e); variables = k.variables ∙ h.variables; dims = k.dims ∙ h.dims; position = p }
+
+-- ---- where a machine begins a node
+
+by_halt : (cfg : Cfg Untimed) (s : State) (h : Halt) (k n : ℕ) → s.halt ≡ h → rest cfg s k n ≡ rest_by h cfg s k n
+by_halt cfg s h k n e = ap (λ x. rest_by x cfg s k n) e
+
+begins_at : (cfg : Cfg Untimed) (s : State) (k n : ℕ) (it : Option (Node Untimed)) → s.position ≡ 0 → node_rest cfg k s it n ≡ node_then (shapes_of cfg.frame) (λ j t1 n1. from_node k (shapes_of cfg.frame) cfg.nodes.items j t1 n1) it (words_of s) n
+begins_at cfg s k n None e = refl
+begins_at cfg s k n (Some (node.Plain block)) e =
+    ap (λ b. if b then then_ (node_run (shapes_of cfg.frame) (node.Plain block) (words_of s) n) (λ g t1 n1. next_of cfg k g t1 n1) else block_rest cfg k s block n) (eq-eqb s.position 0 e)
+begins_at cfg s k n (Some (node.Looped region)) e = refl
+
+pub begins : (cfg : Cfg Untimed) (s : State) (k n : ℕ) → s.halt ≡ halt.Running → s.position ≡ 0 → rest cfg s k n ≡ from_node (suc k) (shapes_of cfg.frame) cfg.nodes.items s.node.0 (words_of s) n
+begins cfg s k n runs e = by_halt cfg s halt.Running k n runs ∙ begins_at cfg s k n (slice_get cfg.nodes.items s.node.0) e
+
+-- what is left where a block or loop has been left
+pub gone : (cfg : Cfg Untimed) (g : Going) (t : Words) (s : State) (k n : ℕ) → HasGone g t s → next_of cfg (suc k) g t n ≡ rest cfg s k n
+gone cfg (to j) t s k n h =
+    sym (begins cfg s k n h.0 h.2 ∙ ap (λ i. from_node (suc k) (shapes_of cfg.frame) cfg.nodes.items i (words_of s) n) h.1 ∙ ap (λ x. from_node (suc k) (shapes_of cfg.frame) cfg.nodes.items j x n) h.3)
+gone cfg (ends w) t s k n h = sym (by_halt cfg s halt.Ended k n h.0 ∙ ap (λ x. goes x (words_of s) n) h.1 ∙ ap (λ x. goes w x n) h.2)
+
+-- ---- a step in a block
+
+-- a block's point is passed at its beginning
+entered : (cfg : Cfg Untimed) (s : State) (block : Block Untimed) → slice_get cfg.nodes.items s.node.0 ≡ Some (node.Plain block) → s.halt ≡ halt.Running
+    → (points : List Point) × (length points ≤ 1) × ((k n : ℕ) → rest cfg s k (length points + n) ≡ behind points (block_rest cfg k s block n))
+entered cfg s block at runs =
+    let here : (k n : ℕ) → rest cfg s k n ≡ node_rest cfg k s (Some (node.Plain block)) n = λ k n. by_halt cfg s halt.Running k n runs ∙ ap (λ it. node_rest cfg k s it n) at in
+    let sh = shapes_of cfg.frame in
+    let all = map op_of block.body.ops.items in
+    elim (cases_eq s.position 0) [
+      | inl first ↦
+          let none : left_in sh block.body s ≡ operations sh all all [] (words_of s) =
+          ap (λ p. operations sh all (map op_of (drop p block.body.ops.items)) (take p s.results.items) (words_of s)) first in (
+            block.point ∷ [],
+            omega arith,
+            λ k n.
+                here k (1 + n)
+                ∙ ap (λ b. if b then then_ (node_run sh (node.Plain block) (words_of s) (1 + n)) (λ g t1 n1. next_of cfg k g t1 n1) else block_rest cfg k s block (1 + n)) (eq-eqb s.position 0 first)
+                ∙ ap (λ j. then_ (node_run sh (node.Plain block) (words_of s) j) (λ g t1 n1. next_of cfg k g t1 n1)) (let e : 1 + n ≡ suc n = omega arith in e)
+                ∙ ap (λ v. behind (block.point ∷ []) (then_ (valued v (block_left block.end (body_of block.body)) (words_of s) n) (λ g t1 n1. next_of cfg k g t1 n1))) (sym none),
+          )
+      | inr later ↦ (
+        [],
+        omega arith,
+        λ k n.
+            here k (0 + n)
+            ∙ ap (λ b. if b then then_ (node_run sh (node.Plain block) (words_of s) (0 + n)) (λ g t1 n1. next_of cfg k g t1 n1) else block_rest cfg k s block (0 + n)) (ne_eqb s.position 0 later)
+            ∙ ap (block_rest cfg k s block) (let e : 0 + n ≡ n = omega arith in e),
+      )
+    ]
+
+-- the contents at the beginning of what is left do not matter behind its results
+valued_any : (e : End) (b : Body Untimed) (v : Valued Ranged) (t u : Words) (n : ℕ) → valued v (block_left e (body_of b)) t n ≡ valued v (block_left e (body_of b)) u n
+valued_any e b (is r) t u n = refl
+valued_any e b (faulty rule at) t u n = refl
+
+-- behind the point
+stepped_rest : (cfg : Cfg Untimed) (block : Block Untimed) (old new : State) → slice_get cfg.nodes.items old.node.0 ≡ Some (node.Plain block) → HasStepped (shapes_of cfg.frame) block.body block.end old new
+    → (nodes : ℕ) × (nodes ≤ 1) × ((k n : ℕ) → block_rest cfg (nodes + k) old block n ≡ rest cfg new k n)
+stepped_rest cfg block old new at (one_less runs same_node next same) =
+    let there : slice_get cfg.nodes.items new.node.0 ≡ Some (node.Plain block) = ap (λ (i : NodeId). slice_get cfg.nodes.items i.0) same_node ∙ at in
+    let later : new.position ≡ 0 → ⊥ = λ e. omega (arith, e, next) in (
+      0,
+      omega arith,
+      λ k n.
+          ap (λ j. block_rest cfg j old block n) (let e : 0 + k ≡ k = omega arith in e)
+          ∙ ap (λ v. then_ (valued v (block_left block.end (body_of block.body)) (words_of old) n) (λ g t1 n1. next_of cfg k g t1 n1)) same
+          ∙ ap (λ r. then_ r (λ g t1 n1. next_of cfg k g t1 n1)) (valued_any block.end block.body (left_in (shapes_of cfg.frame) block.body new) (words_of old) (words_of new) n)
+          ∙ sym (by_halt cfg new halt.Running k n runs ∙ ap (λ it. node_rest cfg k new it n) there ∙ ap (λ b. if b then then_ (node_run (shapes_of cfg.frame) (node.Plain block) (words_of new) n) (λ g t1 n1. next_of cfg k g t1 n1) else block_rest cfg k new block n) (ne_eqb new.position 0 later)),
+    )
+stepped_rest cfg block old new at (undefined_ broken stopped same) = (
+  0,
+  omega arith,
+  λ k n.
+      ap (λ v. then_ (valued v (block_left block.end (body_of block.body)) (words_of old) n) (λ g t1 n1. next_of cfg (0 + k) g t1 n1)) same
+      ∙ sym (by_halt cfg new (halt.Undefined broken.rule broken.place) k n stopped),
+)
+stepped_rest cfg block old new at (left_behind none there) = (
+  1,
+  omega arith,
+  λ k n.
+      ap (λ v. then_ (valued v (block_left block.end (body_of block.body)) (words_of old) n) (λ g t1 n1. next_of cfg (1 + k) g t1 n1)) none
+      ∙ ap (λ j. next_of cfg j (going block.end (words_of old) (results_of old)) (with_outs block.body.outs.items (ranged_of old)) n) (let e : 1 + k ≡ suc k = omega arith in e)
+      ∙ gone cfg (going block.end (words_of old) (results_of old)) (with_outs block.body.outs.items (ranged_of old)) new k n there,
+)
+
+pub block_goes : (cfg : Cfg Untimed) (block : Block Untimed) (old new : State) → slice_get cfg.nodes.items old.node.0 ≡ Some (node.Plain block) → old.halt ≡ halt.Running → HasStepped (shapes_of cfg.frame) block.body block.end old new
+    → GoesOn 1 (rest cfg old) (rest cfg new)
+block_goes cfg block old new at runs step =
+    let first = entered cfg old block at runs in
+    let second = stepped_rest cfg block old new at step in
+    record { nodes = second.0; points = first.0; few_nodes = second.1; few_points = first.1; same = λ k n. first.2 (second.0 + k) n ∙ ap (behind first.0) (second.2 k n) }
+
+-- ---- a step in a loop
+
+abbrev round_next : Cfg Untimed → Loop Untimed → ℕ → Turn → Words → ℕ → Ran Words Turn
+round_next cfg region n w t1 n1 = if_again w (repeat n (iteration (shapes_of cfg.frame) region.point (body_of region.body))) t1 n1
+
+abbrev turn_way : Turn → Words → ℕ → Ran Words Way
+turn_way w t1 n1 = goes (way_behind w) t1 n1
+
+abbrev loop_end : Loop Untimed → Way → Words → ℕ → Ran Words Going
+loop_end region w t1 n1 = goes (to region.next.0) t1 n1
+
+abbrev looped : Cfg Untimed → ℕ → Loop Untimed → ℕ → Ran Words Turn → Run
+looped cfg k region n r = then_ (then_ (then_ (then_ r (round_next cfg region n)) turn_way) (loop_end region)) (next_of cfg k)
+
+in_loop : (cfg : Cfg Untimed) (s : State) (region : Loop Untimed) (k n : ℕ) → slice_get cfg.nodes.items s.node.0 ≡ Some (node.Looped region) → s.halt ≡ halt.Running
+    → rest cfg s k n ≡ looped cfg k region n (iteration (shapes_of cfg.frame) region.point (body_of region.body) (words_of s) n)
+in_loop cfg s region k n at runs = by_halt cfg s halt.Running k n runs ∙ ap (λ it. node_rest cfg k s it n) at
+
+undefined_then : {S A B : Type 0} (points : List Point) (broken : Broken) (next : A → S → ℕ → Ran S B) → then_ (behind points (fails broken.rule broken.place)) next ≡ behind points (fails broken.rule broken.place)
+undefined_then points broken next = behind_then points (fails broken.rule broken.place) next
+
+loop_fails : (cfg : Cfg Untimed) (k : ℕ) (region : Loop Untimed) (n : ℕ) (points : List Point) (broken : Broken) → looped cfg k region n (behind points (fails broken.rule broken.place)) ≡ behind points (fails broken.rule broken.place)
+loop_fails cfg k region n points broken =
+    ap (λ r. then_ (then_ (then_ r turn_way) (loop_end region)) (next_of cfg k)) (undefined_then points broken (round_next cfg region n))
+    ∙ ap (λ r. then_ (then_ r (loop_end region)) (next_of cfg k)) (undefined_then points broken turn_way)
+    ∙ ap (λ r. then_ r (next_of cfg k)) (undefined_then points broken (loop_end region)) ∙ undefined_then points broken (next_of cfg k)
+
+pub loop_goes : (cfg : Cfg Untimed) (region : Loop Untimed) (old mid new : State) (result : Result Bool Broken) → slice_get cfg.nodes.items old.node.0 ≡ Some (node.Looped region) → old.halt ≡ halt.Running
+    → HasIterated (shapes_of cfg.frame) region.point region.body result old mid → Stays old mid → new ≡ moved region.next result mid → GoesOn 1 (rest cfg old) (rest cfg new)
+loop_goes cfg region old mid new (Ok true) at runs does stays is_ =
+    let next = moved region.next (Ok true) mid in
+    let there : slice_get cfg.nodes.items next.node.0 ≡ Some (node.Looped region) = ap (λ (i : NodeId). slice_get cfg.nodes.items i.0) stays.node ∙ at in
+    subst (λ (s : State). GoesOn 1 (rest cfg old) (rest cfg s)) (sym is_) (record {
+      nodes = 0;
+      points = region.point ∷ [];
+      few_nodes = omega arith;
+      few_points = omega arith;
+      same = λ k n.
+          ap (λ j. rest cfg old j (1 + n)) (let e : 0 + k ≡ k = omega arith in e) ∙ ap (rest cfg old k) (let e : 1 + n ≡ suc n = omega arith in e)
+          ∙ in_loop cfg old region k (suc n) at runs ∙ ap (looped cfg k region (suc n)) (does n)
+          ∙ sym (ap (behind (region.point ∷ [])) (in_loop cfg next region k n there (stays.halt ∙ runs)));
+    })
+loop_goes cfg region old mid new (Ok false) at runs does stays is_ =
+    let next = moved region.next (Ok false) mid in
+    subst (λ (s : State). GoesOn 1 (rest cfg old) (rest cfg s)) (sym is_) (record {
+      nodes = 1;
+      points = [];
+      few_nodes = omega arith;
+      few_points = omega arith;
+      same = λ k n.
+          ap (λ j. rest cfg old j (0 + n)) (let e : 1 + k ≡ suc k = omega arith in e) ∙ ap (rest cfg old (suc k)) (let e : 0 + n ≡ n = omega arith in e)
+          ∙ in_loop cfg old region (suc k) n at runs ∙ ap (looped cfg (suc k) region n) (does n)
+          ∙ gone cfg (to region.next.0) (words_of mid) next k n (stays.halt ∙ runs, refl, refl, refl);
+    })
+loop_goes cfg region old mid new (Err broken) at runs does stays is_ =
+    let next = moved region.next (Err broken) mid in
+    subst (λ (s : State). GoesOn 1 (rest cfg old) (rest cfg s)) (sym is_) (record {
+      nodes = 0;
+      points = does.0;
+      few_nodes = omega arith;
+      few_points = does.1;
+      same = λ k n. in_loop cfg old region (0 + k) (length does.0 + n) at runs ∙ ap (looped cfg (0 + k) region (length does.0 + n)) (does.2 n) ∙ loop_fails cfg (0 + k) region (length does.0 + n) does.0 broken;
+    })
+
+-- ---- whole runs
+
+pub starts : (cfg : Cfg Untimed) (t : Words) (s : State) → HasGone (to cfg.first.0) t s → GoesOn 0 (beginning cfg t) (rest cfg s)
+starts cfg t s h = record {
+  nodes = 0;
+  points = [];
+  few_nodes = omega arith;
+  few_points = omega arith;
+  same = λ k n.
+      ap (λ j. beginning cfg t j (0 + n)) (let e : 0 + k ≡ k = omega arith in e) ∙ ap (beginning cfg t k) (let e : 0 + n ≡ n = omega arith in e) ∙ gone cfg (to cfg.first.0) t s k n h;
+}
+
+-- the run with enough nodes and points comes to this state
+come_to : (cfg : Cfg Untimed) (t : Words) (s : State) (most n : ℕ) → (x : GoesOn most (beginning cfg t) (rest cfg s)) → most ≤ n → flat_run cfg t n ≡ behind x.points (rest cfg s (2 * n + 1 - x.nodes) (n - length x.points))
+come_to cfg t s most n x h =
+    let nodes : 2 * n + 2 ≡ suc (x.nodes + (2 * n + 1 - x.nodes)) = omega (arith, x.few_nodes) in
+    let points : n ≡ length x.points + (n - length x.points) = omega (arith, x.few_points) in
+    ap (λ j. from_node j (shapes_of cfg.frame) cfg.nodes.items cfg.first.0 t n) nodes ∙ ap (beginning cfg t (x.nodes + (2 * n + 1 - x.nodes))) points ∙ x.same (2 * n + 1 - x.nodes) (n - length x.points)
+
+pub ended_so : (cfg : Cfg Untimed) (t : Words) (s : State) (most n : ℕ) → GoesOn most (beginning cfg t) (rest cfg s) → s.halt ≡ halt.Ended → most ≤ n → EndsSo (flat_run cfg t n) s.returned (words_of s)
+ended_so cfg t s most n x e h =
+    (x.points ++ [], n - length x.points, come_to cfg t s most n x h ∙ ap (behind x.points) (by_halt cfg s halt.Ended (2 * n + 1 - x.nodes) (n - length x.points) e))
+
+pub undefined_so : (cfg : Cfg Untimed) (t : Words) (s : State) (most n : ℕ) (rule : UbRule) (at : Place) → GoesOn most (beginning cfg t) (rest cfg s) → s.halt ≡ halt.Undefined rule at → most ≤ n → FailsSo (flat_run cfg t n) rule at
+undefined_so cfg t s most n rule at x e h =
+    (x.points ++ [], come_to cfg t s most n x h ∙ ap (behind x.points) (by_halt cfg s (halt.Undefined rule at) (2 * n + 1 - x.nodes) (n - length x.points) e))

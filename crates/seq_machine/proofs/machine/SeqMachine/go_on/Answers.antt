@@ -1,0 +1,18 @@
+use Rattle.std.proofs.Common.{◌+◌, sym, subst, arith}
+use Rattle.seq_machine.specs.Rest.{IsWhole, rest}
+use Rattle.seq_machine.proofs.Going.{goes_further, stands}
+use Rattle.seq_machine.proofs.machine.SeqMachine.go_on.Goals as goal
+
+pub loop-preserved : goal.loop-preserved
+loop-preserved c =
+    let cfg = c.loop.self.cfg.now in (
+      c.loop.invariant.0,
+      λ whole.
+          goes_further c.loop.counter 1 (c.loop.counter + 1) (rest c.args.self.now.cfg.now c.args.self.now.state) (rest cfg c.loop.self.state) (rest cfg c.advance.new.self) (omega arith)
+          (c.loop.invariant.1 whole) (c.advance.ensures.goes_on (subst IsWhole (sym c.loop.invariant.0) whole)),
+    )
+
+pub returns-then-not-is_running-clause-goes_on : goal.returns-then-not-is_running-clause-goes_on
+returns-then-not-is_running-clause-goes_on c = λ whole.
+    let last = rest c.loop.self.cfg.now c.loop.self.state in
+    goes_further c.loop.counter 0 c.args.steps (rest c.args.self.now.cfg.now c.args.self.now.state) last last (omega arith) (c.loop.invariant.1 whole) (stands last)

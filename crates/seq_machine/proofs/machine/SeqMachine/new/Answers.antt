@@ -1,0 +1,6 @@
+use Rattle.block_meaning.specs.FirstContents.{first_words}
+use Rattle.seq_machine.proofs.Going.{starts}
+use Rattle.seq_machine.proofs.machine.SeqMachine.new.Goals as goal
+
+pub returns-clause-begins : goal.returns-clause-begins
+returns-clause-begins c = λ whole. starts c.args.cfg.now (first_words c.args.cfg.now.frame c.args.inputs.now) c.in_ok-state.state (c.in_ok-state.ensures.first whole)
