@@ -1,6 +1,7 @@
 -- Programs whose calls are replaced by what their functions do.
-use Rattle.std.specs.Prelude.{ℕ, zero, suc, Bool, true, false, List, [], ◌∷◌, ◌++◌, length, ◌==◌, ◌||◌, not, take, drop, Option, Some, None, slice_get, if◌then◌else◌}
+use Rattle.std.specs.Prelude.{◌≡◌, ◌<◌, ℕ, zero, suc, Bool, true, false, List, [], ◌∷◌, ◌++◌, length, ◌==◌, ◌||◌, not, take, drop, Option, Some, None, slice_get, if◌then◌else◌}
 use Rattle.hls_base.specs.declared.place.Place.{Place}
+use Rattle.hls_base.specs.declared.refusal.Refusal.{Refusal}
 use Rattle.hls_base.specs.declared.point.Point.{Point}
 use Rattle.hls_base.specs.declared.point.PointKind.TheVariants as point
 use Rattle.hls_base.specs.declared.number.VarId.{VarId}
@@ -81,25 +82,37 @@ calls functions (suc n) callee given c at s = opened_as (slice_get functions cal
 abbrev pub is_array : CoreObjectTree → Bool
 is_array o = not (length o.lengths == 0)
 
--- variables for the scalars of file scope that are not const
+-- a scalar of file scope that is not const
+abbrev pub is_kept : FileObjectTree → Bool
+is_kept o = not (is_array o.object || o.object.constant)
+
+-- its variable, and its first value
+abbrev pub kept_scalar : FileObjectTree → State → Part Kept
+kept_scalar o s = then_ (declared 1 s) (λ u s1. then_ (fresh o.object.kind s1) (λ own s2. gives (record { variable = own; value = first_value o.first }) s2))
+
 abbrev pub kept_scalars : List FileObjectTree → List Kept → State → Part (List Kept)
 kept_scalars [] before s = gives before s
 kept_scalars (o ∷ os) before s =
-    if (is_array o.object || o.object.constant)
-    then kept_scalars os before s
-    else then_ (declared 1 s) (λ u s1. then_ (fresh o.object.kind s1) (λ own s2. kept_scalars os (before ++ record { variable = own; value = first_value o.first } ∷ []) s2))
+    if is_kept o then then_ (kept_scalar o s) (λ kept s1. kept_scalars os (before ++ kept ∷ []) s1) else kept_scalars os before s
 
 abbrev pub first_kept : List Kept → VarId
 first_kept [] = variable_number 0
 first_kept (k ∷ ks) = k.variable
 
--- what stands for the objects of file scope
+-- what stands for an object of file scope: the first of these variables for a scalar that is not const
+abbrev pub file_home : FileObjectTree → List Kept → State → Part Home
+file_home o kept s =
+    if is_array o.object then file_array o s
+    else if o.object.constant then gives (home.Constant (first_value o.first)) s
+    else gives (home.Variable (first_kept kept)) s
+
+-- the variables of the objects behind it
+abbrev pub kept_behind : FileObjectTree → List Kept → List Kept
+kept_behind o kept = if is_kept o then drop 1 kept else kept
+
 abbrev pub file_homes : List FileObjectTree → List Kept → List Home → State → Part (List Home)
 file_homes [] kept before s = gives before s
-file_homes (o ∷ os) kept before s =
-    if is_array o.object then then_ (file_array o s) (λ h s1. file_homes os kept (before ++ h ∷ []) s1)
-    else if o.object.constant then file_homes os kept (before ++ home.Constant (first_value o.first) ∷ []) s
-    else file_homes os (drop 1 kept) (before ++ home.Variable (first_kept kept) ∷ []) s
+file_homes (o ∷ os) kept before s = then_ (file_home o kept s) (λ h s1. file_homes os (kept_behind o kept) (before ++ h ∷ []) s1)
 
 -- the parameters of the top function: variables, and arrays that the host reaches
 abbrev pub top_parameter : CoreObjectTree → State → Part Home
@@ -174,3 +187,11 @@ expansion p = named (top_of p) (top_made p (top_of p))
 -- its weight
 abbrev pub expanded_weight : CoreProgramTree → ℕ
 expanded_weight p = (top_made p (top_of p)).weight
+
+-- a program that weighs too much is refused at the name of its top function, under rule 36
+pub record IsOverweight (p : CoreProgramTree) (r : Refusal) : Type 0 where
+  pub heavy : 8192 < expanded_weight p
+  pub rule : r.rule ≡ 36
+  pub function : CoreFunctionTree
+  pub top : top_of p ≡ Some function
+  pub at : r.place ≡ function.at

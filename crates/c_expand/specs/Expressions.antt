@@ -115,18 +115,16 @@ abbrev mutual
   expression f c (core.element name subscripts k at) s =
       then_ (operands f c subscripts no_effects [] s) (λ given s1. gives (tree.element (array c name s1) (row given) k at) s1)
   expression f c (core.call callee args k at) s =
-      then_ (arguments f c args [] s) (λ given s1. then_ (f callee given c at s1) (λ v s2. gives (value_or_zero v) s2))
+      then_ (then_ (arguments f c args [] s) (λ given s1. f callee given c at s1)) (λ v s2. gives (value_or_zero v) s2)
   expression f c (core.unary op arg k at) s = then_ (expression f c arg s) (λ x s1. gives (tree.unary op x k at) s1)
   expression f c (core.binary op left right k at) s =
       then_ (expression f c left s) (λ x s1. operated c op k at x (effects right) (expression f c right) s1)
   expression f c (core.choice test left right k at colon) s =
       then_ (expression f c test s) (λ t s1. chosen c k at colon t (either (effects left) (effects right)) (expression f c left) (expression f c right) s1)
   expression f c (core.cast to arg) s = then_ (expression f c arg s) (λ x s1. gives (tree.cast to x) s1)
-  expression f c (core.assign (core.target cell subscripts k target_at) op value at) s =
-      then_ (operands f c subscripts (effects value) [] s) (λ given s1.
-      then_ (expression f c value s1) (λ by s2. assigned c (change cell k target_at (row given) op at) by s2))
-  expression f c (core.bump (core.target cell subscripts k target_at) up post at) s =
-      then_ (operands f c subscripts no_effects [] s) (λ given s1. bumped c (change cell k target_at (row given) (step up) at) post s1)
+  expression f c (core.assign left op value at) s =
+      then_ (targeted f c left (effects value) op at s) (λ t s1. then_ (expression f c value s1) (λ by s2. assigned c t by s2))
+  expression f c (core.bump left up post at) s = then_ (targeted f c left no_effects (step up) at s) (λ t s1. bumped c t post s1)
   expression f c (core.comma left right) s =
       then_ (expression f c left s) (λ x s1. then_ (discarded (may_be_unused left) x s1) (λ u s2. expression f c right s2))
 
@@ -136,6 +134,11 @@ abbrev mutual
   operands f c (core.more first rest) later before s =
       then_ (expression f c first s) (λ x s1.
       then_ (save c.file_variables x (either (effects_of_all rest) later) s1) (λ y s2. operands f c rest later (before ++ y ∷ []) s2))
+
+  -- a target that is changed, whose subscripts are evaluated
+  pub targeted : Callee → Call → CoreTargetTree → Effects → Option Binary → Place → State → Part Change
+  targeted f c (core.target cell subscripts k target_at) later op at s =
+      then_ (operands f c subscripts later [] s) (λ given s1. gives (change cell k target_at (row given) op at) s1)
 
   pub argument : Callee → Call → ArgumentTree → Effects → State → Part Given
   argument f c (core.given e) later s =
@@ -147,3 +150,7 @@ abbrev mutual
   arguments f c core.no_argument before s = gives before s
   arguments f c (core.more_arguments first rest) before s =
       then_ (argument f c first (effects_of_arguments rest) s) (λ g s1. arguments f c rest (before ++ g ∷ []) s1)
+
+-- a call, behind its arguments
+abbrev pub called : Callee → Call → ℕ → ArgumentTrees → Place → State → Part (Option PureTree)
+called f c callee args at s = then_ (arguments f c args [] s) (λ given s1. f callee given c at s1)

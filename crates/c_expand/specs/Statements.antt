@@ -10,7 +10,7 @@ use Rattle.c_value.specs.Values.{int_type}
 use Rattle.core_program.specs.Core as core
 use Rattle.core_program.specs.Core.{CoreTree, CoreObjectTree, CoreInitTree, CoreActionTree, CoreStmtTree, CoreStmtTrees, CoreElseTree}
 use Rattle.pieces.specs.Trees as tree
-use Rattle.pieces.specs.Trees.{PureTree, PureTrees, PieceTree, piece_row}
+use Rattle.pieces.specs.Trees.{PureTree, PureTrees, piece_row}
 use Rattle.pieces.specs.Kind.{kind}
 use Rattle.piece_making.specs.declared.frame.Home.{Home}
 use Rattle.piece_making.specs.declared.frame.Home.TheVariants as home
@@ -18,10 +18,9 @@ use Rattle.piece_making.specs.Making.{State, Part, Inner, gives, then_, emit, in
 use Rattle.piece_making.specs.Calls.{Call, point_in}
 use Rattle.piece_making.specs.Acting.{no_effects, effects}
 use Rattle.piece_making.specs.Leaving.{is_empty}
-use Rattle.piece_making.specs.Assigning.{change, step, one, apply}
+use Rattle.piece_making.specs.Assigning.{step, one, apply}
 use Rattle.piece_making.specs.Objects.{local_array}
-use Rattle.c_expand.specs.Expressions.{Callee, expression, operands, arguments, set_unused}
-use Rattle.pieces.specs.Trees.{row}
+use Rattle.c_expand.specs.Expressions.{Callee, expression, targeted, set_unused}
 
 abbrev pub marked : Call → PointKind → Place → State → Part (Unit {0})
 marked c kind at s = emit (tree.mark (point_in c kind at)) s
@@ -35,11 +34,9 @@ valued f c e s = then_ (expression f c e s) (λ x s1. set_unused x s1)
 
 -- an assignment, `++` or `--` that stands by itself
 abbrev pub changed : Callee → Call → CoreTree → State → Part (Unit {0})
-changed f c (core.assign (core.target cell subscripts k target_at) op value at) s =
-    then_ (operands f c subscripts (effects value) [] s) (λ given s1.
-    then_ (expression f c value s1) (λ by s2. apply c (change cell k target_at (row given) op at) by s2))
-changed f c (core.bump (core.target cell subscripts k target_at) up post at) s =
-    then_ (operands f c subscripts no_effects [] s) (λ given s1. apply c (change cell k target_at (row given) (step up) at) one s1)
+changed f c (core.assign left op value at) s =
+    then_ (targeted f c left (effects value) op at s) (λ t s1. then_ (expression f c value s1) (λ by s2. apply c t by s2))
+changed f c (core.bump left up post at) s = then_ (targeted f c left no_effects (step up) at s) (λ t s1. apply c t one s1)
 changed f c e s = valued f c e s
 
 abbrev pub action : Callee → Call → CoreActionTree → State → Part (Unit {0})
@@ -104,11 +101,14 @@ abbrev pub stepped : Callee → Call → List CoreActionTree → Place → State
 stepped f c [] at s = gives tt s
 stepped f c (first ∷ rest) at s = then_ (marked c point.Step at s) (λ u s1. actions f c (first ∷ rest) s1)
 
+abbrev pub loop_body : Call → Place → (State → Part (Unit {0})) → State → Part (Inner (Unit {0}))
+loop_body c at body s = inside (λ s0. then_ (marked c point.Body at s0) (λ u s1. body s1)) s
+
 abbrev pub repeat : Callee → Call → Bool → Option CoreTree → (State → Part (Unit {0})) → List CoreActionTree → Place → State → Part (Unit {0})
 repeat f c post test body steps at s =
     then_ (next_loop s) (λ id s1.
     then_ (inside (λ s0. then_ (marked c point.Test at s0) (λ u s5. tested f c test s5)) s1) (λ before s2.
-    then_ (inside (λ s0. then_ (marked c point.Body at s0) (λ u s5. body s5)) s2) (λ main s3.
+    then_ (loop_body c at body s2) (λ main s3.
     then_ (inside (stepped f c steps at) s3) (λ last s4.
     emit (tree.repeat_ id post (piece_row before.pieces) before.value (piece_row main.pieces) (piece_row last.pieces) (point_in c point.End at)) s4))))
 
@@ -131,6 +131,15 @@ returned f c value tail s = then_ (result_set f c value s) (λ u s1. if tail the
 abbrev pub branch : Call → Place → (State → Part (Unit {0})) → State → Part (Inner (Unit {0}))
 branch c at body s = inside (λ s0. then_ (marked c point.Arm at s0) (λ u s1. body s1)) s
 
+-- a label of the switch round it, and its mark
+abbrev pub labelled : Call → Option ℕ → Place → State → Part (Unit {0})
+labelled c value at s = then_ (label value s) (λ u s1. marked c point.Arm at s1)
+
+abbrev pub switched : Callee → Call → CoreTree → (State → Part (Unit {0})) → Place → State → Part (Unit {0})
+switched f c test body at s =
+    then_ (expression f c test s) (λ t s1.
+    then_ (inside_switch body s1) (λ main s2. emit (tree.pick t main.1 (piece_row main.0) (point_in c point.End at)) s2))
+
 abbrev mutual
   -- `tail` says that the statement is in a tail position
   pub statement : Callee → Call → CoreStmtTree → Bool → State → Part (Unit {0})
@@ -142,11 +151,8 @@ abbrev mutual
       then_ (branch c at (statement f c body tail) s1) (λ first s2.
       then_ (other_branch f c other tail s2) (λ second s3.
       emit (tree.fork t (piece_row first.pieces) (piece_row second.pieces) (point_in c point.End at)) s3)))
-  statement f c (core.switch_ test objects body at) tail s =
-      then_ (expression f c test s) (λ t s1.
-      then_ (inside_switch (statements f c body false) s1) (λ main s2. emit (tree.pick t main.1 (piece_row main.0) (point_in c point.End at)) s2))
-  statement f c (core.case_ value body at) tail s =
-      then_ (label value s) (λ u s1. then_ (marked c point.Arm at s1) (λ v s2. statement f c body false s2))
+  statement f c (core.switch_ test objects body at) tail s = switched f c test (statements f c body false) at s
+  statement f c (core.case_ value body at) tail s = then_ (labelled c value at s) (λ u s1. statement f c body false s1)
   statement f c (core.while_ test body at) tail s = repeat f c false (Some test) (statement f c body false) [] at s
   statement f c (core.do_ body test at) tail s = repeat f c true (Some test) (statement f c body false) [] at s
   statement f c (core.for_ objects init test steps body at) tail s =

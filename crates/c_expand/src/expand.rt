@@ -1,7 +1,13 @@
 //! The expansion of a program.
-use crate::calls::{add_locals, run_through};
+ghost use Rattle.std.specs.Prelude.{◌≡◌, IfOk, map, [], take};
+ghost use Rattle.hls_base.specs.Refusals.{IfRefused};
+ghost use Rattle.core_program.specs.CoreView.{core_object_of, file_object_of};
+ghost use Rattle.piece_making.specs.Stocks.{IsMade, IsTooHeavy, state_of, stock};
+ghost use Rattle.c_expand.specs.Expansion.{kept_scalars, kept_scalar, is_kept, file_homes, file_home, kept_behind, top_parameters, top_parameter, variables_of};
+
+use crate::calls::{add_locals, function_at, run_through};
 use crate::here::Here;
-use core_program::program::{CoreFunction, CoreProgram, FileObject};
+use core_program::program::{CoreFunction, CoreObject, CoreProgram, FileObject};
 use hls_base::number::{Kept, VarId};
 use hls_base::place::Path;
 use hls_base::refusal::{Fail, impossible};
@@ -13,34 +19,16 @@ use std::alloc::{AllocError, Global};
 
 /// The pieces of a program. It is refused where they weigh too much.
 pub fn expand(alloc: Global, program: &CoreProgram) -> Result<Expanded, Fail> {
-    let top = program
-        .functions
-        .get(program.top as usize)
-        .ok_or(impossible())?;
+    let top = function_at(program, program.top)?;
     let mut work = Work::new(alloc, top.at);
-    let kept = kept_scalars(alloc, &mut work, &program.file)?;
-    let file_variables = work.variable_count()?;
-    let mut homes = parameters(alloc, &mut work, top)?;
-    let params = variables_of(alloc, &homes)?;
-    let context = Context {
-        alloc,
-        core: program,
-        file: file_homes(alloc, &mut work, &program.file, &kept)?,
-        file_variables,
-    };
-    add_locals(&mut work, top, &mut homes)?;
-    let frame = Frame {
-        context: &context,
-        function: top,
-        homes,
-        path: Path::new(Vec::new(alloc)),
-        call: work.next_call()?,
-        result: work.fresh_result(top.result)?,
-    };
-    let calls = program.functions.len();
-    run_through(Here::outermost(&frame, calls), &mut work)?;
-    let result = frame.result;
+    let outline = run(alloc, &mut work, program, top)?;
     let (pieces, variables, arrays) = work.finished();
+    let name = top.name.copy(alloc)?;
+    let Outline {
+        kept,
+        params,
+        result,
+    } = outline;
     Ok(Expanded {
         pieces,
         variables,
@@ -49,22 +37,95 @@ pub fn expand(alloc: Global, program: &CoreProgram) -> Result<Expanded, Fail> {
         kept,
         ret: top.result,
         result,
-        name: top.name.copy(alloc)?,
+        name,
+    })
+}
+
+/// What the expanded program has beside its pieces: the scalars of file scope, the parameters, and the variable of the result.
+#[derive(Drop)]
+pub struct Outline {
+    kept: Vec<Kept>,
+    params: Vec<VarId>,
+    result: Option<VarId>,
+}
+
+/// The call of the top function, behind the objects of file scope.
+fn run(
+    alloc: Global,
+    work: &mut Work,
+    program: &CoreProgram,
+    top: &CoreFunction,
+) -> Result<Outline, Fail> {
+    let kept = kept_scalars(alloc, work, &program.file)?;
+    let file_variables = work.variable_count()?;
+    let params = parameters(alloc, work, top)?;
+    let variables = variables_of(alloc, &params)?;
+    let file = file_homes(alloc, work, &program.file, &kept)?;
+    let mut homes = params;
+    add_locals(work, top, &mut homes)?;
+    let call = work.next_call()?;
+    let result = work.fresh_result(top.result)?;
+    let context = Context {
+        alloc,
+        core: program,
+        file,
+        file_variables,
+    };
+    let frame = Frame {
+        context: &context,
+        function: top,
+        homes,
+        path: Path::new(Vec::new(alloc)),
+        call,
+        result,
+    };
+    let calls = program.functions.len();
+    run_through(
+        Here {
+            frame: &frame,
+            calls,
+            depth: u32::MAX,
+        },
+        work,
+    )?;
+    Ok(Outline {
+        kept,
+        params: variables,
+        result,
     })
 }
 
 /// Variables for the scalars of file scope that are not const.
-fn kept_scalars(alloc: Global, work: &mut Work, file: &[FileObject]) -> Result<Vec<Kept>, Fail> {
+fn kept_scalars(alloc: Global, work: &mut Work, file: &[FileObject]) -> Result<Vec<Kept>, Fail>
+    ensures made { IfOk result (λ v. IsMade (stock work.old) (stock work.new) v.items (kept_scalars (map file_object_of file.now) [] (state_of (stock work.old)))) }
+    ensures refused { IfRefused result (λ r. IsTooHeavy (stock work.old) r (kept_scalars (map file_object_of file.now) [] (state_of (stock work.old)))) }
+{
     let mut kept = Vec::new(alloc);
-    for FileObject { object, first } in file {
-        if object.lengths.is_empty() && !object.constant {
-            work.charge(1)?;
-            let variable = work.fresh(object.kind)?;
-            let value = first_value(first)?;
-            kept.push(Kept { variable, value })?;
+    for one in file {
+        if is_kept(one) {
+            let scalar = kept_scalar(work, one)?;
+            kept.push(scalar)?;
         }
     }
     Ok(kept)
+}
+
+/// The variable of a scalar of file scope that is not const, and its first value.
+fn kept_scalar(work: &mut Work, file: &FileObject) -> Result<Kept, Fail>
+    ensures made { IfOk result (λ v. IsMade (stock work.old) (stock work.new) v (kept_scalar (file_object_of file.now) (state_of (stock work.old)))) }
+    ensures refused { IfRefused result (λ r. IsTooHeavy (stock work.old) r (kept_scalar (file_object_of file.now) (state_of (stock work.old)))) }
+{
+    work.charge(1)?;
+    let variable = work.fresh(file.object.kind)?;
+    let value = first_value(&file.first)?;
+    Ok(Kept { variable, value })
+}
+
+/// Whether an object of file scope is a scalar that is not const.
+fn is_kept(file: &FileObject) -> bool
+    ensures { result ≡ is_kept (file_object_of file.now) }
+{
+    file.object.lengths.is_empty() && !file.object.constant
 }
 
 /// What stands for the objects of file scope.
@@ -73,38 +134,87 @@ fn file_homes(
     work: &mut Work,
     file: &[FileObject],
     kept: &[Kept],
-) -> Result<Vec<Home>, Fail> {
+) -> Result<Vec<Home>, Fail>
+    ensures made { IfOk result (λ v. IsMade (stock work.old) (stock work.new) v.items (file_homes (map file_object_of file.now) kept.now [] (state_of (stock work.old)))) }
+    ensures refused { IfRefused result (λ r. IsTooHeavy (stock work.old) r (file_homes (map file_object_of file.now) kept.now [] (state_of (stock work.old)))) }
+{
     let mut homes = Vec::with_capacity(alloc, file.len())?;
-    let mut variables = kept.iter();
+    let mut kept = kept;
     for object in file {
-        let home = if !object.object.lengths.is_empty() {
-            file_array(alloc, work, object)?
-        } else if object.object.constant {
-            Home::Constant(first_value(&object.first)?)
-        } else {
-            Home::Variable(variables.next().ok_or(impossible())?.variable)
-        };
+        let home = file_home(alloc, work, object, kept)?;
+        homes.push(home)?;
+        kept = kept_behind(object, kept);
+    }
+    Ok(homes)
+}
+
+/// What stands for an object of file scope: the first of these variables for a scalar that is not const.
+fn file_home(alloc: Global, work: &mut Work, file: &FileObject, kept: &[Kept]) -> Result<Home, Fail>
+    ensures made { IfOk result (λ v. IsMade (stock work.old) (stock work.new) v (file_home (file_object_of file.now) kept.now (state_of (stock work.old)))) }
+    ensures refused { IfRefused result (λ r. IsTooHeavy (stock work.old) r (file_home (file_object_of file.now) kept.now (state_of (stock work.old)))) }
+{
+    if !file.object.lengths.is_empty() {
+        return file_array(alloc, work, file);
+    }
+    if file.object.constant {
+        return Ok(Home::Constant(first_value(&file.first)?));
+    }
+    let first = kept.first().ok_or(impossible())?;
+    Ok(Home::Variable(first.variable))
+}
+
+/// The variables of the objects behind this one.
+fn kept_behind<'k>(file: &FileObject, kept: &'k [Kept]) -> &'k [Kept]
+    ensures { result.now ≡ kept_behind (file_object_of file.now) kept.now }
+{
+    if is_kept(file) && !kept.is_empty() {
+        &kept[1..]
+    } else {
+        kept
+    }
+}
+
+/// What stands for the parameters of the top function.
+fn parameters(alloc: Global, work: &mut Work, top: &CoreFunction) -> Result<Vec<Home>, AllocError>
+    ensures { IfOk result (λ v. IsMade (stock work.old) (stock work.new) v.items (top_parameters (take top.now.params (map core_object_of top.now.objects.items)) [] (state_of (stock work.old)))) }
+{
+    let mut homes = Vec::with_capacity(alloc, top.objects.len())?;
+    for object in params_of(top) {
+        let home = parameter(alloc, work, object)?;
         homes.push(home)?;
     }
     Ok(homes)
 }
 
-/// What stands for the parameters of the top function: variables, and arrays that the host reaches.
-fn parameters(alloc: Global, work: &mut Work, top: &CoreFunction) -> Result<Vec<Home>, AllocError> {
-    let mut homes = Vec::with_capacity(alloc, top.objects.len())?;
-    for object in top.objects.iter().take(top.params as usize) {
-        let home = if object.lengths.is_empty() {
-            Home::Variable(work.fresh(object.kind)?)
-        } else {
-            host_array(alloc, work, object)?
-        };
-        homes.push(home)?;
+/// The objects of a function that are its parameters.
+#[tactic(auto, using(crate::proofs::Homes::taken_objects))]
+fn params_of(function: &CoreFunction) -> &[CoreObject]
+    ensures { map core_object_of result.now ≡ take function.now.params (map core_object_of function.now.objects.items) }
+{
+    let objects = function.objects.as_slice();
+    let params = function.params as usize;
+    if params <= objects.len() {
+        &objects[..params]
+    } else {
+        objects
     }
-    Ok(homes)
+}
+
+/// A variable, or an array that the host reaches.
+fn parameter(alloc: Global, work: &mut Work, object: &CoreObject) -> Result<Home, AllocError>
+    ensures { IfOk result (λ h. IsMade (stock work.old) (stock work.new) h (top_parameter (core_object_of object.now) (state_of (stock work.old)))) }
+{
+    if object.lengths.is_empty() {
+        Ok(Home::Variable(work.fresh(object.kind)?))
+    } else {
+        host_array(alloc, work, object)
+    }
 }
 
 /// The variables among these.
-fn variables_of(alloc: Global, homes: &[Home]) -> Result<Vec<VarId>, AllocError> {
+fn variables_of(alloc: Global, homes: &[Home]) -> Result<Vec<VarId>, AllocError>
+    ensures { IfOk result (λ v. v.items ≡ variables_of homes.now) }
+{
     let mut variables = Vec::new(alloc);
     for home in homes {
         if let Home::Variable(variable) = home {

@@ -1,46 +1,31 @@
 //! Expressions: the pieces that have to come before them, and the value that is left.
+ghost use Rattle.std.specs.Prelude.{◌≡◌};
+ghost use Rattle.std.specs.Option.{option_map};
+ghost use Rattle.core_program.specs.CoreView.{core_of};
+ghost use Rattle.pieces.specs.View.{pure_of};
+ghost use Rattle.c_expand.specs.Expressions.{may_be_unused, value_or_zero};
+
 use crate::calls::called;
-use crate::here::Here;
+use crate::here::{Here, deeper};
+use crate::operators::{Step, chosen, linked};
 use c_token::ctype::CType;
-use c_tree::operator::{Binary, Unary};
-use core_program::expression::{Cell, CoreExpr};
-use hls_base::number::VarId;
+use c_tree::operator::Binary;
+use core_program::expression::{Cell, CoreExpr, CoreTarget};
 use hls_base::place::Place;
-use hls_base::point::PointKind;
 use hls_base::refusal::{Fail, impossible};
-use piece_making::assignments::{Change, assigned, bumped};
-use piece_making::build::{Operator, binary, bit, cast, choice, unary};
+use piece_making::assignments::{Change, bumped};
+use piece_making::build::{Operator, bit, element};
 use piece_making::effects::{Effects, NO_EFFECTS, effects_of, effects_of_all};
 use piece_making::saving::save;
 use piece_making::work::Work;
-use pieces::piece::Piece;
 use pieces::pure_expr::Pure;
-use pieces::pure_kind::kind_of;
-
-/// An operator with all but the operand that a chain of operators goes on with. An assignment has the subscripts of its target, which are evaluated before.
-#[derive(Drop)]
-enum Step<'e> {
-    Unary {
-        op: Unary,
-        kind: CType,
-        at: Place,
-    },
-    Cast {
-        to: CType,
-    },
-    Binary {
-        operator: Operator,
-        right: &'e CoreExpr,
-    },
-    Assign(Change<'e>),
-}
 
 /// The value of an expression, behind the pieces that it needs. Operators are gone through in a loop, so that the depth of the recursion is bounded by how deep the source nests.
 #[cycle(expansion)]
 pub fn expression(here: Here, work: &mut Work, e: &CoreExpr) -> Result<Pure, Fail> {
-    let here = here.deeper()?;
-    let frame = here.frame;
-    let mut steps = Vec::new(frame.context.alloc);
+    let depth = deeper(here.depth)?;
+    let here = Here { depth, ..here };
+    let mut steps = Vec::new(here.frame.context.alloc);
     let mut part = e;
     'chain: loop {
         match part {
@@ -74,60 +59,50 @@ pub fn expression(here: Here, work: &mut Work, e: &CoreExpr) -> Result<Pure, Fai
                 value,
                 at,
             } => {
-                let later = effects_of(value);
-                let subscripts = operands(here, work, &target.subscripts, later)?;
-                let op = *op;
-                let at = *at;
-                steps.push(Step::Assign(Change {
-                    target,
-                    subscripts,
-                    op,
-                    at,
-                }))?;
+                let change = assignment(here, work, target, *op, value, *at)?;
+                steps.push(Step::Assign(change))?;
                 part = value;
             }
-            _ => break 'chain,
+            CoreExpr::Comma { left, right } => {
+                let unused = may_be_unused(left);
+                steps.push(Step::Comma { unused, right })?;
+                part = left;
+            }
+            _ => {
+                let first = innermost(here, work, part)?;
+                return joined(here, work, first, steps);
+            }
         }
     }
-    let first = innermost(here, work, part)?;
-    joined(here, work, first, steps)
 }
 
 /// An expression at whose top no operator of a chain stands.
 #[inline(never)]
 #[cycle(expansion)]
 fn innermost(here: Here, work: &mut Work, e: &CoreExpr) -> Result<Pure, Fail> {
-    let here = here.deeper()?;
-    let frame = here.frame;
+    let depth = deeper(here.depth)?;
+    let here = Here { depth, ..here };
     match e {
         CoreExpr::Number { value, kind } => Ok(Pure::Number {
             value: *value,
             kind: *kind,
         }),
-        CoreExpr::Scalar { cell, kind, .. } => Ok(frame.scalar(*cell, *kind)?),
+        CoreExpr::Scalar { cell, kind, .. } => Ok(here.frame.scalar(*cell, *kind)?),
         CoreExpr::Element {
             array,
             subscripts,
             kind,
             at,
-        } => {
-            let subscripts = operands(here, work, subscripts, NO_EFFECTS)?;
-            Ok(Pure::Element {
-                array: frame.array(work, *array)?,
-                subscripts,
-                kind: *kind,
-                at: *at,
-            })
-        }
+        } => element_of(here, work, *array, subscripts, *kind, *at),
         CoreExpr::Call {
             function,
             args,
             at,
             ..
-        } => match called(here, work, *function, args, *at)? {
-            Some(value) => Ok(value),
-            None => Err(Fail::from(impossible())),
-        },
+        } => {
+            let value = called(here, work, *function, args, *at)?;
+            Ok(value_or_zero(value))
+        }
         CoreExpr::Choice { .. } => chosen(here, work, e),
         CoreExpr::Bump {
             target,
@@ -135,198 +110,124 @@ fn innermost(here: Here, work: &mut Work, e: &CoreExpr) -> Result<Pure, Fail> {
             post,
             at,
         } => {
-            let subscripts = operands(here, work, &target.subscripts, NO_EFFECTS)?;
-            let change = Change::bump(target, subscripts, *up, *at);
+            let change = step_by_one(here, work, target, *up, *at)?;
             bumped(here.frame, work, change, *post)
         }
-        CoreExpr::Comma { left, right } => {
-            discard(here, work, left)?;
-            expression(here, work, right)
-        }
-        CoreExpr::Unary { .. }
-        | CoreExpr::Cast { .. }
-        | CoreExpr::Binary { .. }
-        | CoreExpr::Assign { .. } => Err(Fail::from(impossible())),
+        _ => Err(Fail::from(impossible())),
+    }
+}
+
+/// The value of a call that has one.
+fn value_or_zero(value: Option<Pure>) -> Pure
+    ensures { pure_of result ≡ value_or_zero (option_map pure_of value) }
+{
+    match value {
+        Some(value) => value,
+        None => bit(false),
     }
 }
 
 /// The operators of a chain, the last one first, around its first operand.
 #[cycle(expansion)]
 fn joined(here: Here, work: &mut Work, first: Pure, steps: Vec<Step>) -> Result<Pure, Fail> {
-    let here = here.deeper()?;
-    let frame = here.frame;
-    let alloc = frame.context.alloc;
+    let depth = deeper(here.depth)?;
+    let here = Here { depth, ..here };
+    let mut steps = steps;
     let mut part = first;
-    for step in steps.into_iter().rev() {
-        part = match step {
-            Step::Unary { op, kind, at } => unary(alloc, op, part, kind, at)?,
-            Step::Cast { to } => cast(alloc, to, part)?,
-            Step::Binary { operator, right } => operated(here, work, operator, part, right)?,
-            Step::Assign(change) => assigned(here.frame, work, change, part)?,
-        };
+    while let Some(step) = steps.pop() {
+        part = linked(here, work, step, part)?;
     }
     Ok(part)
+}
+
+/// An element that is read.
+#[inline(never)]
+#[cycle(expansion)]
+fn element_of(
+    here: Here,
+    work: &mut Work,
+    array: Cell,
+    subscripts: &[CoreExpr],
+    kind: CType,
+    at: Place,
+) -> Result<Pure, Fail> {
+    let depth = deeper(here.depth)?;
+    let here = Here { depth, ..here };
+    let subscripts = operands(here, work, subscripts, NO_EFFECTS)?;
+    let array = here.frame.array(work, array)?;
+    Ok(element(array, subscripts, kind, at))
+}
+
+/// The target of an assignment of this value, whose subscripts are evaluated.
+#[inline(never)]
+#[cycle(expansion)]
+pub fn assignment<'e>(
+    here: Here,
+    work: &mut Work,
+    target: &'e CoreTarget,
+    op: Option<Binary>,
+    value: &CoreExpr,
+    at: Place,
+) -> Result<Change<'e>, Fail> {
+    let depth = deeper(here.depth)?;
+    let here = Here { depth, ..here };
+    let later = effects_of(value);
+    let subscripts = operands(here, work, &target.subscripts, later)?;
+    Ok(Change {
+        target,
+        subscripts,
+        op,
+        at,
+    })
+}
+
+/// The target of a `++` or `--`, whose subscripts are evaluated.
+#[inline(never)]
+#[cycle(expansion)]
+pub fn step_by_one<'e>(
+    here: Here,
+    work: &mut Work,
+    target: &'e CoreTarget,
+    up: bool,
+    at: Place,
+) -> Result<Change<'e>, Fail> {
+    let depth = deeper(here.depth)?;
+    let here = Here { depth, ..here };
+    let subscripts = operands(here, work, &target.subscripts, NO_EFFECTS)?;
+    Ok(Change::bump(target, subscripts, up, at))
 }
 
 /// Operands from left to right. What each of them reads is saved where a later one, or what comes behind them, has effects.
 #[inline(never)]
 #[cycle(expansion)]
-pub fn operands(
+fn operands(
     here: Here,
     work: &mut Work,
     es: &[CoreExpr],
     behind: Effects,
 ) -> Result<Vec<Pure>, Fail> {
-    let here = here.deeper()?;
-    let frame = here.frame;
-    let mut values = Vec::new(frame.context.alloc);
+    let depth = deeper(here.depth)?;
+    let here = Here { depth, ..here };
+    let context = here.frame.context;
+    let mut values = Vec::new(context.alloc);
     for (i, e) in es.iter().enumerate() {
         let value = expression(here, work, e)?;
-        let later = effects_of_all(&es[i + 1..]).or(behind);
-        values.push(save(frame.context, work, value, later)?)?;
+        let rest = effects_of_all(&es[i + 1..]);
+        let kept = save(context, work, value, rest.or(behind))?;
+        values.push(kept)?;
     }
     Ok(values)
 }
 
-/// A binary operator. `&&` and `||` become a fork where their right operand needs pieces of its own.
-#[inline(never)]
-#[cycle(expansion)]
-fn operated(
-    here: Here,
-    work: &mut Work,
-    operator: Operator,
-    left: Pure,
-    right: &CoreExpr,
-) -> Result<Pure, Fail> {
-    let here = here.deeper()?;
-    let frame = here.frame;
-    let later = effects_of(right);
-    let left = save(frame.context, work, left, later)?;
-    match operator.op {
-        Binary::LogAnd | Binary::LogOr if later.is_some() => {
-            forked(here, work, operator, left, right)
-        }
-        _ => {
-            let right = expression(here, work, right)?;
-            Ok(binary(frame.context.alloc, operator, left, right)?)
-        }
-    }
-}
-
-/// A `&&` or `||` whose right operand is evaluated in a branch.
-#[cycle(expansion)]
-fn forked(
-    here: Here,
-    work: &mut Work,
-    operator: Operator,
-    test: Pure,
-    right: &CoreExpr,
-) -> Result<Pure, Fail> {
-    let here = here.deeper()?;
-    let frame = here.frame;
-    let Operator { op, kind, at } = operator;
-    let alloc = frame.context.alloc;
-    let own = work.fresh(kind)?;
-    let outer = work.begin(alloc);
-    work.mark(frame.point(PointKind::Arm, at)?)?;
-    let value = expression(here, work, right)?;
-    work.set(own, cast(alloc, CType::Bool, value)?)?;
-    let arm = work.finish(outer);
-    let outer = work.begin(alloc);
-    work.set(own, bit(op == Binary::LogOr))?;
-    let other = work.finish(outer);
-    let end = frame.point(PointKind::End, at)?;
-    let (yes, no) = if op == Binary::LogAnd {
-        (arm, other)
-    } else {
-        (other, arm)
-    };
-    work.emit(Piece::Fork { test, yes, no, end })?;
-    Ok(Pure::Variable(own, kind))
-}
-
-/// A `?:`, which becomes a fork where its second or third operand needs pieces of its own.
-#[inline(never)]
-#[cycle(expansion)]
-fn chosen(here: Here, work: &mut Work, e: &CoreExpr) -> Result<Pure, Fail> {
-    let here = here.deeper()?;
-    let frame = here.frame;
-    let CoreExpr::Choice {
-        test,
-        yes,
-        no,
-        kind,
-        at,
-        colon,
-    } = e
-    else {
-        return Err(Fail::from(impossible()));
-    };
-    let later = effects_of(yes).or(effects_of(no));
-    let test = expression(here, work, test)?;
-    if !later.is_some() {
-        let yes = expression(here, work, yes)?;
-        let no = expression(here, work, no)?;
-        return Ok(choice(frame.context.alloc, *kind, test, yes, no)?);
-    }
-    let test = save(frame.context, work, test, later)?;
-    let own = work.fresh(*kind)?;
-    let yes = arm(here, work, own, yes, *at)?;
-    let no = arm(here, work, own, no, *colon)?;
-    let end = frame.point(PointKind::End, *at)?;
-    work.emit(Piece::Fork { test, yes, no, end })?;
-    Ok(Pure::Variable(own, *kind))
-}
-
-/// An arm of a `?:`, which sets the variable of the operator.
-#[cycle(expansion)]
-fn arm(
-    here: Here,
-    work: &mut Work,
-    own: VarId,
-    e: &CoreExpr,
-    at: Place,
-) -> Result<Vec<Piece>, Fail> {
-    let here = here.deeper()?;
-    let frame = here.frame;
-    let outer = work.begin(frame.context.alloc);
-    work.mark(frame.point(PointKind::Arm, at)?)?;
-    let value = expression(here, work, e)?;
-    work.set(own, value)?;
-    Ok(work.finish(outer))
-}
-
-/// The left operand of a comma. It is set into a variable of its own, unless it is a call, a comma or a change.
-#[inline(never)]
-#[cycle(expansion)]
-fn discard(here: Here, work: &mut Work, e: &CoreExpr) -> Result<(), Fail> {
-    let here = here.deeper()?;
-    let frame = here.frame;
-    let mut behind: Vec<&CoreExpr> = Vec::new(frame.context.alloc);
-    let mut part = e;
-    while let CoreExpr::Comma { left, right } = part {
-        behind.push(right)?;
-        part = left;
-    }
-    match part {
-        CoreExpr::Call {
-            function,
-            args,
-            at,
-            ..
-        } => {
-            let _ = called(here, work, *function, args, *at)?;
-        }
-        CoreExpr::Assign { .. } | CoreExpr::Bump { .. } => {
-            let _ = expression(here, work, part)?;
-        }
-        _ => {
-            let value = expression(here, work, part)?;
-            let _ = work.set_own(kind_of(&value), value)?;
-        }
-    }
-    for right in behind.into_iter().rev() {
-        let _ = expression(here, work, right)?;
-    }
-    Ok(())
+/// Whether an expression is a call, a comma or a change, whose value is let go where it is not used.
+fn may_be_unused(e: &CoreExpr) -> bool
+    ensures { result ≡ may_be_unused (core_of e.now) }
+{
+    matches!(
+        e,
+        CoreExpr::Call { .. }
+            | CoreExpr::Assign { .. }
+            | CoreExpr::Bump { .. }
+            | CoreExpr::Comma { .. }
+    )
 }

@@ -10,56 +10,19 @@ use std::alloc::AllocError;
 pub struct Here<'f> {
     pub frame: &'f Frame<'f>,
     pub calls: usize,
-    depth: u32,
+    pub depth: u32,
 }
 
-impl<'f> Here<'f> {
-    /// The greatest depth.
-    pub fn outermost(frame: &'f Frame<'f>, calls: usize) -> Here<'f>
-        ensures calls { result.calls ≡ calls }
-        ensures frame { result.frame ≡ frame.entry }
-    {
-        Here {
-            frame,
-            calls,
-            depth: u32::MAX,
-        }
-    }
+/// One less. A program does not nest as deep as that there is no more.
+pub fn deeper(depth: u32) -> Result<u32, AllocError>
+    ensures { IfOk result (λ d. d + 1 ≡ depth) }
+{
+    depth.checked_sub(1).ok_or(impossible())
+}
 
-    /// One deeper. A program does not nest as deep as that there is no more.
-    pub fn deeper(self) -> Result<Here<'f>, AllocError>
-        ensures depth { IfOk result (λ h. h.depth + 1 ≡ self.entry.depth) }
-        ensures calls { IfOk result (λ h. h.calls ≡ self.entry.calls) }
-        ensures frame { IfOk result (λ h. h.frame ≡ self.entry.frame) }
-    {
-        let Here {
-            frame,
-            calls,
-            depth,
-        } = self;
-        if depth == 0 {
-            return Err(impossible());
-        }
-        Ok(Here {
-            frame,
-            calls,
-            depth: depth - 1,
-        })
-    }
-
-    /// In a call that is opened here. A program without recursion opens no more than it has functions.
-    pub fn opened(self, frame: &'f Frame<'f>) -> Result<Here<'f>, AllocError>
-        ensures depth { IfOk result (λ h. h.depth ≡ self.entry.depth) }
-        ensures calls { IfOk result (λ h. h.calls + 1 ≡ self.entry.calls) }
-        ensures frame { IfOk result (λ h. h.frame ≡ frame.entry) }
-    {
-        if self.calls == 0 {
-            return Err(impossible());
-        }
-        Ok(Here {
-            frame,
-            calls: self.calls - 1,
-            depth: self.depth,
-        })
-    }
+/// How many calls may be opened in one that is opened here. A program without recursion opens no more than it has functions.
+pub fn one_more_open(calls: usize) -> Result<usize, AllocError>
+    ensures { IfOk result (λ n. n + 1 ≡ calls) }
+{
+    calls.checked_sub(1).ok_or(impossible())
 }

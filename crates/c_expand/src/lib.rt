@@ -2,7 +2,9 @@
 #![tactic(auto)]
 
 mod calls;
+mod declarations;
 pub mod expand;
 mod expressions;
 mod here;
+mod operators;
 mod statements;

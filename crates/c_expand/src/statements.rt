@@ -1,79 +1,72 @@
 //! Statements.
-use crate::calls::called;
-use crate::expressions::{expression, operands};
-use crate::here::Here;
-use c_value::kind::INT;
+ghost use Rattle.std.specs.Prelude.{◌≡◌, ◌&&◌, IfOk, map, [], true, false, Some};
+ghost use Rattle.std.specs.Option.{option_map};
+ghost use Rattle.hls_base.specs.Refusals.{IfRefused};
+ghost use Rattle.core_program.specs.CoreView.{core_of, core_stmt_of, core_action_of};
+ghost use Rattle.piece_making.specs.Calls.{call_of};
+ghost use Rattle.piece_making.specs.Stocks.{IsMade, IsTooHeavy, state_of, stock};
+ghost use Rattle.c_expand.specs.Loops.{loop_of, loop_tree};
+ghost use Rattle.c_expand.specs.Statements.{labelled};
+
+use crate::declarations::declare;
+use crate::expressions::{assignment, expression, step_by_one};
+use crate::here::{Here, deeper};
+use crate::operators::set_unused;
 use core_program::expression::CoreExpr;
-use core_program::statement::{CoreAction, CoreElse, CoreInit, CoreStmt};
-use hls_base::number::ArrayId;
+use core_program::statement::{CoreAction, CoreElse, CoreStmt};
 use hls_base::place::Place;
 use hls_base::point::PointKind;
 use hls_base::refusal::{Fail, impossible};
-use piece_making::assignments::{Change, apply};
+use piece_making::assignments::apply;
 use piece_making::build::bit;
-use piece_making::effects::{NO_EFFECTS, effects_of};
-use piece_making::frame::{Frame, Home};
-use piece_making::objects::local_array;
+use piece_making::frame::Frame;
 use piece_making::work::Work;
 use pieces::piece::Piece;
 use pieces::pure_expr::Pure;
-use pieces::pure_kind::kind_of;
-use std::alloc::{AllocError, Global};
 
 /// The statements of a block. `tail` tells whether the block is in a tail position.
 #[inline(never)]
 #[cycle(expansion)]
 pub fn block(here: Here, work: &mut Work, body: &[CoreStmt], tail: bool) -> Result<(), Fail> {
-    let here = here.deeper()?;
+    let depth = deeper(here.depth)?;
+    let here = Here { depth, ..here };
     let count = body.len();
     for (i, stmt) in body.iter().enumerate() {
-        let is_last = count - i == 1;
-        statement(here, work, stmt, tail && is_last)?;
+        let is_last = both(tail, count - i == 1);
+        statement(here, work, stmt, is_last)?;
     }
     Ok(())
+}
+
+fn both(a: bool, b: bool) -> bool
+    ensures { result ≡ (a && b) }
+{
+    a && b
 }
 
 #[inline(never)]
 #[cycle(expansion)]
 fn statement(here: Here, work: &mut Work, stmt: &CoreStmt, tail: bool) -> Result<(), Fail> {
-    let here = here.deeper()?;
-    let frame = here.frame;
+    let depth = deeper(here.depth)?;
+    let here = Here { depth, ..here };
     match stmt {
         CoreStmt::Block { body, .. } => block(here, work, body, tail),
         CoreStmt::Declare { object, init } => declare(here, work, *object, init),
-        CoreStmt::Act(es) => actions(here, work, es),
+        CoreStmt::Act(list) => actions(here, work, list),
         CoreStmt::If { test, yes, no, at } => {
             let test = expression(here, work, test)?;
             let yes = branch(here, work, yes, tail, *at)?;
             let no = second_branch(here, work, no, tail)?;
-            let end = frame.point(PointKind::End, *at)?;
+            let end = here.frame.point(PointKind::End, *at)?;
             work.emit(Piece::Fork { test, yes, no, end })
         }
         CoreStmt::Switch { test, body, at, .. } => switch(here, work, test, body, *at),
         CoreStmt::Case { value, body, at } => {
-            label(frame, work, *value, *at)?;
+            label(here.frame, work, *value, *at)?;
             statement(here, work, body, false)
         }
-        CoreStmt::While { test, body, at } => {
-            let parts = Loop {
-                post: false,
-                test: Some(test),
-                body,
-                step: &[],
-                at: *at,
-            };
-            repeat(here, work, parts)
-        }
-        CoreStmt::Do { body, test, at } => {
-            let parts = Loop {
-                post: true,
-                test: Some(test),
-                body,
-                step: &[],
-                at: *at,
-            };
-            repeat(here, work, parts)
-        }
+        CoreStmt::While { test, body, at } => repeat(here, work, Loop::of_while(test, body, *at)),
+        CoreStmt::Do { body, test, at } => repeat(here, work, Loop::of_do(test, body, *at)),
         CoreStmt::For {
             init,
             test,
@@ -83,14 +76,7 @@ fn statement(here: Here, work: &mut Work, stmt: &CoreStmt, tail: bool) -> Result
             ..
         } => {
             block(here, work, init, false)?;
-            let parts = Loop {
-                post: false,
-                test: test.as_ref(),
-                body,
-                step,
-                at: *at,
-            };
-            repeat(here, work, parts)
+            repeat(here, work, Loop::of_for(test, step, body, *at))
         }
         CoreStmt::Break => work.emit(Piece::Break),
         CoreStmt::Continue => work.emit(Piece::Next),
@@ -107,10 +93,11 @@ fn branch(
     tail: bool,
     at: Place,
 ) -> Result<Vec<Piece>, Fail> {
-    let here = here.deeper()?;
-    let frame = here.frame;
-    let outer = work.begin(frame.context.alloc);
-    work.mark(frame.point(PointKind::Arm, at)?)?;
+    let depth = deeper(here.depth)?;
+    let here = Here { depth, ..here };
+    let outer = work.begin(here.frame.context.alloc);
+    let point = here.frame.point(PointKind::Arm, at)?;
+    work.mark(point)?;
     statement(here, work, stmt, tail)?;
     Ok(work.finish(outer))
 }
@@ -122,18 +109,22 @@ fn second_branch(
     no: &Option<CoreElse>,
     tail: bool,
 ) -> Result<Vec<Piece>, Fail> {
-    let here = here.deeper()?;
-    let frame = here.frame;
+    let depth = deeper(here.depth)?;
+    let here = Here { depth, ..here };
     match no {
-        None => Ok(Vec::new(frame.context.alloc)),
+        None => Ok(Vec::new(here.frame.context.alloc)),
         Some(part) => branch(here, work, &part.body, tail, part.at),
     }
 }
 
 /// A label of the switch round it, and its mark.
-fn label(frame: &Frame, work: &mut Work, value: Option<u64>, at: Place) -> Result<(), Fail> {
+fn label(frame: &Frame, work: &mut Work, value: Option<u64>, at: Place) -> Result<(), Fail>
+    ensures made { IfOk result (λ v. IsMade (stock work.old) (stock work.new) v (labelled (call_of frame.now) value at (state_of (stock work.old)))) }
+    ensures refused { IfRefused result (λ r. IsTooHeavy (stock work.old) r (labelled (call_of frame.now) value at (state_of (stock work.old)))) }
+{
     work.label(value)?;
-    work.mark(frame.point(PointKind::Arm, at)?)
+    let point = frame.point(PointKind::Arm, at)?;
+    work.mark(point)
 }
 
 #[inline(never)]
@@ -145,16 +136,16 @@ fn switch(
     body: &[CoreStmt],
     at: Place,
 ) -> Result<(), Fail> {
-    let here = here.deeper()?;
-    let frame = here.frame;
-    let alloc = frame.context.alloc;
+    let depth = deeper(here.depth)?;
+    let here = Here { depth, ..here };
+    let alloc = here.frame.context.alloc;
     let test = expression(here, work, test)?;
     let outer = work.begin(alloc);
     let outer_labels = work.begin_labels(alloc);
     block(here, work, body, false)?;
     let labels = work.finish_labels(outer_labels);
     let body = work.finish(outer);
-    let end = frame.point(PointKind::End, at)?;
+    let end = here.frame.point(PointKind::End, at)?;
     work.emit(Piece::Pick {
         test,
         labels,
@@ -164,8 +155,8 @@ fn switch(
 }
 
 /// The parts of a loop. Without a test it has the number 1.
-#[derive(Drop)]
-struct Loop<'s> {
+#[derive(Clone, Copy)]
+pub struct Loop<'s> {
     post: bool,
     test: Option<&'s CoreExpr>,
     body: &'s CoreStmt,
@@ -173,11 +164,57 @@ struct Loop<'s> {
     at: Place,
 }
 
+impl<'s> Loop<'s> {
+    /// A `while`.
+    fn of_while(test: &'s CoreExpr, body: &'s CoreStmt, at: Place) -> Loop<'s>
+        ensures { loop_of result ≡ loop_tree false (Some (core_of test.now)) (core_stmt_of body.now) [] at }
+    {
+        Loop {
+            post: false,
+            test: Some(test),
+            body,
+            step: &[],
+            at,
+        }
+    }
+
+    /// A `do`.
+    fn of_do(test: &'s CoreExpr, body: &'s CoreStmt, at: Place) -> Loop<'s>
+        ensures { loop_of result ≡ loop_tree true (Some (core_of test.now)) (core_stmt_of body.now) [] at }
+    {
+        Loop {
+            post: true,
+            test: Some(test),
+            body,
+            step: &[],
+            at,
+        }
+    }
+
+    /// A `for` behind its first part.
+    fn of_for(
+        test: &'s Option<CoreExpr>,
+        step: &'s [CoreAction],
+        body: &'s CoreStmt,
+        at: Place,
+    ) -> Loop<'s>
+        ensures { loop_of result ≡ loop_tree false (option_map core_of test.now) (core_stmt_of body.now) (map core_action_of step.now) at }
+    {
+        Loop {
+            post: false,
+            test: test.as_ref(),
+            body,
+            step,
+            at,
+        }
+    }
+}
+
 #[inline(never)]
 #[cycle(expansion)]
 fn repeat(here: Here, work: &mut Work, parts: Loop) -> Result<(), Fail> {
-    let here = here.deeper()?;
-    let frame = here.frame;
+    let depth = deeper(here.depth)?;
+    let here = Here { depth, ..here };
     let Loop {
         post,
         test,
@@ -185,21 +222,16 @@ fn repeat(here: Here, work: &mut Work, parts: Loop) -> Result<(), Fail> {
         step,
         at,
     } = parts;
-    let alloc = frame.context.alloc;
+    let alloc = here.frame.context.alloc;
     let id = work.next_loop()?;
     let outer = work.begin(alloc);
-    work.mark(frame.point(PointKind::Test, at)?)?;
-    let test = match test {
-        None => bit(true),
-        Some(test) => expression(here, work, test)?,
-    };
+    let start = here.frame.point(PointKind::Test, at)?;
+    work.mark(start)?;
+    let test = tested(here, work, test)?;
     let before = work.finish(outer);
-    let outer = work.begin(alloc);
-    work.mark(frame.point(PointKind::Body, at)?)?;
-    statement(here, work, body, false)?;
-    let body = work.finish(outer);
+    let body = loop_body(here, work, body, at)?;
     let step = step_of(here, work, step, at)?;
-    let end = frame.point(PointKind::End, at)?;
+    let end = here.frame.point(PointKind::End, at)?;
     work.emit(Piece::Repeat {
         id,
         post,
@@ -211,6 +243,28 @@ fn repeat(here: Here, work: &mut Work, parts: Loop) -> Result<(), Fail> {
     })
 }
 
+#[cycle(expansion)]
+fn tested(here: Here, work: &mut Work, test: Option<&CoreExpr>) -> Result<Pure, Fail> {
+    let depth = deeper(here.depth)?;
+    let here = Here { depth, ..here };
+    match test {
+        None => Ok(bit(true)),
+        Some(test) => expression(here, work, test),
+    }
+}
+
+/// The body of a loop, behind its mark.
+#[cycle(expansion)]
+fn loop_body(here: Here, work: &mut Work, body: &CoreStmt, at: Place) -> Result<Vec<Piece>, Fail> {
+    let depth = deeper(here.depth)?;
+    let here = Here { depth, ..here };
+    let outer = work.begin(here.frame.context.alloc);
+    let point = here.frame.point(PointKind::Body, at)?;
+    work.mark(point)?;
+    statement(here, work, body, false)?;
+    Ok(work.finish(outer))
+}
+
 /// The third part of a `for`, if there is one.
 #[cycle(expansion)]
 fn step_of(
@@ -219,50 +273,78 @@ fn step_of(
     step: &[CoreAction],
     at: Place,
 ) -> Result<Vec<Piece>, Fail> {
-    let here = here.deeper()?;
-    let frame = here.frame;
-    let outer = work.begin(frame.context.alloc);
-    if !step.is_empty() {
-        work.mark(frame.point(PointKind::Step, at)?)?;
-        actions(here, work, step)?;
-    }
+    let depth = deeper(here.depth)?;
+    let here = Here { depth, ..here };
+    let outer = work.begin(here.frame.context.alloc);
+    stepped(here, work, step, at)?;
     Ok(work.finish(outer))
+}
+
+#[cycle(expansion)]
+fn stepped(here: Here, work: &mut Work, step: &[CoreAction], at: Place) -> Result<(), Fail> {
+    let depth = deeper(here.depth)?;
+    let here = Here { depth, ..here };
+    if step.is_empty() {
+        return Ok(());
+    }
+    let point = here.frame.point(PointKind::Step, at)?;
+    work.mark(point)?;
+    actions(here, work, step)
 }
 
 /// A return. In a tail position control goes on to the end of the call by itself.
 #[cycle(expansion)]
 fn returned(here: Here, work: &mut Work, value: &Option<CoreExpr>, tail: bool) -> Result<(), Fail> {
-    let here = here.deeper()?;
-    let frame = here.frame;
-    if let Some(e) = value {
-        let value = expression(here, work, e)?;
-        let result = frame.result.ok_or(impossible())?;
-        work.set(result, value)?;
-    }
+    let depth = deeper(here.depth)?;
+    let here = Here { depth, ..here };
+    set_result(here, work, value)?;
     if tail {
-        Ok(())
-    } else {
-        work.emit(Piece::Leave(frame.call))
+        return Ok(());
+    }
+    work.emit(Piece::Leave(here.frame.call))
+}
+
+/// Sets the variable of the call's result.
+#[cycle(expansion)]
+fn set_result(here: Here, work: &mut Work, value: &Option<CoreExpr>) -> Result<(), Fail> {
+    let depth = deeper(here.depth)?;
+    let here = Here { depth, ..here };
+    match value {
+        None => Ok(()),
+        Some(e) => {
+            let value = expression(here, work, e)?;
+            let result = here.frame.result.ok_or(impossible())?;
+            work.set(result, value)
+        }
     }
 }
 
 #[inline(never)]
 #[cycle(expansion)]
 fn actions(here: Here, work: &mut Work, list: &[CoreAction]) -> Result<(), Fail> {
-    let here = here.deeper()?;
-    for action in list {
-        match action {
-            CoreAction::Change(e) => changed(here, work, e)?,
-            CoreAction::Value(e) => valued(here, work, e)?,
-        }
+    let depth = deeper(here.depth)?;
+    let here = Here { depth, ..here };
+    for one in list {
+        action(here, work, one)?;
     }
     Ok(())
+}
+
+#[cycle(expansion)]
+fn action(here: Here, work: &mut Work, one: &CoreAction) -> Result<(), Fail> {
+    let depth = deeper(here.depth)?;
+    let here = Here { depth, ..here };
+    match one {
+        CoreAction::Change(e) => changed(here, work, e),
+        CoreAction::Value(e) => valued(here, work, e),
+    }
 }
 
 /// An assignment, `++` or `--` that stands by itself.
 #[cycle(expansion)]
 fn changed(here: Here, work: &mut Work, e: &CoreExpr) -> Result<(), Fail> {
-    let here = here.deeper()?;
+    let depth = deeper(here.depth)?;
+    let here = Here { depth, ..here };
     match e {
         CoreExpr::Assign {
             target,
@@ -270,21 +352,14 @@ fn changed(here: Here, work: &mut Work, e: &CoreExpr) -> Result<(), Fail> {
             value,
             at,
         } => {
-            let subscripts = operands(here, work, &target.subscripts, effects_of(value))?;
+            let change = assignment(here, work, target, *op, value, *at)?;
             let value = expression(here, work, value)?;
-            let (op, at) = (*op, *at);
-            let made = Change {
-                target,
-                subscripts,
-                op,
-                at,
-            };
-            apply(here.frame, work, made, value)
+            apply(here.frame, work, change, value)
         }
         CoreExpr::Bump { target, up, at, .. } => {
-            let subscripts = operands(here, work, &target.subscripts, NO_EFFECTS)?;
-            let made = Change::bump(target, subscripts, *up, *at);
-            apply(here.frame, work, made, bit(true))
+            let change = step_by_one(here, work, target, *up, *at)?;
+            let one = bit(true);
+            apply(here.frame, work, change, one)
         }
         _ => valued(here, work, e),
     }
@@ -293,90 +368,11 @@ fn changed(here: Here, work: &mut Work, e: &CoreExpr) -> Result<(), Fail> {
 /// Any other expression that stands by itself. Where it is no call, it is set into a variable of its own.
 #[cycle(expansion)]
 fn valued(here: Here, work: &mut Work, e: &CoreExpr) -> Result<(), Fail> {
-    let here = here.deeper()?;
-    if let CoreExpr::Call {
-        function,
-        args,
-        at,
-        ..
-    } = e
-    {
-        let _ = called(here, work, *function, args, *at)?;
+    let depth = deeper(here.depth)?;
+    let here = Here { depth, ..here };
+    let value = expression(here, work, e)?;
+    if matches!(e, CoreExpr::Call { .. }) {
         return Ok(());
     }
-    let value = expression(here, work, e)?;
-    let _ = work.set_own(kind_of(&value), value)?;
-    Ok(())
-}
-
-/// A declaration that is reached.
-#[cycle(expansion)]
-fn declare(here: Here, work: &mut Work, object: u32, init: &CoreInit) -> Result<(), Fail> {
-    let here = here.deeper()?;
-    let frame = here.frame;
-    match frame.local(object)? {
-        Home::Variable(variable) => match init {
-            CoreInit::Unwritten => work.charge(1),
-            CoreInit::Scalar(e) => {
-                let value = expression(here, work, e)?;
-                work.set(variable, value)
-            }
-            CoreInit::Elements(_) => Ok(()),
-        },
-        Home::Local(slot) => {
-            let array = local_array(frame.context.alloc, work, frame.object(object)?)?;
-            work.note_array(slot, array);
-            match init {
-                CoreInit::Elements(items) => fill(here, work, object, array, items),
-                CoreInit::Unwritten | CoreInit::Scalar(_) => Ok(()),
-            }
-        }
-        Home::Array(_) | Home::Constant(_) => Ok(()),
-    }
-}
-
-/// Writes the elements of an array, row by row.
-#[inline(never)]
-#[cycle(expansion)]
-fn fill(
-    here: Here,
-    work: &mut Work,
-    object: u32,
-    array: ArrayId,
-    items: &[Option<CoreExpr>],
-) -> Result<(), Fail> {
-    let here = here.deeper()?;
-    let frame = here.frame;
-    let alloc = frame.context.alloc;
-    let lengths = frame.object(object)?.lengths.as_slice();
-    for (i, item) in items.iter().enumerate() {
-        let value = match item {
-            None => bit(false),
-            Some(e) => expression(here, work, e)?,
-        };
-        let subscripts = subscripts_at(alloc, lengths, i as u64)?;
-        work.emit(Piece::Put {
-            array,
-            subscripts,
-            value,
-            at: frame.function.at,
-        })?;
-    }
-    Ok(())
-}
-
-/// The subscripts of the element with this number, row by row.
-fn subscripts_at(alloc: Global, lengths: &[u32], number: u64) -> Result<Vec<Pure>, AllocError> {
-    let mut subscripts = Vec::new(alloc);
-    let mut rest = number;
-    for length in lengths.iter().rev() {
-        let length = u64::from(*length).max(1);
-        subscripts.push(Pure::Number {
-            value: rest % length,
-            kind: INT,
-        })?;
-        rest /= length;
-    }
-    subscripts.reverse();
-    Ok(subscripts)
+    set_unused(work, value)
 }

@@ -1,0 +1,321 @@
+//! Operators behind their first operand, and those whose operands may not be reached.
+ghost use Rattle.std.specs.Prelude.{◌≡◌, IfOk, map};
+ghost use Rattle.hls_base.specs.Refusals.{IfRefused};
+ghost use Rattle.pieces.specs.View.{pure_of, piece_of};
+ghost use Rattle.piece_making.specs.Calls.{call_of};
+ghost use Rattle.piece_making.specs.Saving.{is_logical};
+ghost use Rattle.piece_making.specs.Stocks.{IsMade, IsTooHeavy, state_of, stock};
+ghost use Rattle.c_expand.specs.Expressions.{decided, fork_of, discarded, set_unused, is_or};
+
+use crate::expressions::expression;
+use crate::here::{Here, deeper};
+use c_token::ctype::CType;
+use c_tree::operator::{Binary, Unary};
+use core_program::expression::CoreExpr;
+use hls_base::number::VarId;
+use hls_base::place::Place;
+use hls_base::point::PointKind;
+use hls_base::refusal::{Fail, impossible};
+use piece_making::assignments::{Change, assigned};
+use piece_making::build::{Operator, binary, bit, cast, choice, unary, variable};
+use piece_making::effects::effects_of;
+use piece_making::frame::Frame;
+use piece_making::saving::save;
+use piece_making::work::Work;
+use pieces::piece::Piece;
+use pieces::pure_expr::Pure;
+use pieces::pure_kind::kind_of;
+
+/// An operator with all but the operand that a chain of operators goes on with. An assignment has the subscripts of its target, which are evaluated before.
+#[derive(Drop)]
+pub enum Step<'e> {
+    Unary {
+        op: Unary,
+        kind: CType,
+        at: Place,
+    },
+    Cast {
+        to: CType,
+    },
+    Binary {
+        operator: Operator,
+        right: &'e CoreExpr,
+    },
+    Assign(Change<'e>),
+    /// The value of its left operand may be let go where `unused` holds.
+    Comma {
+        unused: bool,
+        right: &'e CoreExpr,
+    },
+}
+
+/// An operator behind the operand that it goes on with.
+#[inline(never)]
+#[cycle(expansion)]
+pub fn linked(here: Here, work: &mut Work, step: Step, part: Pure) -> Result<Pure, Fail> {
+    let depth = deeper(here.depth)?;
+    let here = Here { depth, ..here };
+    let alloc = here.frame.context.alloc;
+    match step {
+        Step::Unary { op, kind, at } => Ok(unary(alloc, op, part, kind, at)?),
+        Step::Cast { to } => Ok(cast(alloc, to, part)?),
+        Step::Binary { operator, right } => operated(here, work, operator, part, right),
+        Step::Assign(change) => assigned(here.frame, work, change, part),
+        Step::Comma { unused, right } => {
+            discard(work, unused, part)?;
+            expression(here, work, right)
+        }
+    }
+}
+
+/// The value of an operand of a comma that is not used. It is set into a variable of its own, unless it may be let go.
+fn discard(work: &mut Work, is_let_go: bool, value: Pure) -> Result<(), Fail>
+    ensures made { IfOk result (λ v. IsMade (stock work.old) (stock work.new) v (discarded is_let_go (pure_of value) (state_of (stock work.old)))) }
+    ensures refused { IfRefused result (λ r. IsTooHeavy (stock work.old) r (discarded is_let_go (pure_of value) (state_of (stock work.old)))) }
+{
+    if is_let_go {
+        return Ok(());
+    }
+    set_unused(work, value)
+}
+
+/// A value that is not used is set into a variable of its own.
+pub fn set_unused(work: &mut Work, value: Pure) -> Result<(), Fail>
+    ensures made { IfOk result (λ v. IsMade (stock work.old) (stock work.new) v (set_unused (pure_of value) (state_of (stock work.old)))) }
+    ensures refused { IfRefused result (λ r. IsTooHeavy (stock work.old) r (set_unused (pure_of value) (state_of (stock work.old)))) }
+{
+    let kind = kind_of(&value);
+    let _ = work.set_own(kind, value)?;
+    Ok(())
+}
+
+/// A binary operator. `&&` and `||` become a fork where their right operand needs pieces of its own.
+#[inline(never)]
+#[cycle(expansion)]
+fn operated(
+    here: Here,
+    work: &mut Work,
+    operator: Operator,
+    left: Pure,
+    right: &CoreExpr,
+) -> Result<Pure, Fail> {
+    let depth = deeper(here.depth)?;
+    let here = Here { depth, ..here };
+    let context = here.frame.context;
+    let later = effects_of(right);
+    let left = save(context, work, left, later)?;
+    if is_logical(operator.op) && later.is_some() {
+        return forked(here, work, operator, left, right);
+    }
+    let right = expression(here, work, right)?;
+    Ok(binary(context.alloc, operator, left, right)?)
+}
+
+fn is_logical(op: Binary) -> bool
+    ensures { result ≡ is_logical op }
+{
+    matches!(op, Binary::LogAnd | Binary::LogOr)
+}
+
+fn is_or(op: Binary) -> bool
+    ensures { result ≡ is_or op }
+{
+    matches!(op, Binary::LogOr)
+}
+
+/// A `&&` or `||` whose right operand is evaluated in a branch.
+#[inline(never)]
+#[cycle(expansion)]
+fn forked(
+    here: Here,
+    work: &mut Work,
+    operator: Operator,
+    test: Pure,
+    right: &CoreExpr,
+) -> Result<Pure, Fail> {
+    let depth = deeper(here.depth)?;
+    let here = Here { depth, ..here };
+    let Operator { op, kind, at } = operator;
+    let own = work.fresh(kind)?;
+    let reached = truth_arm(here, work, own, right, at)?;
+    let is_or = is_or(op);
+    let other = decided(here.frame, work, own, is_or)?;
+    if is_or {
+        let arms = Arms {
+            yes: other,
+            no: reached,
+            own,
+            kind,
+            at,
+        };
+        fork(here.frame, work, test, arms)
+    } else {
+        let arms = Arms {
+            yes: reached,
+            no: other,
+            own,
+            kind,
+            at,
+        };
+        fork(here.frame, work, test, arms)
+    }
+}
+
+/// The arms of a fork that an operator becomes, and the variable that they set.
+#[derive(Drop)]
+struct Arms {
+    yes: Vec<Piece>,
+    no: Vec<Piece>,
+    own: VarId,
+    kind: CType,
+    at: Place,
+}
+
+/// A fork of an operator. Its value stands in the variable that the arms set.
+fn fork(frame: &Frame, work: &mut Work, test: Pure, arms: Arms) -> Result<Pure, Fail>
+    ensures made { IfOk result (λ v. IsMade (stock work.old) (stock work.new) (pure_of v) (fork_of (call_of frame.now) arms.at (pure_of test) (map piece_of arms.yes.items) (map piece_of arms.no.items) arms.own arms.kind (state_of (stock work.old)))) }
+    ensures refused { IfRefused result (λ r. IsTooHeavy (stock work.old) r (fork_of (call_of frame.now) arms.at (pure_of test) (map piece_of arms.yes.items) (map piece_of arms.no.items) arms.own arms.kind (state_of (stock work.old)))) }
+{
+    let Arms {
+        yes,
+        no,
+        own,
+        kind,
+        at,
+    } = arms;
+    let end = frame.point(PointKind::End, at)?;
+    work.emit(Piece::Fork { test, yes, no, end })?;
+    Ok(variable(own, kind))
+}
+
+/// The branch of a `&&` or `||` that sets the number 0 or 1.
+fn decided(frame: &Frame, work: &mut Work, own: VarId, is_one: bool) -> Result<Vec<Piece>, Fail>
+    ensures made { IfOk result (λ v. IsMade (stock work.old) (stock work.new) (record { value = tt; pieces = map piece_of v.items }) (decided is_one own (state_of (stock work.old)))) }
+    ensures refused { IfRefused result (λ r. IsTooHeavy (stock work.old) r (decided is_one own (state_of (stock work.old)))) }
+{
+    let outer = work.begin(frame.context.alloc);
+    let number = bit(is_one);
+    work.set(own, number)?;
+    Ok(work.finish(outer))
+}
+
+/// A branch that sets this variable to whether the expression is not 0.
+#[inline(never)]
+#[cycle(expansion)]
+fn truth_arm(
+    here: Here,
+    work: &mut Work,
+    own: VarId,
+    e: &CoreExpr,
+    at: Place,
+) -> Result<Vec<Piece>, Fail> {
+    let depth = deeper(here.depth)?;
+    let here = Here { depth, ..here };
+    let alloc = here.frame.context.alloc;
+    let outer = work.begin(alloc);
+    let point = here.frame.point(PointKind::Arm, at)?;
+    work.mark(point)?;
+    let value = expression(here, work, e)?;
+    let truth = cast(alloc, CType::Bool, value)?;
+    work.set(own, truth)?;
+    Ok(work.finish(outer))
+}
+
+/// A branch that sets this variable to the value of the expression.
+#[inline(never)]
+#[cycle(expansion)]
+fn arm(
+    here: Here,
+    work: &mut Work,
+    own: VarId,
+    e: &CoreExpr,
+    at: Place,
+) -> Result<Vec<Piece>, Fail> {
+    let depth = deeper(here.depth)?;
+    let here = Here { depth, ..here };
+    let outer = work.begin(here.frame.context.alloc);
+    let point = here.frame.point(PointKind::Arm, at)?;
+    work.mark(point)?;
+    let value = expression(here, work, e)?;
+    work.set(own, value)?;
+    Ok(work.finish(outer))
+}
+
+/// The second and third operand of a `?:`.
+#[derive(Clone, Copy)]
+struct Choice<'e> {
+    yes: &'e CoreExpr,
+    no: &'e CoreExpr,
+    kind: CType,
+    at: Place,
+    colon: Place,
+}
+
+/// A `?:`.
+#[inline(never)]
+#[cycle(expansion)]
+pub fn chosen(here: Here, work: &mut Work, e: &CoreExpr) -> Result<Pure, Fail> {
+    let depth = deeper(here.depth)?;
+    let here = Here { depth, ..here };
+    let CoreExpr::Choice {
+        test,
+        yes,
+        no,
+        kind,
+        at,
+        colon,
+    } = e
+    else {
+        return Err(Fail::from(impossible()));
+    };
+    let (kind, at, colon) = (*kind, *at, *colon);
+    let test = expression(here, work, test)?;
+    let operands = Choice {
+        yes,
+        no,
+        kind,
+        at,
+        colon,
+    };
+    selected(here, work, test, operands)
+}
+
+/// A `?:` behind its test. It becomes a fork where its second or third operand needs pieces of its own.
+#[inline(never)]
+#[cycle(expansion)]
+fn selected(here: Here, work: &mut Work, test: Pure, operands: Choice) -> Result<Pure, Fail> {
+    let depth = deeper(here.depth)?;
+    let here = Here { depth, ..here };
+    let context = here.frame.context;
+    let Choice {
+        yes,
+        no,
+        kind,
+        at,
+        colon,
+    } = operands;
+    let second = effects_of(yes);
+    let third = effects_of(no);
+    let later = second.or(third);
+    if !later.is_some() {
+        let yes = expression(here, work, yes)?;
+        let no = expression(here, work, no)?;
+        return Ok(choice(context.alloc, kind, test, yes, no)?);
+    }
+    let test = save(context, work, test, later)?;
+    let own = work.fresh(kind)?;
+    let yes = arm(here, work, own, yes, at)?;
+    let no = arm(here, work, own, no, colon)?;
+    fork(
+        here.frame,
+        work,
+        test,
+        Arms {
+            yes,
+            no,
+            own,
+            kind,
+            at,
+        },
+    )
+}
