@@ -1,0 +1,11 @@
+pub mod Lists
+pub mod Sames
+pub mod Homes
+pub mod Naming
+pub mod Expressions
+pub mod Lifetimes
+pub mod Initialisers
+pub mod Labels
+pub mod Parts
+pub mod Statements
+pub mod Parameters

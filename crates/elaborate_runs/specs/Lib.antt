@@ -1,0 +1,3 @@
+pub mod Same
+pub mod Homes
+pub mod Resolved
