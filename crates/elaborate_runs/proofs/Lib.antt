@@ -9,3 +9,4 @@ pub mod Labels
 pub mod Parts
 pub mod Statements
 pub mod Parameters
+pub mod Functions
