@@ -71,7 +71,7 @@ has_all before (o ∷ os) =
     last_length [] x = refl
     last_length (y ∷ xs) x = omega (arith, last_length xs x)
 
-has_body : (params os : List ObjectTree) → Has (map object_elaborated (params ++ os)) (length params) os
+pub has_body : (params os : List ObjectTree) → Has (map object_elaborated (params ++ os)) (length params) os
 has_body params os =
     subst (λ l. Has l (length params) os) (sym (map-append object_elaborated params os))
     (subst (λ n. Has (map object_elaborated params ++ map object_elaborated os) n os) (length-map params object_elaborated) (has_all (map object_elaborated params) os))

@@ -10,3 +10,4 @@ pub mod Parts
 pub mod Statements
 pub mod Parameters
 pub mod Functions
+pub mod Files

@@ -1,3 +1,4 @@
 pub mod Same
 pub mod Homes
 pub mod Resolved
+pub mod Laws
