@@ -11,3 +11,4 @@ pub mod Statements
 pub mod Parameters
 pub mod Functions
 pub mod Files
+pub mod Runs
