@@ -12,3 +12,5 @@ pub mod Parameters
 pub mod Functions
 pub mod Files
 pub mod Runs
+pub mod Sizes
+pub mod Faultless

@@ -2,3 +2,4 @@ pub mod Same
 pub mod Homes
 pub mod Resolved
 pub mod Laws
+pub mod Known
