@@ -14,3 +14,4 @@ pub mod Files
 pub mod Runs
 pub mod Sizes
 pub mod Faultless
+pub mod FaultlessStatements

@@ -3,3 +3,4 @@ pub mod Homes
 pub mod Resolved
 pub mod Laws
 pub mod Known
+pub mod Grammatical
