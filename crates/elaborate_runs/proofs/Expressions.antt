@@ -6,7 +6,6 @@ use Rattle.hls_base.specs.declared.point.PointKind.TheVariants as point
 use Rattle.hls_base.specs.declared.refusal.UbRule.{UbRule}
 use Rattle.hls_base.specs.declared.refusal.UbRule.TheVariants as ub
 use Rattle.c_token.specs.declared.ctype.CType.{CType}
-use Rattle.c_tree.specs.declared.operator.Unary.{Unary}
 use Rattle.c_tree.specs.declared.operator.Binary.{Binary}
 use Rattle.c_tree.specs.declared.operator.Binary.TheVariants as b
 use Rattle.c_tree.specs.Tree as tree
@@ -41,7 +40,7 @@ use Rattle.c_elaborate.specs.Expressions.{kind_of, elaborated, all_elaborated, a
 use Rattle.c_elaborate.specs.Programs.{signatures}
 use Rattle.elaborate_runs.specs.Same.{Same, Equal, Valued}
 use Rattle.elaborate_runs.specs.Homes.{Home, home, Alike, IsDistinct, placed, IsAt, Named, Stands, IsGiven, AreGiven, AreTaken}
-use Rattle.elaborate_runs.specs.Resolved.{IsDeclared, array_if, array_named, Fits, AllFit, Takes, IsResolved, AreResolved}
+use Rattle.elaborate_runs.specs.Resolved.{IsDeclared, array_named, Fits, AllFit, Takes, IsResolved, AreResolved}
 use Rattle.elaborate_runs.proofs.Sames.{goes_same, then_same, ends_same, then_equal, then_valued, goes_equal, goes_valued, pass_if_same}
 use Rattle.elaborate_runs.proofs.Homes.{read_alike, kind_alike, lengths_alike, write_alike}
 use Rattle.elaborate_runs.proofs.Naming.{resolves}
@@ -261,7 +260,6 @@ given_for homes here p i known lengths false e at fit = (lengths, subst (λ z. s
 module _ (items : List ItemTree) (file : List Binding) (file_names : List Resolution) (c1 : Calls) (c2 : CoreCalls) (calls : CallsSame items file file_names c1 c2) (results : ResultsSame items c1)
     (frame free : ℕ) (spots : ℕ → Spot) (objects : List CoreObjectTree) (homes : List Home) (stands : Stands file file_names homes frame free) (env : Environment) (names : List Resolution)
     (named : Named homes (placed frame spots objects env) env.file env.names names) where
-
   is_at : (text : List ℕ) → IsDeclared names text → IsAt homes (placed frame spots objects env) (object_named env text) (e.object_named names text)
   is_at text known = resolves homes (placed frame spots objects env) env names text named known
 

@@ -1,7 +1,6 @@
 -- Expressions of programs without faults are resolved.
-use Rattle.std.proofs.Common.{◌≡◌, ℕ, zero, suc, ◌+◌, ◌≤◌, ◌==◌, ◌&&◌, ◌||◌, not, ◌∙◌, sym, refl, ap, ap₂, subst, inl, inr, Bool, true, false, true≢false, if◌then◌else◌, bytes_eq, is_some, nat_lt, List, [], ◌∷◌, ◌++◌, map, drop, length, Option, Some, None, ne_eqb, eqb-true, ltb-false, arith}
+use Rattle.std.proofs.Common.{◌≡◌, ℕ, zero, suc, ◌≤◌, ◌==◌, ◌||◌, not, ◌∙◌, sym, refl, ap, subst, Bool, true, false, true≢false, if◌then◌else◌, bytes_eq, is_some, nat_lt, List, [], ◌∷◌, ◌++◌, map, drop, length, Option, Some, None, ne_eqb, eqb-true, ltb-false, arith}
 use Rattle.hls_base.specs.declared.place.Place.{Place}
-use Rattle.hls_base.specs.declared.refusal.Refusal.{Refusal}
 use Rattle.c_token.specs.declared.ctype.CType.{CType}
 use Rattle.c_token.specs.declared.ctype.CType.TheVariants as t
 use Rattle.c_token.specs.Replacement.{is_in, same_type}
@@ -10,21 +9,20 @@ use Rattle.c_tree.specs.Tree.{Tree, TargetTree, Trees, ActionTree, InitTree, Ini
 use Rattle.c_checked.specs.Names.{Shape, is_array, Sense, object, function, Declared, sense_of, count, same_flag, dimension_faults, use_faults, target_faults, is_constant_object}
 use Rattle.c_checked.specs.Faults.{fault, fault_if}
 use Rattle.c_checked.specs.Conflicts.{Access, accesses, all_accesses, read_of, change_of, between, operand_conflicts, conflicts_among, conflicts_inside}
-use Rattle.c_checked.specs.Calls.{same_elements, same_lengths, fits_array, fits, all_fit, called_faults, call_faults, void_faults, params_of, given_faults}
+use Rattle.c_checked.specs.Calls.{same_elements, fits, all_fit, called_faults, call_faults, void_faults, params_of, given_faults}
 use Rattle.c_checked.specs.Expressions.{is_given, name_given_faults, expression_faults, changed_faults, operand_faults, actions_faults, optional_faults, init_faults, inits_faults, expression_of}
-use Rattle.c_checked.specs.Lengths.{item_count, exceeds, overflows, is_misshapen, are_misshapen, shape_of}
+use Rattle.c_checked.specs.Lengths.{item_count, is_misshapen, are_misshapen, shape_of}
 use Rattle.c_meaning.specs.Run.{function_named}
 use Rattle.c_meaning.specs.Statement.{action_tree}
 use Rattle.core_program.specs.declared.expression.Cell.{Cell}
 use Rattle.c_elaborate.specs.declared.names.Known.{Known}
 use Rattle.c_elaborate.specs.declared.names.Binding.{Binding}
 use Rattle.c_elaborate.specs.Names.{object_found, object_named, known_or_int, binding_of}
-use Rattle.elaborate_runs.specs.Homes.{Each}
 use Rattle.elaborate_runs.specs.Resolved.{IsDeclared, array_if, array_named, Fits, AllFit, Takes, IsResolved, AreResolved, IsOptionResolved, ActionsResolved, InitResolved, RowsResolved}
-use Rattle.elaborate_runs.specs.Known.{KnowsObject, AreAlike, KnowsFunction, KnowsSense, Knows}
+use Rattle.elaborate_runs.specs.Known.{AreAlike, KnowsSense, Knows}
 use Rattle.elaborate_runs.proofs.Sizes.{left_nil, right_nil, unbroken, neither, both_true, holds, shape_count}
 
-same_types : (a b : CType) → same_type a b ≡ true → a ≡ b
+pub same_types : (a b : CType) → same_type a b ≡ true → a ≡ b
 same_types t.Bool t.Bool e = refl
 same_types t.Bool (t.Int signed bits) e = absurd (true≢false (sym e))
 same_types (t.Int true bits) t.Bool e = absurd (true≢false (sym e))
@@ -138,9 +136,10 @@ module _ (items : List ItemTree) (bodies : List (List ℕ)) (names : List Declar
   arguments_fit (x ∷ xs) [] args a n fit h = absurd a
   arguments_fit (x ∷ xs) (p ∷ ps) tree.none a n fit h = absurd (omega (arith, n))
   arguments_fit (x ∷ xs) (p ∷ ps) (tree.more arg args) a n fit h =
-      let f = both_true (fits names x arg) (all_fit names xs args) fit in
-      (argument_fits x xs p arg a.0.0 a.0.1 f.0 (left_nil _ (operand_faults bodies names (drop 1 (x ∷ xs)) args) h),
-      arguments_fit xs ps args a.1 (omega (arith, n)) f.1 (subst (λ l. operand_faults bodies names l args ≡ []) (drop_one x xs) (right_nil (if is_given (x ∷ xs) arg then name_given_faults names arg else expression_faults true bodies names arg) (operand_faults bodies names (drop 1 (x ∷ xs)) args) h)))
+      let f = both_true (fits names x arg) (all_fit names xs args) fit in (
+        argument_fits x xs p arg a.0.0 a.0.1 f.0 (left_nil _ (operand_faults bodies names (drop 1 (x ∷ xs)) args) h),
+        arguments_fit xs ps args a.1 (omega (arith, n)) f.1 (subst (λ l. operand_faults bodies names l args ≡ []) (drop_one x xs) (right_nil (if is_given (x ∷ xs) arg then name_given_faults names arg else expression_faults true bodies names arg) (operand_faults bodies names (drop 1 (x ∷ xs)) args) h)),
+      )
 
   taken : (callee : List ℕ) (σ : Option Sense) (q : Option Known) (args : Trees) (at : Place) → called_faults (is_in callee bodies) names σ args at ≡ [] → operand_faults bodies names (params_of σ) args ≡ [] → KnowsSense items bodies callee q σ
       → Takes rs (function_named items callee) args
@@ -184,17 +183,19 @@ module _ (items : List ItemTree) (bodies : List (List ℕ)) (names : List Declar
       let change = change_of names text n at in
       let rest = right_nil (target_faults σ n place) (conflicts_among names [] subscripts ++ (between inner valued ++ (conflicts_inside change inner ++ (conflicts_inside change valued ++ operand_faults bodies names [] subscripts)))) h in
       let rest2 = right_nil (conflicts_among names [] subscripts) (between inner valued ++ (conflicts_inside change inner ++ (conflicts_inside change valued ++ operand_faults bodies names [] subscripts))) rest in
-      let uses = left_nil (target_faults σ n place) (conflicts_among names [] subscripts ++ (between inner valued ++ (conflicts_inside change inner ++ (conflicts_inside change valued ++ operand_faults bodies names [] subscripts)))) h in
-      (declared_name text n place (left_nil (use_faults σ n place) (fault_if (is_constant_object σ) 12 place) uses),
-      fourth (between inner valued) (conflicts_inside change inner) (conflicts_inside change valued) (operand_faults bodies names [] subscripts) rest2)
+      let uses = left_nil (target_faults σ n place) (conflicts_among names [] subscripts ++ (between inner valued ++ (conflicts_inside change inner ++ (conflicts_inside change valued ++ operand_faults bodies names [] subscripts)))) h in (
+        declared_name text n place (left_nil (use_faults σ n place) (fault_if (is_constant_object σ) 12 place) uses),
+        fourth (between inner valued) (conflicts_inside change inner) (conflicts_inside change valued) (operand_faults bodies names [] subscripts) rest2,
+      )
 
   mutual
     pub resolved : (used : Bool) (e : Tree) → expression_faults used bodies names e ≡ [] → IsResolved items rs e
     resolved used (tree.number n kind at) h = tt
     resolved used (tree.name text at) h = declared_name text 0 at h
-    resolved used (tree.index array subscripts at) h =
-        (declared_name array (count subscripts) at (left_nil (use_faults (sense_of array names) (count subscripts) at) _ h),
-        operands_resolved [] subscripts (fourth (use_faults (sense_of array names) (count subscripts) at) (conflicts_among names [] subscripts) (conflicts_inside (read_of names array (count subscripts)) (all_accesses names subscripts)) (operand_faults bodies names [] subscripts) h))
+    resolved used (tree.index array subscripts at) h = (
+      declared_name array (count subscripts) at (left_nil (use_faults (sense_of array names) (count subscripts) at) _ h),
+      operands_resolved [] subscripts (fourth (use_faults (sense_of array names) (count subscripts) at) (conflicts_among names [] subscripts) (conflicts_inside (read_of names array (count subscripts)) (all_accesses names subscripts)) (operand_faults bodies names [] subscripts) h),
+    )
     resolved used (tree.call callee args at) h =
         let operand = operand_faults bodies names (params_of (sense_of callee names)) args in
         let rest = right_nil (if used then void_faults names callee at else []) (call_faults bodies names callee args at ++ (conflicts_among names [] args ++ operand)) h in
@@ -205,9 +206,11 @@ module _ (items : List ItemTree) (bodies : List (List ℕ)) (names : List Declar
         let rest = right_nil (operand_conflicts op (accesses names left) (accesses names right)) (expression_faults true bodies names left ++ expression_faults true bodies names right) h in
         (resolved true left (left_nil (expression_faults true bodies names left) (expression_faults true bodies names right) rest), resolved true right (right_nil (expression_faults true bodies names left) (expression_faults true bodies names right) rest))
     resolved used (tree.choice test left right at colon) h =
-        let rest = right_nil (expression_faults true bodies names test) (expression_faults true bodies names left ++ expression_faults true bodies names right) h in
-        (resolved true test (left_nil (expression_faults true bodies names test) (expression_faults true bodies names left ++ expression_faults true bodies names right) h),
-        resolved true left (left_nil (expression_faults true bodies names left) (expression_faults true bodies names right) rest), resolved true right (right_nil (expression_faults true bodies names left) (expression_faults true bodies names right) rest))
+        let rest = right_nil (expression_faults true bodies names test) (expression_faults true bodies names left ++ expression_faults true bodies names right) h in (
+          resolved true test (left_nil (expression_faults true bodies names test) (expression_faults true bodies names left ++ expression_faults true bodies names right) h),
+          resolved true left (left_nil (expression_faults true bodies names left) (expression_faults true bodies names right) rest),
+          resolved true right (right_nil (expression_faults true bodies names left) (expression_faults true bodies names right) rest),
+        )
     resolved used (tree.cast to arg at) h = resolved true arg h
     resolved used (tree.assign (tree.target text subscripts place) op v at) h =
         let ok = changed_ok text subscripts place at (accesses names v) (left_nil (changed_faults bodies names (tree.target text subscripts place) at (accesses names v)) (expression_faults true bodies names v) h) in
@@ -220,9 +223,10 @@ module _ (items : List ItemTree) (bodies : List (List ℕ)) (names : List Declar
 
     operands_resolved : (params : List Shape) (es : Trees) → operand_faults bodies names params es ≡ [] → AreResolved items rs es
     operands_resolved params tree.none h = tt
-    operands_resolved params (tree.more first rest) h =
-        (one_operand params first (is_given params first) refl (left_nil _ (operand_faults bodies names (drop 1 params) rest) h) (λ g. resolved true first g),
-        operands_resolved (drop 1 params) rest (right_nil (if is_given params first then name_given_faults names first else expression_faults true bodies names first) (operand_faults bodies names (drop 1 params) rest) h))
+    operands_resolved params (tree.more first rest) h = (
+      one_operand params first (is_given params first) refl (left_nil _ (operand_faults bodies names (drop 1 params) rest) h) (λ g. resolved true first g),
+      operands_resolved (drop 1 params) rest (right_nil (if is_given params first then name_given_faults names first else expression_faults true bodies names first) (operand_faults bodies names (drop 1 params) rest) h),
+    )
 
   pub option_resolved : (o : Option Tree) → optional_faults bodies names o ≡ [] → IsOptionResolved items rs o
   option_resolved None h = tt
@@ -235,9 +239,10 @@ module _ (items : List ItemTree) (bodies : List (List ℕ)) (names : List Declar
 
   pub actions_resolved : (actions : List ActionTree) → actions_faults bodies names actions ≡ [] → ActionsResolved items rs actions
   actions_resolved [] h = tt
-  actions_resolved (a ∷ more) h =
-      (subst (λ e. IsResolved items rs e) (same_tree a) (resolved false (expression_of a) (left_nil (expression_faults false bodies names (expression_of a)) (actions_faults bodies names more) h)),
-      actions_resolved more (right_nil (expression_faults false bodies names (expression_of a)) (actions_faults bodies names more) h))
+  actions_resolved (a ∷ more) h = (
+    subst (λ e. IsResolved items rs e) (same_tree a) (resolved false (expression_of a) (left_nil (expression_faults false bodies names (expression_of a)) (actions_faults bodies names more) h)),
+    actions_resolved more (right_nil (expression_faults false bodies names (expression_of a)) (actions_faults bodies names more) h),
+  )
 
   -- ---- initialisers
 
@@ -254,6 +259,7 @@ module _ (items : List ItemTree) (bodies : List (List ℕ)) (names : List Declar
     rows_resolved rows ns tree.no_init le m h = tt
     rows_resolved zero ns (tree.more_inits first rest) le m h = absurd (omega (arith, le))
     rows_resolved (suc rows) ns (tree.more_inits first rest) le m h =
-        let a = neither (is_misshapen (map (λ (n : ℕ). Some n) ns) first) (are_misshapen (map (λ (n : ℕ). Some n) ns) rest) m in
-        (init_resolved ns first a.0 (left_nil (init_faults bodies names first) (inits_faults bodies names rest) h),
-        rows_resolved rows ns rest (omega (arith, le)) a.1 (right_nil (init_faults bodies names first) (inits_faults bodies names rest) h))
+        let a = neither (is_misshapen (map (λ (n : ℕ). Some n) ns) first) (are_misshapen (map (λ (n : ℕ). Some n) ns) rest) m in (
+          init_resolved ns first a.0 (left_nil (init_faults bodies names first) (inits_faults bodies names rest) h),
+          rows_resolved rows ns rest (omega (arith, le)) a.1 (right_nil (init_faults bodies names first) (inits_faults bodies names rest) h),
+        )

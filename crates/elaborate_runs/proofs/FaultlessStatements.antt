@@ -1,7 +1,5 @@
 -- Statements of programs without faults are resolved.
-use Rattle.std.proofs.Common.{◌≡◌, ℕ, ◌+◌, ◌||◌, ◌∙◌, sym, refl, ap, subst, Bool, true, false, if◌then◌else◌, List, [], ◌∷◌, ◌++◌, map, length, Option, Some, None}
-use Rattle.hls_base.specs.declared.place.Place.{Place}
-use Rattle.hls_base.specs.declared.refusal.Refusal.{Refusal}
+use Rattle.std.proofs.Common.{◌≡◌, ℕ, ◌+◌, ◌∙◌, sym, refl, ap, subst, Bool, true, false, if◌then◌else◌, List, [], ◌∷◌, ◌++◌, map, length, Option, Some, None}
 use Rattle.c_tree.specs.Tree as tree
 use Rattle.c_tree.specs.Tree.{Tree, InitTree, ObjectTree, StmtTree, ElseTree, FirstTree, StmtTrees, ParamTree, FunctionTree, ItemTree}
 use Rattle.c_value.specs.Values.{promoted}
@@ -22,9 +20,9 @@ use Rattle.c_elaborate.specs.Scenes.{opened}
 use Rattle.c_elaborate.specs.Programs.{objects_of_params}
 use Rattle.elaborate_runs.specs.Homes.{Each}
 use Rattle.elaborate_runs.specs.Known.{Knows}
-use Rattle.elaborate_runs.specs.Grammatical.{DeclaresInBlocks, ElseDeclaresInBlocks, FirstDeclaresInBlocks, AllDeclareInBlocks, BodyDeclaresInBlocks}
+use Rattle.elaborate_runs.specs.Grammatical.{DeclaresInBlocks, ElseDeclaresInBlocks, FirstDeclaresInBlocks, AllDeclareInBlocks}
 use Rattle.elaborate_runs.specs.Resolved.{HasLengths, IsInitResolved, DeclarationsResolved, StmtResolved, ElseResolved, FirstResolved, StmtsResolved, BodyResolved, switch_scene}
-use Rattle.elaborate_runs.proofs.Sizes.{left_nil, right_nil, unbroken, holds, sized, shaped, has_lengths, Sized}
+use Rattle.elaborate_runs.proofs.Sizes.{left_nil, right_nil, unbroken, sized, shaped, has_lengths}
 use Rattle.elaborate_runs.proofs.Faultless.{knows_declared, resolved, option_resolved, actions_resolved, init_resolved}
 
 -- the names behind a statement are those that it declares itself
@@ -75,12 +73,14 @@ module _ (items : List ItemTree) (bodies : List (List ℕ)) where
       let one = left_nil (object_faults bodies false start names o) (objects_faults bodies false start (with_object o names) os) h in
       let form = form_of false start names o one in
       let inits = right_nil (lengths_faults bodies names o.lengths) (optional_init_faults bodies (with_object o names) o.init)
-          (right_nil (form_faults false o) (lengths_faults bodies names o.lengths ++ optional_init_faults bodies (with_object o names) o.init)
-          (right_nil (fault_if (is_declared_since start o.name names) 8 o.at) (form_faults false o ++ (lengths_faults bodies names o.lengths ++ optional_init_faults bodies (with_object o names) o.init)) one)) in
+      (right_nil (form_faults false o) (lengths_faults bodies names o.lengths ++ optional_init_faults bodies (with_object o names) o.init)
+      (right_nil (fault_if (is_declared_since start o.name names) 8 o.at) (form_faults false o ++ (lengths_faults bodies names o.lengths ++ optional_init_faults bodies (with_object o names) o.init)) one)) in
       let s = sized false o form in
-      let knows1 = knows_declared items bodies names scene.names o (cell_of scope.Call scene.next) knows in
-      (has_lengths o s, initialised o o.init (with_object o names) (scenes.declared scene o).names knows1 s.are (shaped false o form) inits,
-      declarations_resolved start os (with_object o names) (scenes.declared scene o) (right_nil (object_faults bodies false start names o) (objects_faults bodies false start (with_object o names) os) h) knows1)
+      let knows1 = knows_declared items bodies names scene.names o (cell_of scope.Call scene.next) knows in (
+        has_lengths o s,
+        initialised o o.init (with_object o names) (scenes.declared scene o).names knows1 s.are (shaped false o form) inits,
+        declarations_resolved start os (with_object o names) (scenes.declared scene o) (right_nil (object_faults bodies false start names o) (objects_faults bodies false start (with_object o names) os) h) knows1,
+      )
 
   -- ---- statements
 
@@ -93,15 +93,19 @@ module _ (items : List ItemTree) (bodies : List (List ℕ)) where
         let a = expression_faults true bodies names test in
         let b = statement_faults bodies (in_part around) (length names) names body in
         let e = else_faults bodies (in_part around) (length names) names other in
-        let rest = right_nil a (b ++ e) h in
-        (resolved items bodies names scene.names knows true test (left_nil a (b ++ e) h), d.0, statement_resolved body (in_part around) (length names) names scene free (left_nil b e rest) d.1 knows,
-        else_resolved other (in_part around) (length names) names scene (free + length (objects_of body)) (right_nil b e rest) d.2 knows)
+        let rest = right_nil a (b ++ e) h in (
+          resolved items bodies names scene.names knows true test (left_nil a (b ++ e) h),
+          d.0,
+          statement_resolved body (in_part around) (length names) names scene free (left_nil b e rest) d.1 knows,
+          else_resolved other (in_part around) (length names) names scene (free + length (objects_of body)) (right_nil b e rest) d.2 knows,
+        )
     statement_resolved (tree.switch_ test body at) around start names scene free h d knows =
         let a = expression_faults true bodies names test in
         let b = repeated_faults [] (block_labels (promoted (kind_of names test)) body) in
-        let e = block_faults bodies (in_switch around) (length names) names body in
-        (resolved items bodies names scene.names knows true test (left_nil a (b ++ e) h),
-        all_resolved body (in_switch around) (length names) names (switch_scene items scene free test) (free + length (declared_in body)) (right_nil b e (right_nil a (b ++ e) h)) d knows)
+        let e = block_faults bodies (in_switch around) (length names) names body in (
+          resolved items bodies names scene.names knows true test (left_nil a (b ++ e) h),
+          all_resolved body (in_switch around) (length names) names (switch_scene items scene free test) (free + length (declared_in body)) (right_nil b e (right_nil a (b ++ e) h)) d knows,
+        )
     statement_resolved (tree.case_ v body at) around start names scene free h d knows =
         let a = outside_faults around.labels at in
         let b = fault_if (has_no_value v) 17 at in
@@ -127,10 +131,13 @@ module _ (items : List ItemTree) (bodies : List (List ℕ)) where
         let scene2 = scenes.all_declared scene1 (declared_first init) in
         let knows2 = knows_first init names scene1 d.0 knows in
         let rest = right_nil a (b ++ (e ++ f)) h in
-        let rest2 = right_nil b (e ++ f) rest in
-        (first_resolved init (in_part around) (length names) names scene1 (free + length (declared_first init)) (left_nil a (b ++ (e ++ f)) h) d.0 knows,
-        option_resolved items bodies inner scene2.names knows2 test (left_nil b (e ++ f) rest), actions_resolved items bodies inner scene2.names knows2 step (left_nil e f rest2), d.1,
-        statement_resolved body (in_loop around) (length inner) inner scene2 (free + length (declared_first init ++ first_objects init)) (right_nil e f rest2) d.2 knows2)
+        let rest2 = right_nil b (e ++ f) rest in (
+          first_resolved init (in_part around) (length names) names scene1 (free + length (declared_first init)) (left_nil a (b ++ (e ++ f)) h) d.0 knows,
+          option_resolved items bodies inner scene2.names knows2 test (left_nil b (e ++ f) rest),
+          actions_resolved items bodies inner scene2.names knows2 step (left_nil e f rest2),
+          d.1,
+          statement_resolved body (in_loop around) (length inner) inner scene2 (free + length (declared_first init ++ first_objects init)) (right_nil e f rest2) d.2 knows2,
+        )
     statement_resolved (tree.break_ at) around start names scene free h d knows = tt
     statement_resolved (tree.continue_ at) around start names scene free h d knows = tt
     statement_resolved (tree.return_ v at) around start names scene free h d knows =
@@ -148,9 +155,10 @@ module _ (items : List ItemTree) (bodies : List (List ℕ)) where
     all_resolved tree.no_stmt around start names scene free h d knows = tt
     all_resolved (tree.more_stmts first rest) around start names scene free h d knows =
         let a = statement_faults bodies around start names first in
-        let b = block_faults bodies around start (names_behind names first) rest in
-        (statement_resolved first around start names scene free (left_nil a b h) d.0 knows,
-        all_resolved rest around start (names_behind names first) (scenes.all_declared scene (declared_by first)) (free + length (objects_of first)) (right_nil a b h) d.1 (knows_behind first names scene d.0 knows))
+        let b = block_faults bodies around start (names_behind names first) rest in (
+          statement_resolved first around start names scene free (left_nil a b h) d.0 knows,
+          all_resolved rest around start (names_behind names first) (scenes.all_declared scene (declared_by first)) (free + length (objects_of first)) (right_nil a b h) d.1 (knows_behind first names scene d.0 knows),
+        )
 
   -- ---- functions
 
@@ -175,6 +183,8 @@ module _ (items : List ItemTree) (bodies : List (List ℕ)) where
       → body_faults bodies f.result (length names) (with_params f.params names) (Some body) ≡ [] → AllDeclareInBlocks body → Knows items bodies names scene.names → BodyResolved items scene (objects_of_params f.params) (Some body)
   body_resolved f body names scene h g d knows =
       let os = objects_of_params f.params in
-      let ps = params_named f.params (length names) names h in
-      (ps.1, all_resolved body (in_function f.result) (length names) (with_params f.params names) (opened (scenes.all_declared scene os) (length os)) (length os + length (declared_in body)) g d
-      (subst (λ l. Knows items bodies l (scenes.all_declared scene os).names) (sym ps.0) (knows_all os names scene knows)))
+      let ps = params_named f.params (length names) names h in (
+        ps.1,
+        all_resolved body (in_function f.result) (length names) (with_params f.params names) (opened (scenes.all_declared scene os) (length os)) (length os + length (declared_in body)) g d
+            (subst (λ l. Knows items bodies l (scenes.all_declared scene os).names) (sym ps.0) (knows_all os names scene knows)),
+      )

@@ -1,21 +1,20 @@
 -- File scope and the inputs of a run.
-use Rattle.std.proofs.Common.{◌≡◌, ◌≢◌, ℕ, zero, suc, ◌+◌, ◌*◌, ◌^◌, ◌≤◌, ◌==◌, not, ◌∙◌, sym, refl, ap, ap₂, subst, inl, inr, Bool, true, false, true≢false, if◌then◌else◌, ℤ, pos, List, [], ◌∷◌, ◌++◌, map, take, drop, length, Option, Some, None, slice_get, append_assoc, append-nil, le_refl, ne_eqb, arith}
+use Rattle.std.proofs.Common.{◌≡◌, ℕ, suc, ◌+◌, ◌≤◌, ◌==◌, not, ◌∙◌, sym, refl, ap, ap₂, subst, inl, inr, Bool, true, false, true≢false, if◌then◌else◌, pos, List, [], ◌∷◌, ◌++◌, map, take, drop, length, Option, Some, None, slice_get, append_assoc, append-nil, le_refl, ne_eqb, arith}
 use Rattle.std.proofs.lemmas.Int.{ints}
-use Rattle.std.proofs.lemmas.List.{map-append, length-map}
-use Rattle.std.proofs.lemmas.Nat.{pow_pos}
+use Rattle.std.proofs.lemmas.List.{length-map}
 use Rattle.hls_base.specs.FileScope.{FileScope}
 use Rattle.c_token.specs.declared.ctype.CType.{CType}
 use Rattle.c_token.specs.declared.ctype.CType.TheVariants as t
 use Rattle.c_tree.specs.Tree as tree
 use Rattle.c_tree.specs.Tree.{Tree, ObjectTree, ParamTree, ItemTree}
-use Rattle.c_value.specs.Values.{integer, bits_of, pattern, number_of, convert}
+use Rattle.c_value.specs.Values.{integer, pattern, number_of}
 use Rattle.c_value.specs.Constant.{constant_number}
 use Rattle.c_checked.specs.Limits.{file_objects}
 use Rattle.c_meaning.specs.declared.names.Binding.{Binding}
 use Rattle.c_meaning.specs.declared.value.Argument.{Argument}
 use Rattle.c_meaning.specs.declared.value.Argument.TheVariants as argument
 use Rattle.c_meaning.specs.ValueLaws.{IsCongruent}
-use Rattle.c_meaning.specs.Store.{Object, Environment, lengths_in, find_name}
+use Rattle.c_meaning.specs.Store.{Object, lengths_in, find_name}
 use Rattle.c_meaning.specs.Names.{begun}
 use Rattle.c_meaning.specs.Run as run
 use Rattle.c_meaning.specs.Run.{constant_item, element_pattern, patterns, first_object, filled, kept_rest, head_or_none, is_array_parameter, word_of, or_zero, with_contents}
@@ -28,11 +27,11 @@ use Rattle.c_elaborate.specs.declared.names.Binding.{Binding as Resolution}
 use Rattle.c_elaborate.specs.Names.{object_found, binding_of, cell_of}
 use Rattle.c_elaborate.specs.Objects.{object_elaborated}
 use Rattle.c_elaborate.specs.Programs.{file_object, file_names, objects_of_params}
-use Rattle.elaborate_runs.specs.Homes.{Each, Home, home, held, IsShaped, Alike, IsElsewhere, IsDistinct, IsBelow, placed, found_in, found, Finds, Named, Stands, Has, new_homes, Awaits, IsGiven, AreGiven}
+use Rattle.elaborate_runs.specs.Homes.{Each, Home, home, held, Alike, IsElsewhere, IsDistinct, IsBelow, placed, found_in, Finds, Named, Stands, Has, new_homes, Awaits, AreGiven}
 use Rattle.elaborate_runs.specs.Resolved.{HasLengths, ItemResolved, file_scene_of}
 use Rattle.elaborate_runs.proofs.Lists.{each-append, each-more, get-behind}
 use Rattle.elaborate_runs.proofs.Naming.{named_one}
-use Rattle.elaborate_runs.proofs.Lifetimes.{apart, distinct-more, one_alike, stands_deeper, block_begun, block_awaits}
+use Rattle.elaborate_runs.proofs.Lifetimes.{apart, distinct-more, one_alike, block_begun, block_awaits}
 use Rattle.elaborate_runs.proofs.Labels.{converted_back}
 use Rattle.elaborate_runs.proofs.Parameters.{AreFree}
 use Rattle.elaborate_runs.proofs.Functions.{has_body}
@@ -104,10 +103,10 @@ stored_alike [] before (o ∷ os) h = absurd h
 stored_alike (d ∷ ds) before [] h = absurd h
 stored_alike (d ∷ ds) before (o ∷ os) h =
     let at : core.stored (before ++ o ∷ os) (spot 0 (length before)) ≡ o =
-        ap core.object_or_none (ap (slice_get (before ++ o ∷ os)) (let e : length before ≡ length before + 0 = omega arith in e) ∙ get-behind before (o ∷ os) 0) in
+    ap core.object_or_none (ap (slice_get (before ++ o ∷ os)) (let e : length before ≡ length before + 0 = omega arith in e) ∙ get-behind before (o ∷ os) 0) in
     let rest : Alike (new_homes 0 (length before + 1) ds) os (core.stored (before ++ o ∷ os)) =
-        subst (λ l. Alike (new_homes 0 (length before + 1) ds) os (core.stored l)) (append_assoc before (o ∷ []) os)
-        (subst (λ n. Alike (new_homes 0 n ds) os (core.stored ((before ++ o ∷ []) ++ os))) (last_length before o) (stored_alike ds (before ++ o ∷ []) os h.1)) in
+    subst (λ l. Alike (new_homes 0 (length before + 1) ds) os (core.stored l)) (append_assoc before (o ∷ []) os)
+    (subst (λ n. Alike (new_homes 0 n ds) os (core.stored ((before ++ o ∷ []) ++ os))) (last_length before o) (stored_alike ds (before ++ o ∷ []) os h.1)) in
     (ap₂ ◌∷◌ (sym at) rest.0, ((ap (λ (p : Object). p.kind) at ∙ h.0.0, ap (λ (p : Object). p.lengths) at ∙ h.0.1), rest.1))
 
 pub files_alike : (ds : List ObjectTree) (kept : FileScope) → Alike (new_homes 0 0 ds) (run.file_store ds kept) (core.stored (core.file_store (map file_object ds) kept))
@@ -203,14 +202,17 @@ array_hosted p ps i scalars arrays homes objects u has is_array h a =
     let more = host_homes (i + 1) ps in
     let v = core.host_arrays (i + 1) (elaborated_params ps) (drop 1 arrays) (put u (spot 1 i) o) in
     let joined = append_assoc homes (new ∷ []) more in
-    let count : length objects ≡ length homes + 0 = omega (arith, ap length a.0 ∙ length-map homes (held u)) in
-    (subst (λ l. Alike l (objects ++ o ∷ run.host_arrays ps (drop 1 arrays)) v) joined (subst (λ l. Alike ((homes ++ new ∷ []) ++ more) l v) (append_assoc objects (o ∷ []) (run.host_arrays ps (drop 1 arrays))) h.0),
-    subst IsDistinct joined h.1,
-    subst (λ l. Each (IsBelow 1 (i + suc (length ps))) l) joined (subst (λ n. Each (IsBelow 1 n) ((homes ++ new ∷ []) ++ more)) (let e : i + 1 + length ps ≡ i + suc (length ps) = omega arith in e) h.2),
-    ((lengths_in p.object, ap (slice_get (homes ++ new ∷ more)) count ∙ get-behind homes (new ∷ more) 0, has ∙ is_array, is_array),
-    subst (λ l. AreGiven l ps (run.top_arguments ps scalars (length objects + 1)) (core.top_arguments (i + 1) (elaborated_params ps) scalars)) joined
-    (subst (λ n. AreGiven ((homes ++ new ∷ []) ++ more) ps (run.top_arguments ps scalars n) (core.top_arguments (i + 1) (elaborated_params ps) scalars)) (last_length objects o) h.3)),
-    subst (λ l. AreFree l 1 (i + 1) (core.top_arguments (i + 1) (elaborated_params ps) scalars)) joined h.4)
+    let count : length objects ≡ length homes + 0 = omega (arith, ap length a.0 ∙ length-map homes (held u)) in (
+      subst (λ l. Alike l (objects ++ o ∷ run.host_arrays ps (drop 1 arrays)) v) joined (subst (λ l. Alike ((homes ++ new ∷ []) ++ more) l v) (append_assoc objects (o ∷ []) (run.host_arrays ps (drop 1 arrays))) h.0),
+      subst IsDistinct joined h.1,
+      subst (λ l. Each (IsBelow 1 (i + suc (length ps))) l) joined (subst (λ n. Each (IsBelow 1 n) ((homes ++ new ∷ []) ++ more)) (let e : i + 1 + length ps ≡ i + suc (length ps) = omega arith in e) h.2),
+      (
+        (lengths_in p.object, ap (slice_get (homes ++ new ∷ more)) count ∙ get-behind homes (new ∷ more) 0, has ∙ is_array, is_array),
+        subst (λ l. AreGiven l ps (run.top_arguments ps scalars (length objects + 1)) (core.top_arguments (i + 1) (elaborated_params ps) scalars)) joined
+            (subst (λ n. AreGiven ((homes ++ new ∷ []) ++ more) ps (run.top_arguments ps scalars n) (core.top_arguments (i + 1) (elaborated_params ps) scalars)) (last_length objects o) h.3),
+      ),
+      subst (λ l. AreFree l 1 (i + 1) (core.top_arguments (i + 1) (elaborated_params ps) scalars)) joined h.4,
+    )
 
 scalar_hosted : (p : ParamTree) (ps : List ParamTree) (i : ℕ) (scalars : List ℕ) (arrays : List (List ℕ)) (homes : List Home) (objects : List Object) (u : Cells) → (length p.object.lengths == 0) ≡ true → Each (IsBelow 1 i) homes
     → Hosted homes objects u (i + 1) (i + 1 + length ps) ps (host_homes (i + 1) ps) (run.host_arrays ps arrays) (core.host_arrays (i + 1) (elaborated_params ps) arrays u)
@@ -218,10 +220,17 @@ scalar_hosted : (p : ParamTree) (ps : List ParamTree) (i : ℕ) (scalars : List 
     → Hosted homes objects u i (i + suc (length ps)) (p ∷ ps) (host_homes (i + 1) ps) (run.host_arrays ps arrays) (core.host_arrays (i + 1) (elaborated_params ps) arrays u)
     (argument.Number (word_of p.object.kind scalars) ∷ run.top_arguments ps (drop 1 scalars) (length objects)) (number_given (word_of p.object.kind scalars) ∷ core.top_arguments (i + 1) (elaborated_params ps) (drop 1 scalars))
 scalar_hosted p ps i scalars arrays homes objects u is_scalar below h =
-    let more = host_homes (i + 1) ps in
-    (h.0, h.1, subst (λ n. Each (IsBelow 1 n) (homes ++ more)) (let e : i + 1 + length ps ≡ i + suc (length ps) = omega arith in e) h.2, ((refl, is_scalar), h.3),
-    (each-append (IsElsewhere (spot 1 i)) homes more (each-more (IsBelow 1 i) (IsElsewhere (spot 1 i)) homes (apart 1 i) below)
-    (each-more (IsFrom (i + 1)) (IsElsewhere (spot 1 i)) more (λ x le e. let n = ap (λ (z : Spot). z.number) e in omega arith) (hosts_from (i + 1) (i + 1) ps (omega arith))), h.4))
+    let more = host_homes (i + 1) ps in (
+      h.0,
+      h.1,
+      subst (λ n. Each (IsBelow 1 n) (homes ++ more)) (let e : i + 1 + length ps ≡ i + suc (length ps) = omega arith in e) h.2,
+      ((refl, is_scalar), h.3),
+      (
+        each-append (IsElsewhere (spot 1 i)) homes more (each-more (IsBelow 1 i) (IsElsewhere (spot 1 i)) homes (apart 1 i) below)
+            (each-more (IsFrom (i + 1)) (IsElsewhere (spot 1 i)) more (λ x le e. let n = ap (λ (z : Spot). z.number) e in omega arith) (hosts_from (i + 1) (i + 1) ps (omega arith))),
+        h.4,
+      ),
+    )
 
 not_true : (y : Bool) → not y ≡ true → y ≡ false
 not_true true h = sym h
@@ -259,9 +268,13 @@ first_hosted p ps i scalars arrays homes objects u has distinct below h false is
 
 pub hosted : (ps : List ParamTree) (i : ℕ) (scalars : List ℕ) (arrays : List (List ℕ)) (homes : List Home) (objects : List Object) (u : Cells) → Each HasLengths (objects_of_params ps) → IsDistinct homes → Each (IsBelow 1 i) homes → Alike homes objects u
     → Hosted homes objects u i (i + length ps) ps (host_homes i ps) (run.host_arrays ps arrays) (core.host_arrays i (elaborated_params ps) arrays u) (run.top_arguments ps scalars (length objects)) (core.top_arguments i (elaborated_params ps) scalars)
-hosted [] i scalars arrays homes objects u has distinct below h =
-    (subst (λ l. Alike l (objects ++ []) u) (sym (append-nil homes)) (subst (λ l. Alike homes l u) (sym (append-nil objects)) h), subst IsDistinct (sym (append-nil homes)) distinct,
-    subst (λ l. Each (IsBelow 1 (i + 0)) l) (sym (append-nil homes)) (subst (λ n. Each (IsBelow 1 n) homes) (let e : i ≡ i + 0 = omega arith in e) below), tt, tt)
+hosted [] i scalars arrays homes objects u has distinct below h = (
+  subst (λ l. Alike l (objects ++ []) u) (sym (append-nil homes)) (subst (λ l. Alike homes l u) (sym (append-nil objects)) h),
+  subst IsDistinct (sym (append-nil homes)) distinct,
+  subst (λ l. Each (IsBelow 1 (i + 0)) l) (sym (append-nil homes)) (subst (λ n. Each (IsBelow 1 n) homes) (let e : i ≡ i + 0 = omega arith in e) below),
+  tt,
+  tt,
+)
 hosted (p ∷ ps) i scalars arrays homes objects u has distinct below h =
     subst (λ z. FirstHosted p ps i scalars arrays homes objects u (is_array_parameter p) z) (sym (ap not has.0)) (first_hosted p ps i scalars arrays homes objects u has.0 distinct below h (is_array_parameter p) refl
     (λ i1 scalars1 arrays1 homes1 objects1 u1. hosted ps i1 scalars1 arrays1 homes1 objects1 u1 has.1))

@@ -1,7 +1,6 @@
 -- Functions and calls run as they do in the program.
-use Rattle.std.proofs.Common.{◌≡◌, ℕ, zero, suc, ◌+◌, ◌≤◌, ◌==◌, ◌&&◌, ◌∙◌, sym, refl, ap, ap₂, subst, Bool, true, false, if◌then◌else◌, bytes_eq, is_some, ℤ, List, [], ◌∷◌, ◌++◌, map, take, length, Option, Some, None, slice_get, append_assoc, append-nil, le_refl, inl, inr, arith}
+use Rattle.std.proofs.Common.{◌≡◌, ℕ, zero, suc, ◌+◌, ◌≤◌, ◌&&◌, ◌∙◌, sym, refl, ap, subst, Bool, true, false, if◌then◌else◌, bytes_eq, is_some, ℤ, List, [], ◌∷◌, ◌++◌, map, take, length, Option, Some, None, slice_get, append_assoc, le_refl, inl, inr, arith}
 use Rattle.std.specs.Prelude.{unwrap_or}
-use Rattle.std.proofs.lemmas.Option.{none-some, same_Some}
 use Rattle.std.proofs.lemmas.List.{map-append, length-map}
 use Rattle.hls_base.specs.declared.place.Place.{Place}
 use Rattle.hls_base.specs.declared.point.PointKind.TheVariants as point
@@ -23,28 +22,26 @@ use Rattle.c_meaning.specs.Run as run
 use Rattle.c_meaning.specs.Run.{function_named, definition_in, first_of, kind_or_int}
 use Rattle.core_program.specs.Core.{CoreObjectTree, CoreFunctionTree}
 use Rattle.run_steps.specs.Steps as r
-use Rattle.core_meaning.specs.Cells.{Spot, spot, Cells, Given, Here, spots_of, entered}
+use Rattle.core_meaning.specs.Cells.{Spot, spot, Cells, Given, Here, spots_of}
 use Rattle.core_meaning.specs.Expressions.{CoreCalls, point_at}
-use Rattle.core_meaning.specs.Statements as ks
 use Rattle.core_meaning.specs.Runs as core
-use Rattle.c_elaborate.specs.declared.names.Binding.{Binding as Resolution}
 use Rattle.c_elaborate.specs.declared.blocks.Scene.{Scene}
 use Rattle.c_elaborate.specs.declared.functions.Signature.{Signature}
 use Rattle.c_elaborate.specs.Names as e
 use Rattle.c_elaborate.specs.Names.{function_number}
-use Rattle.c_elaborate.specs.Objects.{object_elaborated, objects_within, from}
+use Rattle.c_elaborate.specs.Objects.{object_elaborated, objects_within}
 use Rattle.c_elaborate.specs.Scenes as scenes
-use Rattle.c_elaborate.specs.Programs.{objects_of_params, function_elaborated, function_of_item, functions_of_item, functions_elaborated, signature_of, signatures_of_item, signatures}
+use Rattle.c_elaborate.specs.Programs.{objects_of_params, function_elaborated, function_of_item, functions_elaborated, signature_of, signatures}
 use Rattle.elaborate_runs.specs.Same.{Same, Equal}
-use Rattle.elaborate_runs.specs.Homes.{Each, Home, home, Alike, IsDistinct, IsBelow, placed, Named, Stands, Has, AreGiven, AreTaken}
+use Rattle.elaborate_runs.specs.Homes.{Each, Home, Alike, IsDistinct, IsBelow, placed, Named, Stands, Has, AreGiven, AreTaken}
 use Rattle.elaborate_runs.specs.Resolved.{BodyResolved, ItemResolved, file_scene_of}
-use Rattle.elaborate_runs.proofs.Sames.{goes_equal, then_equal, pass_same, passed_same}
+use Rattle.elaborate_runs.proofs.Sames.{then_equal, pass_same, passed_same}
 use Rattle.elaborate_runs.proofs.Lists.{each-more, get-behind}
 use Rattle.elaborate_runs.proofs.Naming.{named_more}
 use Rattle.elaborate_runs.proofs.Lifetimes.{stands_deeper, leave_alike}
 use Rattle.elaborate_runs.proofs.Expressions.{CallsSame, ResultsSame, if_same}
 use Rattle.elaborate_runs.proofs.Statements.{block_same}
-use Rattle.elaborate_runs.proofs.Parameters.{AreFree, Bound, bound, free_below, as_many, spots_given, spots_own}
+use Rattle.elaborate_runs.proofs.Parameters.{AreFree, bound, free_below, as_many, spots_given, spots_own}
 
 -- ---- the objects of a function
 
@@ -62,10 +59,11 @@ params_first fs scene f body = taken_map (objects_of_params f.params) (declared_
 
 has_all : (before : List CoreObjectTree) (os : List ObjectTree) → Has (before ++ map object_elaborated os) (length before) os
 has_all before [] = tt
-has_all before (o ∷ os) =
-    (ap (slice_get (before ++ object_elaborated o ∷ map object_elaborated os)) (let e : length before ≡ length before + 0 = omega arith in e) ∙ get-behind before (object_elaborated o ∷ map object_elaborated os) 0,
-    subst (λ n. Has (before ++ object_elaborated o ∷ map object_elaborated os) n os) (last_length before (object_elaborated o))
-    (subst (λ l. Has l (length (before ++ object_elaborated o ∷ [])) os) (append_assoc before (object_elaborated o ∷ []) (map object_elaborated os)) (has_all (before ++ object_elaborated o ∷ []) os)))
+has_all before (o ∷ os) = (
+  ap (slice_get (before ++ object_elaborated o ∷ map object_elaborated os)) (let e : length before ≡ length before + 0 = omega arith in e) ∙ get-behind before (object_elaborated o ∷ map object_elaborated os) 0,
+  subst (λ n. Has (before ++ object_elaborated o ∷ map object_elaborated os) n os) (last_length before (object_elaborated o))
+      (subst (λ l. Has l (length (before ++ object_elaborated o ∷ [])) os) (append_assoc before (object_elaborated o ∷ []) (map object_elaborated os)) (has_all (before ++ object_elaborated o ∷ []) os)),
+)
   where
     last_length : (xs : List CoreObjectTree) (x : CoreObjectTree) → length (xs ++ x ∷ []) ≡ length xs + 1
     last_length [] x = refl
@@ -143,12 +141,12 @@ module _ (items : List ItemTree) (file : List Binding) (c1 : Calls) (c2 : CoreCa
       let s1 = (run.parameters f.params given env0 s).1 in
       let same_place = placed_params frame spots all f.params given env0 s in
       let b = bound here frame (length os) file f.params 0 given given' env0 scene homes s u (let e : 0 + length f.params ≡ length os = omega (arith, length-map f.params (λ p. p.object)) in e) refl gives
-          (spots_given frame (length os) given' count) free distinct below (resolved here) h in
+      (spots_given frame (length os) given' count) free distinct below (resolved here) h in
       let u1 = core.parameters frame 0 (map object_elaborated os) given' u in
       let stands : Stands file scene.names (homes ++ b.more) frame (length os) = record { distinct = b.distinct; below = b.below; resolved = λ there. named_more homes b.more there file [] scene.names (resolved there) } in
       let named : Named (homes ++ b.more) (placed frame spots all env1) env1.file env1.names (scenes.all_declared scene os).names =
-          subst (λ (z : Here). Named (homes ++ b.more) z env1.file env1.names (scenes.all_declared scene os).names) (sym same_place.0)
-          (subst (λ l. Named (homes ++ b.more) here l env1.names (scenes.all_declared scene os).names) (sym same_place.1) b.named) in
+      subst (λ (z : Here). Named (homes ++ b.more) z env1.file env1.names (scenes.all_declared scene os).names) (sym same_place.0)
+      (subst (λ l. Named (homes ++ b.more) here l env1.names (scenes.all_declared scene os).names) (sym same_place.1) b.named) in
       subst (λ z. Same (Equal (Alike homes)) (c.then_ (c.pass point.Begin f.at env1 s1) (λ p s2.
       c.then_ (cs.in_block (declared_in (run.body_of z)) (cs.items_meaning c1 true (run.body_of z)) env1 s2) (λ x s3. run.function_left used f x env1 (left_block (length s.objects) s3))))
       (core.function c2 used f' given' frame path u s.left)) (sym is_body)

@@ -1,13 +1,12 @@
 -- Objects and their homes: reads and writes.
-use Rattle.std.proofs.Common.{◌≡◌, ◌≢◌, ◌⊎◌, ◌&&◌, ◌==◌, ℕ, zero, suc, ◌∙◌, sym, refl, ap, ap₂, subst, inl, inr, Bool, true, false, cond, if◌then◌else◌, eqb, ℤ, List, [], ◌∷◌, ◌++◌, map, Option, Some, None, option_map, slice_get, slice_set}
+use Rattle.std.proofs.Common.{◌≡◌, ◌≢◌, ◌⊎◌, ◌&&◌, ◌==◌, ℕ, zero, suc, ◌∙◌, sym, refl, ap, ap₂, subst, inl, inr, Bool, true, false, if◌then◌else◌, ℤ, List, [], ◌∷◌, map, Some, option_map, slice_get, slice_set}
 use Rattle.std.proofs.lemmas.Option.{same_Some, slice_get-map}
 use Rattle.std.proofs.lemmas.Bool.{eq-eqb}
 use Rattle.std.proofs.lemmas.Bool.Decides.{eqb_tells}
-use Rattle.c_token.specs.declared.ctype.CType.{CType}
-use Rattle.c_meaning.specs.Store.{Object, State, changed, with_element, write_element, forgotten, forget, kind_of_object, lengths_of_object}
+use Rattle.c_meaning.specs.Store.{Object, State, changed, with_element, write_element, forgotten, forget}
 use Rattle.core_meaning.specs.Cells.{Spot, spot, is_spot, Cells, put}
 use Rattle.core_meaning.specs.Expressions.{written}
-use Rattle.elaborate_runs.specs.Homes.{Each, Home, home, held, IsShaped, Alike, IsElsewhere, IsDistinct}
+use Rattle.elaborate_runs.specs.Homes.{Each, Home, held, IsShaped, Alike, IsElsewhere, IsDistinct}
 use Rattle.elaborate_runs.proofs.Lists.{each-more, each-get, map-each}
 
 -- ---- one spot
@@ -76,9 +75,10 @@ shaped_kept t x o same h is = let k = shape_kept t x o same h.spot in (k.0 ∙ i
 
 pub changed_alike : (f : Object → Object) → ((o : Object) → SameShape (f o) o) → (homes : List Home) (s : List Object) (t : Cells) (i : ℕ) (h : Home) → IsDistinct homes → slice_get homes i ≡ Some h
     → Alike homes s t → Alike homes (changed f s i (slice_get s i)) (put t h.spot (f (t h.spot)))
-changed_alike f keeps homes s t i h d at a =
-    (ap (changed f s i) (read_alike homes s t i h a at) ∙ (ap (λ l. slice_set l i (f (t h.spot))) a.0 ∙ put_one homes t i h (f (t h.spot)) d at),
-    each-more (IsShaped t) (IsShaped (put t h.spot (f (t h.spot)))) homes (shaped_kept t h.spot (f (t h.spot)) (keeps (t h.spot))) a.1)
+changed_alike f keeps homes s t i h d at a = (
+  ap (changed f s i) (read_alike homes s t i h a at) ∙ (ap (λ l. slice_set l i (f (t h.spot))) a.0 ∙ put_one homes t i h (f (t h.spot)) d at),
+  each-more (IsShaped t) (IsShaped (put t h.spot (f (t h.spot)))) homes (shaped_kept t h.spot (f (t h.spot)) (keeps (t h.spot))) a.1,
+)
 
 pub write_alike : (homes : List Home) (s : State) (t : Cells) (i : ℕ) (h : Home) (element : ℕ) (v : ℤ) → IsDistinct homes → slice_get homes i ≡ Some h
     → Alike homes s.objects t → Alike homes (write_element s i element v).objects (written h.spot element v t)

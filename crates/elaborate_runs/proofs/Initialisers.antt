@@ -1,5 +1,5 @@
 -- Initialisers and declarations run as they do in the program.
-use Rattle.std.proofs.Common.{◌≡◌, ℕ, zero, suc, ◌+◌, ◌-◌, ◌*◌, ◌∙◌, sym, refl, ap, ap₂, subst, Bool, true, false, ℤ, pos, List, [], ◌∷◌, ◌++◌, map, length, replicate, Option, Some, None, option_map, slice_get, arith}
+use Rattle.std.proofs.Common.{◌≡◌, ℕ, zero, suc, ◌+◌, ◌-◌, ◌*◌, ◌∙◌, sym, refl, ap, ap₂, subst, true, pos, List, [], ◌∷◌, ◌++◌, map, length, replicate, Option, Some, None, option_map, slice_get, arith}
 use Rattle.std.proofs.lemmas.List.{map-append, length-map}
 use Rattle.std.proofs.Math.Nat.{suc-mul}
 use Rattle.hls_base.specs.ArrayAddress.{element_count}
@@ -8,13 +8,11 @@ use Rattle.c_tree.specs.Tree as tree
 use Rattle.c_tree.specs.Tree.{Tree, InitTree, InitTrees, ItemTree}
 use Rattle.c_value.specs.Values.{convert}
 use Rattle.c_meaning.specs.declared.names.Binding.{Binding}
-use Rattle.c_meaning.specs.Store.{Object, State, Environment, write_element, forget, kind_of_object}
+use Rattle.c_meaning.specs.Store.{State, Environment, write_element, forget}
 use Rattle.c_meaning.specs.Steps as c
-use Rattle.c_meaning.specs.Expression as ce
 use Rattle.c_meaning.specs.Expression.{Calls}
 use Rattle.c_meaning.specs.Statement as cs
 use Rattle.c_meaning.specs.Statement.{items_of, rows_of, zeros}
-use Rattle.core_program.specs.Core as core
 use Rattle.core_program.specs.Core.{CoreTree, CoreObjectTree}
 use Rattle.run_steps.specs.Steps as r
 use Rattle.core_meaning.specs.Cells.{Spot, Cells, Here}
@@ -23,12 +21,12 @@ use Rattle.core_meaning.specs.Expressions.{CoreCalls}
 use Rattle.core_meaning.specs.Statements as ks
 use Rattle.c_elaborate.specs.declared.names.Binding.{Binding as Resolution}
 use Rattle.c_elaborate.specs.Expressions.{kind_of, elaborated}
-use Rattle.c_elaborate.specs.Statements.{written, init_elaborated}
+use Rattle.c_elaborate.specs.Statements.{init_elaborated}
 use Rattle.c_elaborate.specs.Programs.{signatures}
 use Rattle.elaborate_runs.specs.Same.{Same, Equal}
 use Rattle.elaborate_runs.specs.Homes.{Home, home, Alike, placed, Named, Stands}
 use Rattle.elaborate_runs.specs.Resolved.{InitResolved, RowsResolved, IsInitResolved}
-use Rattle.elaborate_runs.proofs.Sames.{goes_same, goes_equal, then_equal, then_valued, then_then, then_each}
+use Rattle.elaborate_runs.proofs.Sames.{goes_equal, then_equal, then_valued, then_then, then_each}
 use Rattle.elaborate_runs.proofs.Homes.{write_alike, forget_alike}
 use Rattle.elaborate_runs.proofs.Expressions.{CallsSame, ResultsSame, kind_here, expression_same}
 
@@ -77,7 +75,6 @@ module _ (items : List ItemTree) (file : List Binding) (file_names : List Resolu
     (frame free : ℕ) (spots : ℕ → Spot) (objects : List CoreObjectTree) (homes : List Home) (stands : Stands file file_names homes frame free) (env : Environment) (names : List Resolution)
     (named : Named homes (placed frame spots objects env) env.file env.names names)
     (i : ℕ) (x : Spot) (kind : CType) (whole : List ℕ) (is_at : slice_get homes i ≡ Some (home x kind whole)) where
-
   abbrev items_elaborated : List (Option Tree) → List (Option CoreTree)
   items_elaborated = map (option_map (elaborated (signatures items) names))
 

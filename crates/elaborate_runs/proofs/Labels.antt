@@ -1,5 +1,5 @@
 -- Numbers of a type and their bit patterns, and the labels of a switch.
-use Rattle.std.proofs.Common.{◌≡◌, ℕ, ◌==◌, ◌∙◌, sym, refl, ap, ap₂, subst, inl, inr, not, Bool, true, false, true≢false, if◌then◌else◌, ℤ, pos, List, [], ◌∷◌, Option, Some, None, eq-eqb, eqb-true, ne_eqb}
+use Rattle.std.proofs.Common.{◌≡◌, ℕ, ◌==◌, ◌∙◌, sym, refl, ap, inl, inr, not, Bool, true, false, true≢false, if◌then◌else◌, ℤ, pos, Option, Some, None, eq-eqb, ne_eqb}
 use Rattle.std.specs.Ordering.{int_eq}
 use Rattle.std.proofs.lemmas.Bool.{cases_Bool}
 use Rattle.std.proofs.lemmas.Bool.Decides.{Decides-int_eq}
@@ -10,7 +10,7 @@ use Rattle.c_value.specs.Values.{integer, pattern, number_of, convert}
 use Rattle.c_value.specs.Constant as k
 use Rattle.c_value.specs.Constant.{ConstantValue, constant_value}
 use Rattle.c_checked.specs.Lengths.{has_value}
-use Rattle.c_meaning.specs.ValueLaws.{IsCongruent, Converted}
+use Rattle.c_meaning.specs.ValueLaws.{IsCongruent}
 use Rattle.c_meaning.specs.Statement as cs
 use Rattle.c_meaning.proofs.Conversions.{conversions_are_congruent}
 use Rattle.core_meaning.specs.Statements as ks

@@ -15,3 +15,5 @@ pub mod Runs
 pub mod Sizes
 pub mod Faultless
 pub mod FaultlessStatements
+pub mod FaultlessPrograms
+pub mod Grammar

@@ -1,11 +1,10 @@
 -- The beginning and the end of lifetimes.
-use Rattle.std.proofs.Common.{◌≡◌, ◌≢◌, ℕ, zero, suc, ◌+◌, ◌<◌, ◌≤◌, ◌==◌, not, ◌∙◌, sym, refl, ap, ap₂, subst, inl, inr, List, [], ◌∷◌, ◌++◌, map, take, length, Option, Some, None, slice_get, append_assoc, append-nil, arith}
+use Rattle.std.proofs.Common.{◌≡◌, ℕ, suc, ◌+◌, ◌≤◌, ◌==◌, not, ◌∙◌, sym, refl, ap, ap₂, subst, inl, inr, List, [], ◌∷◌, ◌++◌, map, take, length, Some, slice_get, append_assoc, append-nil, arith}
 use Rattle.std.proofs.lemmas.List.{map-append, length-map}
 use Rattle.std.proofs.Math.Seq.{take-append_seam}
 use Rattle.c_token.specs.declared.ctype.CType.{CType}
 use Rattle.c_tree.specs.Tree.{ObjectTree}
 use Rattle.c_meaning.specs.declared.names.Binding.{Binding}
-use Rattle.c_meaning.specs.Store as store
 use Rattle.c_meaning.specs.Store.{Object, Environment, unwritten, lengths_in, declared, all_declared}
 use Rattle.core_program.specs.Core.{CoreObjectTree}
 use Rattle.core_program.specs.declared.expression.Scope.TheVariants as scope
@@ -13,9 +12,9 @@ use Rattle.core_meaning.specs.Cells as cells
 use Rattle.core_meaning.specs.Cells.{Spot, spot, Cells, put, Here, entered}
 use Rattle.c_elaborate.specs.declared.names.Binding.{Binding as Resolution}
 use Rattle.c_elaborate.specs.declared.blocks.Scene.{Scene}
-use Rattle.c_elaborate.specs.Objects.{from, object_elaborated}
+use Rattle.c_elaborate.specs.Objects.{from}
 use Rattle.c_elaborate.specs.Scenes as scenes
-use Rattle.elaborate_runs.specs.Homes.{Each, Home, home, held, IsShaped, Alike, IsElsewhere, IsDistinct, IsBelow, placed, IsAt, Named, Stands, Has, new_homes, Awaits}
+use Rattle.elaborate_runs.specs.Homes.{Each, Home, home, held, IsShaped, Alike, IsElsewhere, IsDistinct, IsBelow, placed, Named, Stands, Has, new_homes, Awaits}
 use Rattle.elaborate_runs.specs.Resolved.{HasLengths}
 use Rattle.elaborate_runs.proofs.Lists.{each-append, each-front, each-more, get-behind}
 use Rattle.elaborate_runs.proofs.Homes.{put_here, put_other, put_aside}
@@ -48,10 +47,11 @@ shaped_aside (g ∷ gs) t x o e h =
 -- an object begins at a spot that is free
 pub one_alike : (homes : List Home) (x : Spot) (o : Object) (kind : CType) (lengths : List ℕ) (s : List Object) (t : Cells) → Each (IsElsewhere x) homes → o.kind ≡ kind → o.lengths ≡ lengths → Alike homes s t
     → Alike (homes ++ home x kind lengths ∷ []) (s ++ o ∷ []) (put t x o)
-one_alike homes x o kind lengths s t free ek el a =
-    (ap₂ ◌++◌ (a.0 ∙ sym (put_aside homes t x o free)) (ap (λ w. w ∷ []) (sym (put_here t x o))) ∙ sym (map-append (held (put t x o)) homes (home x kind lengths ∷ [])),
-    each-append (IsShaped (put t x o)) homes (home x kind lengths ∷ []) (shaped_aside homes t x o free a.1)
-    ((ap (λ (p : Object). p.kind) (put_here t x o) ∙ ek, ap (λ (p : Object). p.lengths) (put_here t x o) ∙ el), tt))
+one_alike homes x o kind lengths s t free ek el a = (
+  ap₂ ◌++◌ (a.0 ∙ sym (put_aside homes t x o free)) (ap (λ w. w ∷ []) (sym (put_here t x o))) ∙ sym (map-append (held (put t x o)) homes (home x kind lengths ∷ [])),
+  each-append (IsShaped (put t x o)) homes (home x kind lengths ∷ []) (shaped_aside homes t x o free a.1)
+      ((ap (λ (p : Object). p.kind) (put_here t x o) ∙ ek, ap (λ (p : Object). p.lengths) (put_here t x o) ∙ el), tt),
+)
 
 module _ (file : List Binding) (names : List Resolution) where
   pub stands_more : (homes : List Home) (frame free more : ℕ) → free ≤ more → Stands file names homes frame free → Stands file names homes frame more
@@ -84,15 +84,17 @@ module _ (file : List Binding) (names : List Resolution) where
         let new = home (spot here.frame free) o.kind (lengths_in o) in
         let more = new_homes here.frame (free + 1) os in
         let u = entered here (from (free + 1) (length os)) (put t (here.spots free) (cells.unwritten (slice_get here.objects free))) in
-        let e : free + 1 + length os ≡ free + suc (length os) = omega arith in
-        (subst (λ n. Stands file names (homes ++ new ∷ more) here.frame n) e (subst (λ l. Stands file names l here.frame (free + 1 + length os)) (append_assoc homes (new ∷ []) more) h.0),
-        subst (λ l. Alike l (s ++ unwritten o ∷ map unwritten os) u) (append_assoc homes (new ∷ []) more)
-        (subst (λ l. Alike ((homes ++ new ∷ []) ++ more) l u) (append_assoc s (unwritten o ∷ []) (map unwritten os)) h.1))
+        let e : free + 1 + length os ≡ free + suc (length os) = omega arith in (
+          subst (λ n. Stands file names (homes ++ new ∷ more) here.frame n) e (subst (λ l. Stands file names l here.frame (free + 1 + length os)) (append_assoc homes (new ∷ []) more) h.0),
+          subst (λ l. Alike l (s ++ unwritten o ∷ map unwritten os) u) (append_assoc homes (new ∷ []) more)
+              (subst (λ l. Alike ((homes ++ new ∷ []) ++ more) l u) (append_assoc s (unwritten o ∷ []) (map unwritten os)) h.1),
+        )
 
     pub block_begun : (os : List ObjectTree) (homes : List Home) (free : ℕ) (s : List Object) (t : Cells) → params ≤ free → Has here.objects free os → Stands file names homes here.frame free → Alike homes s t → Begun os homes free s t
-    block_begun [] homes free s t le has h a =
-        (subst (λ l. Stands file names l here.frame (free + 0)) (sym (append-nil homes)) (stands_more homes here.frame free (free + 0) (omega arith) h),
-        subst (λ l. Alike l (s ++ []) t) (sym (append-nil homes)) (subst (λ l. Alike homes l t) (sym (append-nil s)) a))
+    block_begun [] homes free s t le has h a = (
+      subst (λ l. Stands file names l here.frame (free + 0)) (sym (append-nil homes)) (stands_more homes here.frame free (free + 0) (omega arith) h),
+      subst (λ l. Alike l (s ++ []) t) (sym (append-nil homes)) (subst (λ l. Alike homes l t) (sym (append-nil s)) a),
+    )
     block_begun (o ∷ os) homes free s t le has h a =
         let new = home (spot here.frame free) o.kind (lengths_in o) in
         begun_more o os homes free s t
@@ -110,11 +112,12 @@ module _ (file : List Binding) (names : List Resolution) where
     awaits_from [] before free le has = tt
     awaits_from (o ∷ os) before free le has =
         let new = home (spot here.frame free) o.kind (lengths_in o) in
-        let more = new_homes here.frame (free + 1) os in
-        (ap (slice_get (before ++ new ∷ more)) (let e : length before ≡ length before + 0 = omega arith in e) ∙ (get-behind before (new ∷ more) 0 ∙ ap (λ x. Some (home x o.kind (lengths_in o))) (sym (own free le))),
-        has.0,
-        subst (λ l. Awaits l here (length before + 1) (free + 1) os) (append_assoc before (new ∷ []) more)
-        (subst (λ n. Awaits ((before ++ new ∷ []) ++ more) here n (free + 1) os) (length-last before new) (awaits_from os (before ++ new ∷ []) (free + 1) (omega arith) has.1)))
+        let more = new_homes here.frame (free + 1) os in (
+          ap (slice_get (before ++ new ∷ more)) (let e : length before ≡ length before + 0 = omega arith in e) ∙ (get-behind before (new ∷ more) 0 ∙ ap (λ x. Some (home x o.kind (lengths_in o))) (sym (own free le))),
+          has.0,
+          subst (λ l. Awaits l here (length before + 1) (free + 1) os) (append_assoc before (new ∷ []) more)
+              (subst (λ n. Awaits ((before ++ new ∷ []) ++ more) here n (free + 1) os) (length-last before new) (awaits_from os (before ++ new ∷ []) (free + 1) (omega arith) has.1)),
+        )
 
     pub block_awaits : (os : List ObjectTree) (homes : List Home) (free : ℕ) (s : List Object) (t : Cells) → params ≤ free → Has here.objects free os → Alike homes s t
         → Awaits (homes ++ new_homes here.frame free os) here (length s) free os
@@ -123,10 +126,11 @@ module _ (file : List Binding) (names : List Resolution) where
 
 -- They end.
 pub leave_alike : (homes more : List Home) (s0 s : List Object) (t0 t : Cells) → Alike homes s0 t0 → Alike (homes ++ more) s t → Alike homes (take (length s0) s) t
-leave_alike homes more s0 s t0 t a0 a =
-    (ap (λ l. take (length s0) l) (a.0 ∙ map-append (held t) homes more)
-    ∙ (ap (λ n. take n (map (held t) homes ++ map (held t) more)) (ap length a0.0 ∙ (length-map homes (held t0) ∙ sym (length-map homes (held t)))) ∙ take-append_seam (map (held t) homes) (map (held t) more)),
-    each-front (IsShaped t) homes more a.1)
+leave_alike homes more s0 s t0 t a0 a = (
+  ap (λ l. take (length s0) l) (a.0 ∙ map-append (held t) homes more)
+      ∙ (ap (λ n. take n (map (held t) homes ++ map (held t) more)) (ap length a0.0 ∙ (length-map homes (held t0) ∙ sym (length-map homes (held t)))) ∙ take-append_seam (map (held t) homes) (map (held t) more)),
+  each-front (IsShaped t) homes more a.1,
+)
 
 -- ---- the objects of a function
 

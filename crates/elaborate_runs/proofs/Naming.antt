@@ -1,5 +1,5 @@
 -- The object that a name stands for is that to which it is resolved.
-use Rattle.std.proofs.Common.{◌≡◌, ℕ, ◌==◌, ◌∙◌, sym, refl, ap, subst, Bool, true, false, not, true≢false, is_some, bytes_eq, if◌then◌else◌, List, [], ◌∷◌, ◌++◌, length, Option, Some, None, slice_get}
+use Rattle.std.proofs.Common.{◌≡◌, ℕ, sym, refl, ap, subst, Bool, true, false, true≢false, is_some, bytes_eq, if◌then◌else◌, List, [], ◌∷◌, ◌++◌, Option, Some, None}
 use Rattle.c_meaning.specs.declared.names.Binding.{Binding}
 use Rattle.c_meaning.specs.Store.{Environment, inner_or, find_name, object_found, object_named}
 use Rattle.core_meaning.specs.Cells.{Here, spot_of}

@@ -1,26 +1,23 @@
 -- The parameters of a call: new objects, or arrays that are given.
-use Rattle.std.proofs.Common.{◌≡◌, ◌≢◌, ◌⊎◌, ℕ, zero, suc, ◌+◌, ◌<◌, ◌≤◌, ◌==◌, not, ◌∙◌, sym, refl, ap, ap₂, subst, inl, inr, true, false, true≢false, ℤ, List, [], ◌∷◌, ◌++◌, map, take, length, Option, Some, None, slice_get, append-nil, append_assoc, take_all, arith}
+use Rattle.std.proofs.Common.{◌≡◌, ◌≢◌, ℕ, suc, ◌+◌, ◌≤◌, ◌==◌, not, ◌∙◌, sym, refl, ap, subst, inl, inr, List, [], ◌∷◌, ◌++◌, map, take, length, Some, slice_get, append-nil, append_assoc, take_all, arith}
 use Rattle.std.proofs.lemmas.List.{length-map}
-use Rattle.std.proofs.lemmas.Option.{slice_get_past, same_Some}
-use Rattle.c_token.specs.declared.ctype.CType.{CType}
+use Rattle.std.proofs.lemmas.Option.{slice_get_past}
 use Rattle.c_tree.specs.Tree.{ObjectTree, ParamTree}
 use Rattle.c_value.specs.Values.{convert}
 use Rattle.c_meaning.specs.declared.names.Binding.{Binding}
 use Rattle.c_meaning.specs.declared.value.Argument.{Argument}
 use Rattle.c_meaning.specs.declared.value.Argument.TheVariants as argument
-use Rattle.c_meaning.specs.Store.{Object, State, Environment, scalar, lengths_in}
+use Rattle.c_meaning.specs.Store.{State, Environment, scalar}
 use Rattle.c_meaning.specs.Names.{bind}
 use Rattle.c_meaning.specs.Run as run
-use Rattle.core_program.specs.Core.{CoreObjectTree}
 use Rattle.core_program.specs.declared.expression.Scope.TheVariants as scope
 use Rattle.core_meaning.specs.Cells.{Spot, spot, Cells, put, Given, number_given, array_given, Here, spot_given, spots_of}
 use Rattle.core_meaning.specs.Runs as core
-use Rattle.c_elaborate.specs.declared.names.Binding.{Binding as Resolution}
 use Rattle.c_elaborate.specs.declared.blocks.Scene.{Scene}
 use Rattle.c_elaborate.specs.Objects.{object_elaborated}
 use Rattle.c_elaborate.specs.Scenes as scenes
 use Rattle.c_elaborate.specs.Programs.{objects_of_params}
-use Rattle.elaborate_runs.specs.Homes.{Each, Home, home, held, Alike, IsElsewhere, IsDistinct, IsBelow, placed, Named, Stands, Has, IsGiven, AreGiven}
+use Rattle.elaborate_runs.specs.Homes.{Each, Home, home, held, Alike, IsElsewhere, IsDistinct, IsBelow, Named, IsGiven, AreGiven}
 use Rattle.elaborate_runs.proofs.Lists.{each-append, each-more, get-behind, get-before}
 use Rattle.elaborate_runs.proofs.Naming.{named_more, named_one}
 use Rattle.elaborate_runs.proofs.Lifetimes.{distinct-more, one_alike}
@@ -146,10 +143,11 @@ free_below homes frame i (array_given x ∷ given) below = free_below homes fram
 
 spots_from : (frame : ℕ) (given before : List Given) → SpotsGiven (spots_of frame (before ++ given)) frame (length before) given
 spots_from frame [] before = tt
-spots_from frame (g ∷ given) before =
-    (ap (spot_given frame (length before)) (ap (slice_get (before ++ g ∷ given)) (let e : length before ≡ length before + 0 = omega arith in e) ∙ get-behind before (g ∷ given) 0),
-    subst (λ n. SpotsGiven (spots_of frame (before ++ g ∷ given)) frame n given) (last_length before g)
-    (subst (λ l. SpotsGiven (spots_of frame l) frame (length (before ++ g ∷ [])) given) (append_assoc before (g ∷ []) given) (spots_from frame given (before ++ g ∷ []))))
+spots_from frame (g ∷ given) before = (
+  ap (spot_given frame (length before)) (ap (slice_get (before ++ g ∷ given)) (let e : length before ≡ length before + 0 = omega arith in e) ∙ get-behind before (g ∷ given) 0),
+  subst (λ n. SpotsGiven (spots_of frame (before ++ g ∷ given)) frame n given) (last_length before g)
+      (subst (λ l. SpotsGiven (spots_of frame l) frame (length (before ++ g ∷ [])) given) (append_assoc before (g ∷ []) given) (spots_from frame given (before ++ g ∷ []))),
+)
   where
     last_length : (xs : List Given) (x : Given) → length (xs ++ x ∷ []) ≡ length xs + 1
     last_length [] x = refl

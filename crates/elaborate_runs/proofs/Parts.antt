@@ -1,5 +1,5 @@
 -- Parts of statements that run as they do in the program: actions, tests, declarations and blocks.
-use Rattle.std.proofs.Common.{◌≡◌, ℕ, suc, ◌+◌, ◌≤◌, ◌&&◌, ◌||◌, ◌∙◌, sym, refl, ap, ap₂, subst, Bool, true, false, if◌then◌else◌, List, [], ◌∷◌, ◌++◌, map, length, append-nil, Option, Some, None, option_map, slice_get}
+use Rattle.std.proofs.Common.{◌≡◌, ℕ, ◌+◌, ◌≤◌, sym, refl, subst, Bool, true, false, if◌then◌else◌, List, [], ◌∷◌, ◌++◌, map, length, Option, Some, None, option_map, slice_get}
 use Rattle.hls_base.specs.declared.place.Place.{Place}
 use Rattle.hls_base.specs.declared.point.PointKind.TheVariants as point
 use Rattle.c_tree.specs.Tree as tree
@@ -16,10 +16,9 @@ use Rattle.c_meaning.specs.Steps as c
 use Rattle.c_meaning.specs.Expression as ce
 use Rattle.c_meaning.specs.Expression.{Calls}
 use Rattle.c_meaning.specs.Statement as cs
-use Rattle.core_program.specs.Core as core
-use Rattle.core_program.specs.Core.{CoreTree, CoreObjectTree, CoreStmtTree, stmt_row}
+use Rattle.core_program.specs.Core.{CoreObjectTree, CoreStmtTree, stmt_row}
 use Rattle.run_steps.specs.Steps as r
-use Rattle.core_meaning.specs.Cells.{Spot, spot, Cells, Here, entered}
+use Rattle.core_meaning.specs.Cells.{Spot, spot, Cells, entered}
 use Rattle.core_meaning.specs.Expressions as ke
 use Rattle.core_meaning.specs.Expressions.{CoreCalls, point_at}
 use Rattle.core_meaning.specs.Statements as ks
@@ -27,14 +26,14 @@ use Rattle.c_elaborate.specs.declared.names.Binding.{Binding as Resolution}
 use Rattle.c_elaborate.specs.declared.blocks.Scene.{Scene}
 use Rattle.c_elaborate.specs.declared.functions.Signature.{Signature}
 use Rattle.c_elaborate.specs.Expressions.{kind_of, elaborated, action_elaborated}
-use Rattle.c_elaborate.specs.Objects.{objects_of, from}
+use Rattle.c_elaborate.specs.Objects.{from}
 use Rattle.c_elaborate.specs.Scenes as scenes
 use Rattle.c_elaborate.specs.Statements.{init_elaborated, declarations, item, statement, statements}
 use Rattle.c_elaborate.specs.Programs.{signatures}
 use Rattle.elaborate_runs.specs.Same.{Same, Equal, Valued}
 use Rattle.elaborate_runs.specs.Homes.{Home, Alike, placed, Named, Stands, Has, new_homes, Awaits, Each}
-use Rattle.elaborate_runs.specs.Resolved.{IsOptionResolved, ActionsResolved, HasLengths, DeclarationsResolved, DeclaresNothing, StmtResolved}
-use Rattle.elaborate_runs.proofs.Sames.{goes_equal, then_equal, then_valued, then_then, then_after, then_goes, leaves_same, pass_same, reached_same, if_again_same, run_body_same, go_on_same}
+use Rattle.elaborate_runs.specs.Resolved.{IsOptionResolved, ActionsResolved, HasLengths, DeclarationsResolved, StmtResolved}
+use Rattle.elaborate_runs.proofs.Sames.{goes_equal, then_equal, then_valued, then_then, then_after, leaves_same, pass_same, reached_same, if_again_same, run_body_same}
 use Rattle.elaborate_runs.proofs.Lifetimes.{block_begun, block_awaits, leave_alike, named_declared}
 use Rattle.elaborate_runs.proofs.Expressions.{CallsSame, ResultsSame, if_same, expression_same}
 use Rattle.elaborate_runs.proofs.Initialisers.{declare_same}
@@ -77,7 +76,6 @@ lengths_by items scene free (tree.return_ v at) h = tt
 
 module _ (items : List ItemTree) (file : List Binding) (file_names : List Resolution) (c1 : Calls) (c2 : CoreCalls) (calls : CallsSame items file file_names c1 c2) (results : ResultsSame items c1)
     (frame params : ℕ) (spots : ℕ → Spot) (objects : List CoreObjectTree) where
-
   module _ (env : Environment) (names : List Resolution) (homes : List Home) (free : ℕ) (stands : Stands file file_names homes frame free) (named : Named homes (placed frame spots objects env) env.file env.names names) where
     pub act_all_same : (actions : List ActionTree) (s : State) (u : Cells) → ActionsResolved items names actions → Alike homes s.objects u
         → Same (Equal (Alike homes)) (cs.act_all c1 actions env s) (ks.act_all c2 (map (action_elaborated (signatures items) names) actions) (placed frame spots objects env) u s.left)

@@ -1,18 +1,18 @@
 -- Runs of core programs are those of the programs.
-use Rattle.std.proofs.Common.{◌≡◌, ℕ, zero, suc, ◌+◌, ◌≤◌, ◌==◌, ◌&&◌, not, ◌∙◌, sym, refl, ap, ap₂, subst, Bool, true, false, if◌then◌else◌, bytes_eq, is_some, ℤ, List, [], ◌∷◌, ◌++◌, map, take, drop, length, Option, Some, None, slice_get, arith}
-use Rattle.std.proofs.lemmas.Option.{none-some, same_Some}
+use Rattle.std.proofs.Common.{◌≡◌, ℕ, zero, suc, ◌+◌, ◌==◌, not, ◌∙◌, sym, refl, ap, ap₂, subst, Bool, true, false, if◌then◌else◌, is_some, ℤ, List, [], ◌∷◌, ◌++◌, map, take, drop, length, Option, Some, None, slice_get, arith}
+use Rattle.std.proofs.lemmas.Option.{none-some}
 use Rattle.std.proofs.lemmas.List.{map-append, length-map}
 use Rattle.hls_base.specs.FileScope.{FileScope}
 use Rattle.hls_base.specs.declared.point.Point.{Point}
 use Rattle.c_tree.specs.Tree as tree
 use Rattle.c_tree.specs.Tree.{ObjectTree, StmtTrees, ParamTree, FunctionTree, ItemTree, ProgramTree}
 use Rattle.c_checked.specs.Limits.{file_objects}
-use Rattle.c_checked.specs.Programs.{body_name_of, top_name}
+use Rattle.c_checked.specs.Programs.{body_name_of}
 use Rattle.c_meaning.specs.Store.{Object, lengths_in}
 use Rattle.c_meaning.specs.Steps as c
 use Rattle.c_meaning.specs.Run as run
 use Rattle.c_meaning.specs.Run.{patterns, is_scalar, is_array_parameter, with_contents, function_at}
-use Rattle.core_program.specs.Core.{CoreFunctionTree, CoreProgramTree}
+use Rattle.core_program.specs.Core.{CoreFunctionTree}
 use Rattle.run_steps.specs.Steps as r
 use Rattle.core_meaning.specs.Cells.{spot, Cells}
 use Rattle.core_meaning.specs.Runs as core
@@ -21,7 +21,7 @@ use Rattle.c_elaborate.specs.Objects.{object_elaborated}
 use Rattle.c_elaborate.specs.Programs.{file_object, objects_of_params, function_elaborated, function_of_item, functions_elaborated, signature_of, signatures, program_elaborated}
 use Rattle.elaborate_runs.specs.Same.{Follows, Same, Equal}
 use Rattle.elaborate_runs.specs.Homes.{Each, Home, home, held, IsShaped, Alike, IsBelow, new_homes, AreGiven}
-use Rattle.elaborate_runs.specs.Resolved.{HasLengths, BodyResolved, ItemResolved, IsProgramResolved, file_scene_of}
+use Rattle.elaborate_runs.specs.Resolved.{HasLengths, BodyResolved, ItemResolved, file_scene_of}
 use Rattle.elaborate_runs.specs.Laws.{ResolvedProgramsKeepRuns}
 use Rattle.elaborate_runs.proofs.Lists.{each-front}
 use Rattle.elaborate_runs.proofs.Naming.{named_more}
@@ -83,8 +83,8 @@ module _ (p : ProgramTree) (top : ℕ) (f : FunctionTree) (body : StmtTrees) (ha
       let split : s ≡ map (held u) fs ++ map (held u) hs = h.1.0 ∙ map-append (held u) fs hs in
       let count : length files ≡ length (map (held u) fs) = sym (length-map fs (held u) ∙ length-homes 0 files) in
       let arrays : map patterns (drop (length files) s) ≡ core.arrays_from 0 (core.params_of f') u =
-          ap (λ l. map patterns l) (ap (λ l. drop (length files) l) split ∙ (ap (λ n. drop n (map (held u) fs ++ map (held u) hs)) count ∙ drop_front (map (held u) fs) (map (held u) hs)))
-          ∙ (arrays_same f.params 0 u has ∙ ap (λ l. core.arrays_from 0 l u) (sym (params_first (signatures p.items) (file_scene_of p.items) f body))) in
+      ap (λ l. map patterns l) (ap (λ l. drop (length files) l) split ∙ (ap (λ n. drop n (map (held u) fs ++ map (held u) hs)) count ∙ drop_front (map (held u) fs) (map (held u) hs)))
+      ∙ (arrays_same f.params 0 u has ∙ ap (λ l. core.arrays_from 0 l u) (sym (params_first (signatures p.items) (file_scene_of p.items) f body))) in
       let kept : run.contents_of files s ≡ core.contents_from (map file_object files) 0 u = ap (run.contents_of files) split ∙ kept_same files 0 u (map (held u) hs) (each-front (IsShaped u) fs hs h.1.1) in
       ap (λ z. run.ended (run.result_pattern f.result z) (core.arrays_from 0 (core.params_of f') u) (core.contents_from (map file_object files) 0 u) trace) (sym h.0)
       ∙ ap₂ (λ x y. run.ended (run.result_pattern f.result v) x y trace) (sym arrays) (sym kept)

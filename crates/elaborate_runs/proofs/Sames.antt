@@ -1,5 +1,5 @@
 -- Parts of two runs that are the same, one after another.
-use Rattle.std.proofs.Common.{◌≡◌, ℕ, zero, suc, ◌∙◌, sym, refl, ap, subst, Bool, true, false, List, [], ◌∷◌, ◌++◌, append-nil, append_assoc, take, ℤ, if◌then◌else◌}
+use Rattle.std.proofs.Common.{◌≡◌, ℕ, zero, suc, ◌∙◌, sym, refl, ap, subst, Bool, true, false, List, [], ◌++◌, append-nil, append_assoc, take, ℤ}
 use Rattle.hls_base.specs.declared.place.Place.{Place}
 use Rattle.hls_base.specs.declared.point.Point.{Point}
 use Rattle.hls_base.specs.declared.point.PointKind.{PointKind}
@@ -19,7 +19,7 @@ use Rattle.c_meaning.specs.Statement as cs
 use Rattle.c_meaning.specs.Statement.{round_of, completion_of}
 use Rattle.core_program.specs.Core.{CoreObjectTree}
 use Rattle.run_steps.specs.Steps as core
-use Rattle.core_meaning.specs.Cells.{Spot, Cells, Here}
+use Rattle.core_meaning.specs.Cells.{Spot, Cells}
 use Rattle.core_meaning.specs.Expressions.{point_at}
 use Rattle.core_meaning.specs.Statements as ks
 use Rattle.elaborate_runs.specs.Homes.{placed}

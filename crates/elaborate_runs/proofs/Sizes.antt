@@ -1,16 +1,15 @@
 -- The lengths of objects of programs without faults.
-use Rattle.std.proofs.Common.{◌≡◌, ℕ, zero, suc, ◌+◌, ◌*◌, ◌^◌, ◌<◌, ◌≤◌, ◌==◌, ◌&&◌, ◌||◌, not, ◌∙◌, sym, refl, ap, ap₂, subst, inl, inr, Bool, true, false, true≢false, if◌then◌else◌, nat_lt, nat_le, cond, is_none, sum_by, ℤ, pos, negsuc, List, [], ◌∷◌, ◌++◌, map, drop, length, Option, Some, None, le_trans, ne_eqb, le-leb, leb-true, ltb-true, ltb-false, arith}
+use Rattle.std.proofs.Common.{◌≡◌, ℕ, zero, suc, ◌+◌, ◌*◌, ◌^◌, ◌≤◌, ◌==◌, ◌&&◌, ◌||◌, not, ◌∙◌, sym, refl, ap, ap₂, subst, Bool, true, false, true≢false, if◌then◌else◌, nat_lt, nat_le, cond, is_none, pos, negsuc, List, [], ◌∷◌, ◌++◌, map, length, Option, Some, None, le_trans, le-leb, leb-true, ltb-false, arith}
 use Rattle.std.specs.List.{count_by, list_any}
 use Rattle.std.proofs.lemmas.List.{length-map}
 use Rattle.std.proofs.lemmas.List.Sums.{sum_by-cons}
 use Rattle.std.proofs.lemmas.Nat.{pow-add, pow_pos}
-use Rattle.std.proofs.Math.Nat.{mul-le-mul_left, mul-le-mul_right, two-pow-succ}
+use Rattle.std.proofs.Math.Nat.{mul-le-mul_left, mul-le-mul_right}
 use Rattle.hls_base.specs.declared.place.Place.{Place}
-use Rattle.hls_base.specs.declared.refusal.Refusal.{Refusal}
 use Rattle.hls_base.specs.ArrayAddress.{element_count, subscript_bits, address_bits}
 use Rattle.c_tree.specs.Tree.{Tree, ObjectTree}
 use Rattle.c_checked.specs.Faults.{fault_if}
-use Rattle.c_checked.specs.Lengths.{Length, number, left_out, no_constant, length_of, all_lengths, items_in, lengths_of, usable, all_usable, with_first, rounded_product, product_of, is_out_of_range, is_no_constant, has_bad_length, has_bad_shape, form_faults, is_variable}
+use Rattle.c_checked.specs.Lengths.{Length, number, left_out, no_constant, all_lengths, items_in, lengths_of, usable, all_usable, with_first, rounded_product, product_of, is_out_of_range, is_no_constant, has_bad_length, has_bad_shape, form_faults, is_variable}
 use Rattle.c_meaning.specs.Store.{lengths_in, within_limits}
 use Rattle.elaborate_runs.specs.Homes.{Each}
 use Rattle.elaborate_runs.specs.Resolved.{HasLengths}

@@ -1,5 +1,5 @@
 -- Statements run as they do in the program.
-use Rattle.std.proofs.Common.{◌≡◌, ℕ, suc, ◌+◌, ◌≤◌, ◌&&◌, ◌||◌, ◌∙◌, sym, refl, ap, ap₂, subst, Bool, true, false, if◌then◌else◌, List, [], ◌∷◌, ◌++◌, map, length, append-nil, Option, Some, None, option_map, slice_get, arith}
+use Rattle.std.proofs.Common.{◌≡◌, ℕ, ◌+◌, ◌≤◌, ◌&&◌, ◌||◌, ◌∙◌, sym, refl, ap₂, subst, Bool, true, false, if◌then◌else◌, List, [], ◌∷◌, ◌++◌, map, length, append-nil, Option, Some, option_map, arith}
 use Rattle.hls_base.specs.declared.place.Place.{Place}
 use Rattle.hls_base.specs.declared.point.PointKind.TheVariants as point
 use Rattle.c_token.specs.declared.ctype.CType.{CType}
@@ -10,16 +10,13 @@ use Rattle.c_value.specs.Operators.{is_true}
 use Rattle.c_meaning.specs.declared.names.Binding.{Binding}
 use Rattle.c_meaning.specs.declared.value.Completion.{Completion}
 use Rattle.c_meaning.specs.declared.value.Completion.TheVariants as end
-use Rattle.c_meaning.specs.Store.{Object, State, Environment, inside, lengths_in, declared, all_declared, declared_by, declared_in, declared_first}
+use Rattle.c_meaning.specs.Store.{State, Environment, inside, all_declared, declared_by, declared_in, declared_first}
 use Rattle.c_meaning.specs.Steps as c
-use Rattle.c_meaning.specs.Expression as ce
 use Rattle.c_meaning.specs.Expression.{Calls}
 use Rattle.c_meaning.specs.Statement as cs
-use Rattle.core_program.specs.Core as core
-use Rattle.core_program.specs.Core.{CoreTree, CoreObjectTree, CoreStmtTree, stmt_row}
+use Rattle.core_program.specs.Core.{CoreObjectTree, CoreStmtTree, stmt_row}
 use Rattle.run_steps.specs.Steps as r
 use Rattle.core_meaning.specs.Cells.{Spot, spot, Cells, Here, entered}
-use Rattle.core_meaning.specs.Kinds as k
 use Rattle.core_meaning.specs.Expressions as ke
 use Rattle.core_meaning.specs.Expressions.{CoreCalls, point_at}
 use Rattle.core_meaning.specs.Statements as ks
@@ -30,12 +27,12 @@ use Rattle.c_elaborate.specs.Expressions.{kind_of, elaborated, action_elaborated
 use Rattle.c_elaborate.specs.Objects.{objects_of, else_objects, first_objects, objects_within, from}
 use Rattle.c_elaborate.specs.Scenes as scenes
 use Rattle.c_elaborate.specs.Scenes.{opened, labelled_by}
-use Rattle.c_elaborate.specs.Statements.{declarations, item, statement, else_statement, first_statements, statements, label_pattern}
+use Rattle.c_elaborate.specs.Statements.{declarations, item, statement, else_statement, first_statements, statements}
 use Rattle.c_elaborate.specs.Programs.{signatures}
-use Rattle.elaborate_runs.specs.Same.{Same, Equal, Valued}
+use Rattle.elaborate_runs.specs.Same.{Same, Equal}
 use Rattle.elaborate_runs.specs.Homes.{Home, Alike, placed, Named, Stands, Has, new_homes, Awaits, Each}
-use Rattle.elaborate_runs.specs.Resolved.{IsResolved, HasLengths, IsOptionResolved, HasValue, DeclarationsResolved, DeclaresNothing, StmtResolved, ElseResolved, FirstResolved, StmtsResolved}
-use Rattle.elaborate_runs.proofs.Sames.{goes_equal, then_equal, then_valued, then_then, then_after, then_goes, reached_same, go_on_same, behind_if_same, behind_breakable_same, loop_same}
+use Rattle.elaborate_runs.specs.Resolved.{HasLengths, DeclaresNothing, StmtResolved, ElseResolved, FirstResolved, StmtsResolved}
+use Rattle.elaborate_runs.proofs.Sames.{goes_equal, then_equal, then_valued, then_after, then_goes, reached_same, go_on_same, behind_if_same, behind_breakable_same, loop_same}
 use Rattle.elaborate_runs.proofs.Naming.{named_more}
 use Rattle.elaborate_runs.proofs.Lifetimes.{stands_more, has_front, has_back, placed_all, file_all, labels_all, named_all, awaits_all}
 use Rattle.elaborate_runs.proofs.Labels.{Agree, label_agrees, default_agrees, either_agrees}
@@ -138,7 +135,6 @@ first_below os more free = omega (arith, appended os more)
 
 module _ (items : List ItemTree) (file : List Binding) (file_names : List Resolution) (c1 : Calls) (c2 : CoreCalls) (calls : CallsSame items file file_names c1 c2) (results : ResultsSame items c1)
     (frame params : ℕ) (spots : ℕ → Spot) (objects : List CoreObjectTree) where
-
   -- ---- one item and those behind it
 
   module _ (homes : List Home) where
@@ -306,8 +302,8 @@ module _ (items : List ItemTree) (file : List Binding) (file_names : List Resolu
         let inner2 = scenes.all_declared inner os in
         let below = free + length (os ++ first_objects init) in
         let g : Cells → ℕ → r.Ran Cells Completion =
-            (λ u1 n1. r.then_ (ks.statements c2 false (stmt_row (first_statements (signatures items) inner (free + length os) init)) here u1 n1) (λ v u2 n2.
-            ks.loop at here (ks.test_first c2 (option_map (elaborated (signatures items) inner2.names) test) (ks.statement c2 false (statement (signatures items) inner2 below body) here) (map (action_elaborated (signatures items) inner2.names) step) at here) u2 n2)) in
+        (λ u1 n1. r.then_ (ks.statements c2 false (stmt_row (first_statements (signatures items) inner (free + length os) init)) here u1 n1) (λ v u2 n2.
+        ks.loop at here (ks.test_first c2 (option_map (elaborated (signatures items) inner2.names) test) (ks.statement c2 false (statement (signatures items) inner2 below body) here) (map (action_elaborated (signatures items) inner2.names) step) at here) u2 n2)) in
         in_block_same items file file_names c1 c2 calls results frame params spots objects own os env homes free s u
         (λ env1 s1. c.then_ (cs.first_meaning c1 init env1 s1) (λ v s2. cs.loop at (all_declared env1 os) (cs.test_first c1 test (cs.statement_meaning c1 false body) step at (all_declared env1 os)) s2)) g
         le (has_front objects free os (first_objects init) heads) stands h (λ stands1 awaits s1 u1 h1.
@@ -321,8 +317,8 @@ module _ (items : List ItemTree) (file : List Binding) (file_names : List Resolu
         (ks.loop at z (ks.test_first c2 (option_map (elaborated (signatures items) inner2.names) test) (ks.statement c2 false (statement (signatures items) inner2 below body) z) (map (action_elaborated (signatures items) inner2.names) step) at z) u2 s2.left)) same_place
         (let stands2 = stands_more file file_names new frame (free + length os) below more stands1 in
         let named2 : Named new (placed frame spots objects env2) env2.file env2.names inner2.names =
-            subst (λ (z : Here). Named new z env2.file env2.names inner2.names) (sym same_place)
-            (subst (λ l. Named new here l env2.names inner2.names) (sym (file_all env1 os)) (named_all new here os [] env.file env1 inner (first_lengths items inner (free + length os) init known.0) awaits1 named1)) in
+        subst (λ (z : Here). Named new z env2.file env2.names inner2.names) (sym same_place)
+        (subst (λ l. Named new here l env2.names inner2.names) (sym (file_all env1 os)) (named_all new here os [] env.file env1 inner (first_lengths items inner (free + length os) init known.0) awaits1 named1)) in
         loop_same (Alike new) frame spots objects at env2 _ _ (λ s3 u3 h3.
         test_first_same items file file_names c1 c2 calls results frame params spots objects env2 inner2.names new below stands2 named2
         (cs.statement_meaning c1 false body) (ks.statement c2 false (statement (signatures items) inner2 below body) (placed frame spots objects env2))

@@ -1,5 +1,5 @@
 -- Where declarations stand: C11 6.8.
-use Rattle.std.specs.Prelude.{◌≡◌, [], Option, Some, None}
+use Rattle.std.specs.Prelude.{Option, Some, None}
 use Rattle.c_tree.specs.Tree as tree
 use Rattle.c_tree.specs.Tree.{StmtTree, ElseTree, FirstTree, StmtTrees, ItemTree, ProgramTree}
 use Rattle.elaborate_runs.specs.Homes.{Each}

@@ -1,9 +1,8 @@
 -- Programs whose names are declared where they are used, and as what: C11 6.2.1, 6.5.2, 6.7.9, 6.8.4.2.
-use Rattle.std.specs.Prelude.{◌≡◌, ℕ, zero, suc, ◌+◌, ◌==◌, ◌++◌, Bool, true, false, List, [], ◌∷◌, length, Option, Some, None, is_some, if◌then◌else◌}
+use Rattle.std.specs.Prelude.{◌≡◌, ℕ, zero, suc, ◌+◌, ◌==◌, ◌++◌, true, false, List, [], ◌∷◌, length, Option, Some, None, is_some, if◌then◌else◌}
 use Rattle.c_tree.specs.Tree as tree
 use Rattle.c_tree.specs.Tree.{Tree, TargetTree, Trees, ActionTree, InitTree, InitTrees, ObjectTree, StmtTree, ElseTree, FirstTree, StmtTrees, ParamTree, FunctionTree, ItemTree, ProgramTree}
 use Rattle.c_value.specs.Values.{promoted}
-use Rattle.c_value.specs.Constant.{constant_value}
 use Rattle.c_checked.specs.Labels.{has_no_value}
 use Rattle.c_checked.specs.Limits.{file_objects}
 use Rattle.c_meaning.specs.Store.{lengths_in, declared_by, declared_in, declared_first}

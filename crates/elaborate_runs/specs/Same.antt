@@ -3,7 +3,7 @@ use Rattle.std.specs.Prelude.{◌≡◌, List, ℤ}
 use Rattle.hls_base.specs.declared.point.Point.{Point}
 use Rattle.c_token.specs.declared.ctype.CType.{CType}
 use Rattle.c_meaning.specs.declared.value.Value.{Value}
-use Rattle.c_meaning.specs.Store.{Object, State}
+use Rattle.c_meaning.specs.Store.{Object}
 use Rattle.c_meaning.specs.Steps as c
 use Rattle.c_meaning.specs.Expression.{value}
 use Rattle.run_steps.specs.Steps as core
