@@ -29,7 +29,7 @@ use Rattle.c_elaborate.specs.Objects.{object_elaborated}
 use Rattle.c_elaborate.specs.Programs.{file_object, file_names, objects_of_params}
 use Rattle.elaborate_runs.specs.Homes.{Each, Home, home, held, Alike, IsElsewhere, IsDistinct, IsBelow, placed, found_in, Finds, Named, Stands, Has, new_homes, Awaits, AreGiven}
 use Rattle.elaborate_runs.specs.Resolved.{HasLengths, ItemResolved, file_scene_of}
-use Rattle.elaborate_runs.proofs.Lists.{each-append, each-more, get-behind}
+use Rattle.elaborate_runs.proofs.Lists.{last-length, each-append, each-more, get-behind}
 use Rattle.elaborate_runs.proofs.Naming.{named_one}
 use Rattle.elaborate_runs.proofs.Lifetimes.{apart, distinct-more, one_alike, block_begun, block_awaits}
 use Rattle.elaborate_runs.proofs.Labels.{converted_back}
@@ -93,10 +93,6 @@ shaped_files : (ds : List ObjectTree) (kept : FileScope) → ShapedAs ds (run.fi
 shaped_files [] kept = tt
 shaped_files (d ∷ ds) kept = shaped_one d ds kept d.constant (length (lengths_in d) == 0) refl (shaped_files ds)
 
-last_length : {A : Type 0} (xs : List A) (x : A) → length (xs ++ x ∷ []) ≡ length xs + 1
-last_length [] x = refl
-last_length (y ∷ xs) x = omega (arith, last_length xs x)
-
 stored_alike : (ds : List ObjectTree) (before rest : List Object) → ShapedAs ds rest → Alike (new_homes 0 (length before) ds) rest (core.stored (before ++ rest))
 stored_alike [] before [] h = (refl, tt)
 stored_alike [] before (o ∷ os) h = absurd h
@@ -106,7 +102,7 @@ stored_alike (d ∷ ds) before (o ∷ os) h =
     ap core.object_or_none (ap (slice_get (before ++ o ∷ os)) (let e : length before ≡ length before + 0 = omega arith in e) ∙ get-behind before (o ∷ os) 0) in
     let rest : Alike (new_homes 0 (length before + 1) ds) os (core.stored (before ++ o ∷ os)) =
     subst (λ l. Alike (new_homes 0 (length before + 1) ds) os (core.stored l)) (append_assoc before (o ∷ []) os)
-    (subst (λ n. Alike (new_homes 0 n ds) os (core.stored ((before ++ o ∷ []) ++ os))) (last_length before o) (stored_alike ds (before ++ o ∷ []) os h.1)) in
+    (subst (λ n. Alike (new_homes 0 n ds) os (core.stored ((before ++ o ∷ []) ++ os))) (last-length before o) (stored_alike ds (before ++ o ∷ []) os h.1)) in
     (ap₂ ◌∷◌ (sym at) rest.0, ((ap (λ (p : Object). p.kind) at ∙ h.0.0, ap (λ (p : Object). p.lengths) at ∙ h.0.1), rest.1))
 
 pub files_alike : (ds : List ObjectTree) (kept : FileScope) → Alike (new_homes 0 0 ds) (run.file_store ds kept) (core.stored (core.file_store (map file_object ds) kept))
@@ -209,7 +205,7 @@ array_hosted p ps i scalars arrays homes objects u has is_array h a =
       (
         (lengths_in p.object, ap (slice_get (homes ++ new ∷ more)) count ∙ get-behind homes (new ∷ more) 0, has ∙ is_array, is_array),
         subst (λ l. AreGiven l ps (run.top_arguments ps scalars (length objects + 1)) (core.top_arguments (i + 1) (elaborated_params ps) scalars)) joined
-            (subst (λ n. AreGiven ((homes ++ new ∷ []) ++ more) ps (run.top_arguments ps scalars n) (core.top_arguments (i + 1) (elaborated_params ps) scalars)) (last_length objects o) h.3),
+            (subst (λ n. AreGiven ((homes ++ new ∷ []) ++ more) ps (run.top_arguments ps scalars n) (core.top_arguments (i + 1) (elaborated_params ps) scalars)) (last-length objects o) h.3),
       ),
       subst (λ l. AreFree l 1 (i + 1) (core.top_arguments (i + 1) (elaborated_params ps) scalars)) joined h.4,
     )

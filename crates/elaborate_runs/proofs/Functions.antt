@@ -36,7 +36,7 @@ use Rattle.elaborate_runs.specs.Same.{Same, Equal}
 use Rattle.elaborate_runs.specs.Homes.{Each, Home, Alike, IsDistinct, IsBelow, placed, Named, Stands, Has, AreGiven, AreTaken}
 use Rattle.elaborate_runs.specs.Resolved.{BodyResolved, ItemResolved, file_scene_of}
 use Rattle.elaborate_runs.proofs.Sames.{then_equal, pass_same, passed_same}
-use Rattle.elaborate_runs.proofs.Lists.{each-more, get-behind}
+use Rattle.elaborate_runs.proofs.Lists.{last-length, each-more, get-behind}
 use Rattle.elaborate_runs.proofs.Naming.{named_more}
 use Rattle.elaborate_runs.proofs.Lifetimes.{stands_deeper, leave_alike}
 use Rattle.elaborate_runs.proofs.Expressions.{CallsSame, ResultsSame, if_same}
@@ -61,13 +61,9 @@ has_all : (before : List CoreObjectTree) (os : List ObjectTree) → Has (before 
 has_all before [] = tt
 has_all before (o ∷ os) = (
   ap (slice_get (before ++ object_elaborated o ∷ map object_elaborated os)) (let e : length before ≡ length before + 0 = omega arith in e) ∙ get-behind before (object_elaborated o ∷ map object_elaborated os) 0,
-  subst (λ n. Has (before ++ object_elaborated o ∷ map object_elaborated os) n os) (last_length before (object_elaborated o))
+  subst (λ n. Has (before ++ object_elaborated o ∷ map object_elaborated os) n os) (last-length before (object_elaborated o))
       (subst (λ l. Has l (length (before ++ object_elaborated o ∷ [])) os) (append_assoc before (object_elaborated o ∷ []) (map object_elaborated os)) (has_all (before ++ object_elaborated o ∷ []) os)),
 )
-  where
-    last_length : (xs : List CoreObjectTree) (x : CoreObjectTree) → length (xs ++ x ∷ []) ≡ length xs + 1
-    last_length [] x = refl
-    last_length (y ∷ xs) x = omega (arith, last_length xs x)
 
 pub has_body : (params os : List ObjectTree) → Has (map object_elaborated (params ++ os)) (length params) os
 has_body params os =

@@ -16,7 +16,7 @@ use Rattle.c_elaborate.specs.Objects.{from}
 use Rattle.c_elaborate.specs.Scenes as scenes
 use Rattle.elaborate_runs.specs.Homes.{Each, Home, home, held, IsShaped, Alike, IsElsewhere, IsDistinct, IsBelow, placed, Named, Stands, Has, new_homes, Awaits}
 use Rattle.elaborate_runs.specs.Resolved.{HasLengths}
-use Rattle.elaborate_runs.proofs.Lists.{each-append, each-front, each-more, get-behind}
+use Rattle.elaborate_runs.proofs.Lists.{last-length, each-append, each-front, each-more, get-behind}
 use Rattle.elaborate_runs.proofs.Homes.{put_here, put_other, put_aside}
 use Rattle.elaborate_runs.proofs.Naming.{named_more, named_one}
 
@@ -104,10 +104,6 @@ module _ (file : List Binding) (names : List Resolution) where
         (subst (λ q. Alike (homes ++ new ∷ []) (s ++ unwritten o ∷ []) (put t (spot here.frame free) (cells.unwritten q))) (sym has.0)
         (one_alike homes (spot here.frame free) (unwritten o) o.kind (lengths_in o) s t (each-more (IsBelow here.frame free) (IsElsewhere (spot here.frame free)) homes (apart here.frame free) h.below) refl refl a))))
 
-    length-last : (before : List Home) (h : Home) → length (before ++ h ∷ []) ≡ length before + 1
-    length-last [] h = refl
-    length-last (g ∷ gs) h = omega (arith, length-last gs h)
-
     awaits_from : (os : List ObjectTree) (before : List Home) (free : ℕ) → params ≤ free → Has here.objects free os → Awaits (before ++ new_homes here.frame free os) here (length before) free os
     awaits_from [] before free le has = tt
     awaits_from (o ∷ os) before free le has =
@@ -116,7 +112,7 @@ module _ (file : List Binding) (names : List Resolution) where
           ap (slice_get (before ++ new ∷ more)) (let e : length before ≡ length before + 0 = omega arith in e) ∙ (get-behind before (new ∷ more) 0 ∙ ap (λ x. Some (home x o.kind (lengths_in o))) (sym (own free le))),
           has.0,
           subst (λ l. Awaits l here (length before + 1) (free + 1) os) (append_assoc before (new ∷ []) more)
-              (subst (λ n. Awaits ((before ++ new ∷ []) ++ more) here n (free + 1) os) (length-last before new) (awaits_from os (before ++ new ∷ []) (free + 1) (omega arith) has.1)),
+              (subst (λ n. Awaits ((before ++ new ∷ []) ++ more) here n (free + 1) os) (last-length before new) (awaits_from os (before ++ new ∷ []) (free + 1) (omega arith) has.1)),
         )
 
     pub block_awaits : (os : List ObjectTree) (homes : List Home) (free : ℕ) (s : List Object) (t : Cells) → params ≤ free → Has here.objects free os → Alike homes s t

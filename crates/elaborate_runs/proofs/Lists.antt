@@ -35,6 +35,10 @@ get-before [] ys i x e = absurd (none-some x e)
 get-before (y ∷ xs) ys zero x e = e
 get-before (y ∷ xs) ys (suc i) x e = get-before xs ys i x e
 
+pub last-length : {A : Type 0} (xs : List A) (x : A) → length (xs ++ x ∷ []) ≡ length xs + 1
+last-length [] x = refl
+last-length (y ∷ xs) x = omega (arith, last-length xs x)
+
 turned : (xs ys : List ℕ) → bytes_eq xs ys ≡ true → bytes_eq ys xs ≡ true
 turned xs ys e = (bytes_eq-Decides ys xs).1 (sym ((bytes_eq-Decides xs ys).0 e))
 

@@ -18,7 +18,7 @@ use Rattle.c_elaborate.specs.Objects.{object_elaborated}
 use Rattle.c_elaborate.specs.Scenes as scenes
 use Rattle.c_elaborate.specs.Programs.{objects_of_params}
 use Rattle.elaborate_runs.specs.Homes.{Each, Home, home, held, Alike, IsElsewhere, IsDistinct, IsBelow, Named, IsGiven, AreGiven}
-use Rattle.elaborate_runs.proofs.Lists.{each-append, each-more, get-behind, get-before}
+use Rattle.elaborate_runs.proofs.Lists.{last-length, each-append, each-more, get-behind, get-before}
 use Rattle.elaborate_runs.proofs.Naming.{named_more, named_one}
 use Rattle.elaborate_runs.proofs.Lifetimes.{distinct-more, one_alike}
 
@@ -145,13 +145,9 @@ spots_from : (frame : ℕ) (given before : List Given) → SpotsGiven (spots_of 
 spots_from frame [] before = tt
 spots_from frame (g ∷ given) before = (
   ap (spot_given frame (length before)) (ap (slice_get (before ++ g ∷ given)) (let e : length before ≡ length before + 0 = omega arith in e) ∙ get-behind before (g ∷ given) 0),
-  subst (λ n. SpotsGiven (spots_of frame (before ++ g ∷ given)) frame n given) (last_length before g)
+  subst (λ n. SpotsGiven (spots_of frame (before ++ g ∷ given)) frame n given) (last-length before g)
       (subst (λ l. SpotsGiven (spots_of frame l) frame (length (before ++ g ∷ [])) given) (append_assoc before (g ∷ []) given) (spots_from frame given (before ++ g ∷ []))),
 )
-  where
-    last_length : (xs : List Given) (x : Given) → length (xs ++ x ∷ []) ≡ length xs + 1
-    last_length [] x = refl
-    last_length (y ∷ xs) x = omega (arith, last_length xs x)
 
 take_whole : {A : Type 0} (n : ℕ) (xs : List A) → length xs ≡ n → take n xs ≡ xs
 take_whole n xs e = take_all n xs (omega arith)
