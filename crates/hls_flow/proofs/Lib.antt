@@ -2,10 +2,7 @@ mod Words
 mod Outcomes
 mod SumRun
 mod SumMade
-mod Made
 pub mod Faults
+mod TopPlace
+mod Made
 mod Counts
-mod Lengths
-mod LeastOnce
-mod BodyOnce
-pub mod Once

@@ -1,3 +1,4 @@
 pub mod FirstFault
+pub mod Laws
 pub mod Synthesis
 pub mod SumReport

@@ -2,11 +2,11 @@ use crate::levels::{
     c_level, cycles_of, difference, module_level, result_number, shown_arrays, top_of,
 };
 use crate::machines::clocked_steps;
-use crate::synth::read_checked;
 use crate::verdict::{CosimInputs, Stop, Verdict};
 use c_checked::checked::Checked;
 use c_meaning::outcome::Final;
 use c_tree::function::Function;
+use checked_source::read::read_checked;
 use compile_flow::compile::{compile_expanded, expanded};
 use cosim_pins::interface::{Interface, has_pins, interface_of};
 use cosim_pins::name_place::name_place;

@@ -2,6 +2,7 @@
 #![tactic(auto)]
 
 pub mod cosim;
+pub mod laws;
 mod levels;
 mod machines;
 pub mod soak;

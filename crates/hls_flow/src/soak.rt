@@ -1,9 +1,9 @@
 use crate::levels::{c_level, cycles_of, difference, module_level, top_of};
 use crate::machines::clocked_steps;
-use crate::synth::read_checked;
 use crate::verdict::Stop;
 use c_checked::checked::Checked;
 use c_meaning::outcome::Final;
+use checked_source::read::read_checked;
 use compile_flow::compile::{Compiled, compile};
 use cosim_pins::interface::interface_of;
 use hls_base::inputs::Inputs;

@@ -1,6 +1,6 @@
 use Rattle.rtl_core.specs.Netlist.{netlist_of}
 use Rattle.cycle_report.specs.PlainReport.{plain_of}
-use Rattle.hls_flow.proofs.synth.compiled_texts.Goals as goal
+use Rattle.hls_flow.proofs.synth.made_of_expanded.Goals as goal
 
 pub returns : goal.returns
 returns c =
@@ -17,6 +17,8 @@ returns c =
       scheduled = record {
         untimed = compiled.untimed;
         timed = compiled.timed;
+        frame = c.in_ok-compiled.ensures.frame;
+        init = c.in_ok-compiled.ensures.init;
         is_timed = c.in_ok-compiled.ensures.timed;
         reported = reported;
         longer = c.in_ok-compiled.ensures.longer;
