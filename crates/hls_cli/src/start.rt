@@ -1,13 +1,6 @@
-//! The program `hls`.
-#![tactic(auto)]
-
-mod lines;
-mod run;
-mod work;
-
+//! The program over the system's words, files and output.
 use crate::run::run;
 use hls_base::real::{RealShelf, RealSink};
-use std::process::ExitCode;
 use std::{env, io};
 
 // The words after the program's name.
@@ -17,15 +10,15 @@ fn words_of(rt: &HostRuntime) -> io::Result<Vec<String>> {
     Ok(words.collect(rt.alloc())?)
 }
 
-fn main(rt: HostRuntime) -> ExitCode {
-    let status = match words_of(&rt) {
+/// Does what the program's words say, and answers the status with which it ends.
+pub fn start(rt: &HostRuntime) -> u8 {
+    match words_of(rt) {
         Ok(words) => {
-            let mut shelf = RealShelf::new(&rt);
-            let mut out = RealSink::new(&rt);
+            let mut shelf = RealShelf::new(rt);
+            let mut out = RealSink::new(rt);
             run(rt.alloc(), &words, &mut shelf, &mut out)
         }
         Err(e) if e.kind() == io::ErrorKind::OutOfMemory => 4,
         Err(_) => 3,
-    };
-    ExitCode::from(status)
+    }
 }
