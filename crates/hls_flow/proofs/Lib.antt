@@ -4,7 +4,6 @@ mod SumRun
 mod SumMade
 mod Made
 pub mod Faults
-mod Counts
 mod Lengths
 mod LeastOnce
 mod BodyOnce

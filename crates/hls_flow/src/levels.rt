@@ -1,8 +1,4 @@
 //! The levels of a program: its run in C, and that of its module.
-ghost use Rattle.std.specs.Prelude.{◌≡◌, ℕ, ◌^◌, nat_le};
-ghost use Rattle.std.specs.List.{list_all};
-ghost use Rattle.hls_base.specs.declared.point.Point.{Point};
-
 use crate::verdict::{Item as Differing, Level, Shown, Stop, Verdict};
 use c_checked::checked::Checked;
 use c_interpreter::run::start;
@@ -15,7 +11,7 @@ use cosim_pins::drive::{Shown as ShownByModule, drive};
 use cosim_pins::interface::{Interface, has_pins};
 use cycle_report::report::Formula;
 use hls_base::inputs::Inputs;
-use hls_base::point::{Point, Tally};
+use hls_base::point::Tally;
 use hls_base::refusal::impossible;
 use hls_base::words::Words;
 use rtl_core::design::Design;
@@ -74,30 +70,11 @@ pub fn module_level(
     }
 }
 
-/// The greatest number of times that a point is passed in runs of so many points as are allowed.
-const MOST_PASSES: u64 = 1 << 32;
-
-/// The most rows that a formula has.
-const MOST_ROWS: usize = 1 << 31;
-
-fn are_small_counts(entries: &[(Point, u64)]) -> bool
-    ensures { result ≡ list_all (λ (e : Point × ℕ). nat_le e.1 (2 ^ 32)) entries.now }
-{
-    for entry in entries {
-        if entry.1 > MOST_PASSES {
-            return false;
-        }
-    }
-    true
-}
-
-#[tactic(auto, using(crate::proofs::Counts::small_counts))]
 /// The cycles that a formula gives for a run.
 pub fn cycles_of(formula: &Formula, tally: &Tally) -> Result<u128, AllocError> {
-    if formula.rows.len() <= MOST_ROWS && are_small_counts(tally.items()) {
-        Ok(formula.cycles(tally))
-    } else {
-        Err(impossible())
+    match formula.cycles(tally) {
+        Some(cycles) => Ok(cycles),
+        None => Err(impossible()),
     }
 }
 
