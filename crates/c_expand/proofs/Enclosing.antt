@@ -1,11 +1,12 @@
 -- Lists of pieces within a piece.
-use Rattle.std.proofs.Common.{◌≡◌, List, [], ◌∷◌, ◌++◌, length, refl, sym, ap, subst, ◌∙◌, arith, ℕ}
+use Rattle.std.proofs.Common.{◌≡◌, List, [], ◌++◌, length, sym, ap, subst, ◌∙◌, arith, ℕ}
 use Rattle.std.proofs.lemmas.Grind.{common_steps}
 use Rattle.hls_base.specs.declared.refusal.Refusal.{Refusal}
 use Rattle.pieces.specs.Trees.{PieceTree}
 use Rattle.pieces.specs.declared.piece.Label.{Label}
-use Rattle.piece_making.specs.Making.{State, Part, Inner, inside, inside_switch}
+use Rattle.piece_making.specs.Making.{State, Part, Inner, gives, inside, inside_switch}
 use Rattle.piece_making.specs.Stocks.{Stock, state_of, IsMade, IsTooHeavy, with_out, with_labels}
+use Rattle.piece_making.proofs.Parts.{nothing_made}
 
 appended_nothing : {A : Type 0} (xs : List A) → xs ≡ xs ++ []
 appended_nothing xs = grind (arith, common_steps)
@@ -43,6 +44,11 @@ unfolding inside
 enclosed_heavy {A} old start r part e h =
     let h1 : IsTooHeavy (with_out [] old) r (part (state_of (with_out [] old))) = subst (λ s. IsTooHeavy s r (part (state_of s))) e h in
     record { heavy = h1.heavy; rule = h1.rule; at = h1.at }
+
+-- no pieces
+pub nothing_enclosed : (s : Stock) (u : Unit {0}) (pieces : List PieceTree) → pieces ≡ [] → IsMade s s (record { value = u; pieces = pieces }) (inside (λ s0. gives tt s0) (state_of s))
+unfolding inside
+nothing_enclosed s u pieces e = subst (λ (xs : List PieceTree). IsMade s s (inner u xs) (gives (inner u []) (state_of s))) (sym e) (nothing_made s (inner u []))
 
 -- a switch's body, whose labels become its own
 pub enclosed_switch : (old begun start mid left new : Stock) (v : Unit {0}) (pieces outs : List PieceTree) (labels before : List Label) (part : State → Part (Unit {0}))

@@ -1,11 +1,8 @@
 -- Small programs, and the pieces that they are by hand.
-use Rattle.std.proofs.Common.{◌≡◌, ℕ, Bool, true, false, List, [], ◌∷◌, refl, Option, Some, None}
+use Rattle.std.proofs.Common.{◌≡◌, ℕ, true, false, List, [], ◌∷◌, refl, Some, None}
 use Rattle.hls_base.specs.declared.place.Place.{Place}
-use Rattle.hls_base.specs.declared.point.Point.{Point}
 use Rattle.hls_base.specs.declared.point.PointKind.{PointKind}
 use Rattle.hls_base.specs.declared.point.PointKind.TheVariants as point
-use Rattle.hls_base.specs.declared.number.VarId.{VarId}
-use Rattle.hls_base.specs.declared.number.LoopId.{LoopId}
 use Rattle.c_tree.specs.declared.operator.Binary.TheVariants as b
 use Rattle.c_value.specs.Values.{int_type}
 use Rattle.core_program.specs.declared.expression.Cell.{Cell}
@@ -14,7 +11,8 @@ use Rattle.core_program.specs.Core as core
 use Rattle.core_program.specs.Core.{CoreTree, CoreStmtTree, CoreStmtTrees, stmt_row, argument_row, CoreObjectTree, CoreFunctionTree, CoreProgramTree}
 use Rattle.pieces.specs.Trees as tree
 use Rattle.pieces.specs.Trees.{PureTree, PieceTree, PieceTrees, piece_row}
-use Rattle.piece_making.specs.Making.{then_, emit, label, declared, inside, inside_switch, fresh, fresh_result, add_array, new_slot, note_array, next_call, next_loop, set_own, variable_number}
+use Rattle.piece_making.specs.Making.{then_, emit, inside, fresh, fresh_result, next_call, next_loop, variable_number}
+use Rattle.c_expand.specs.Statements.{actions, changed, valued, stepped}
 use Rattle.c_expand.specs.Expansion.{expansion, expanded_weight}
 
 abbrev p : Place
@@ -60,11 +58,11 @@ squares_pieces : (expansion squares).pieces ≡ piece_row (
     set 3 (v 0) ∷ at (p ∷ []) point.Begin ∷ set 4 (tree.binary b.Mul (v 3) (v 3) int_type p) ∷ at (p ∷ []) point.End ∷
     set 5 (v 1) ∷ at (p ∷ []) point.Begin ∷ set 6 (tree.binary b.Mul (v 5) (v 5) int_type p) ∷ at (p ∷ []) point.End ∷
     set 2 (tree.binary b.Add (v 4) (v 6) int_type p) ∷ at [] point.End ∷ [])
-unfolding then_ emit fresh fresh_result next_call
+unfolding then_ emit fresh fresh_result next_call actions changed valued stepped
 squares_pieces = refl
 
 squares_weight : expanded_weight squares ≡ 18
-unfolding then_ emit fresh fresh_result next_call
+unfolding then_ emit fresh fresh_result next_call actions changed valued stepped
 squares_weight = refl
 
 -- int f(int n) { int s = 0; while (1) { if (n == s) break; s = s + 1; } return s; }
@@ -84,11 +82,11 @@ search_pieces : (expansion search_).pieces ≡ piece_row (
     set 1 (tree.binary b.Add (v 1) (number 1) int_type p) ∷ []))
     (piece_row []) (record { path = []; at = p; kind = point.End }) ∷
     set 2 (v 1) ∷ at [] point.End ∷ [])
-unfolding then_ emit inside fresh fresh_result next_call next_loop
+unfolding then_ emit inside fresh fresh_result next_call next_loop actions changed valued stepped
 search_pieces = refl
 
 search_weight : expanded_weight search_ ≡ 15
-unfolding then_ emit inside fresh fresh_result next_call next_loop
+unfolding then_ emit inside fresh fresh_result next_call next_loop actions changed valued stepped
 search_weight = refl
 
 -- int f(int i) { return i++ && i; }
@@ -99,9 +97,9 @@ counted = program (function 1 (object ∷ []) (
 counted_pieces : (expansion counted).pieces ≡ piece_row (
     at [] point.Begin ∷ set 2 (v 0) ∷ set 0 (tree.binary b.Add (v 2) (number 1) int_type p) ∷
     set 1 (tree.binary b.LogAnd (v 2) (v 0) int_type p) ∷ at [] point.End ∷ [])
-unfolding then_ emit fresh fresh_result next_call
+unfolding then_ emit fresh fresh_result next_call actions changed valued stepped
 counted_pieces = refl
 
 counted_weight : expanded_weight counted ≡ 10
-unfolding then_ emit fresh fresh_result next_call
+unfolding then_ emit fresh fresh_result next_call actions changed valued stepped
 counted_weight = refl

@@ -1,7 +1,6 @@
 -- Objects one by one, as all of them.
 use Rattle.std.specs.Prelude.{if◌then◌else◌}
-use Rattle.std.proofs.Common.{◌≡◌, ℕ, suc, ◌+◌, ◌<◌, ◌≤◌, Bool, true, false, List, [], ◌∷◌, ◌++◌, length, get_or, drop, take, map, refl, sym, ap, subst, ◌∙◌, arith, append_assoc, Option, Some}
-use Rattle.std.proofs.lemmas.Bool.{false≢true}
+use Rattle.std.proofs.Common.{◌≡◌, ℕ, ◌+◌, ◌<◌, ◌≤◌, Bool, true, false, List, [], ◌∷◌, ◌++◌, length, get_or, drop, take, map, refl, sym, ap, ◌∙◌, Some}
 use Rattle.std.proofs.lemmas.List.{drop-map, take-map, length-append, length-drop, nil_from_length}
 use Rattle.std.proofs.Math.Seq.{take-length}
 use Rattle.std.proofs.Common.{◌-◌}
@@ -12,12 +11,11 @@ use Rattle.hls_base.specs.declared.number.Kept.{Kept}
 use Rattle.hls_base.specs.declared.number.VarId.{VarId}
 use Rattle.core_program.specs.declared.program.CoreObject.{CoreObject}
 use Rattle.core_program.specs.declared.program.FileObject.{FileObject}
-use Rattle.core_program.specs.Core.{CoreObjectTree, FileObjectTree}
+use Rattle.core_program.specs.Core.{CoreObjectTree}
 use Rattle.core_program.specs.CoreView.{core_object_of, file_object_of}
 use Rattle.piece_making.specs.declared.frame.Home.{Home}
-use Rattle.piece_making.specs.declared.frame.Home.TheVariants as home
-use Rattle.piece_making.specs.Making.{State, Part, gives, then_, declared, fresh}
-use Rattle.piece_making.specs.Objects.{local, file_array, first_value}
+use Rattle.piece_making.specs.Making.{State, Part, gives, then_}
+use Rattle.piece_making.specs.Objects.{local}
 use Rattle.piece_making.specs.Stocks.{Stock, state_of, IsMade, IsTooHeavy}
 use Rattle.piece_making.proofs.EffectLaws.{first_dropped}
 use Rattle.c_expand.specs.declared.calls.Given as declared

@@ -2,6 +2,7 @@
 use Rattle.std.proofs.Common.{◌≡◌, Bool, Vec, Global, sym, ap, ◌∙◌}
 use Rattle.hls_base.specs.declared.point.Point.{Point}
 use Rattle.hls_base.specs.declared.number.LoopId.{LoopId}
+use Rattle.pieces.specs.declared.piece.CallId.{CallId}
 use Rattle.pieces.specs.declared.piece.Label.{Label}
 use Rattle.pieces.specs.declared.piece.Piece.{Piece}
 use Rattle.pieces.specs.declared.piece.Piece.TheVariants as p
@@ -29,3 +30,12 @@ pub pick_tree : (test : Pure) (labels : Vec Label Global) (body : Vec Piece Glob
 pick_tree test labels body end at e =
     ap piece_of (sym (p.rolls-Pick test labels body end)) ∙ (fold-roll-Piece PieceTree piece_step (Piece-F.Pick test labels body end)
     ∙ ap (tree.pick (pure_of test) labels.items (pieces_of body.items)) e)
+
+pub break_piece : piece_of p.Break ≡ tree.break_
+break_piece = ap piece_of (sym p.rolls-Break) ∙ fold-roll-Piece PieceTree piece_step Piece-F.Break
+
+pub next_piece : piece_of p.Next ≡ tree.next_
+next_piece = ap piece_of (sym p.rolls-Next) ∙ fold-roll-Piece PieceTree piece_step Piece-F.Next
+
+pub leave_piece : (call : CallId) → piece_of (p.Leave call) ≡ tree.leave call
+leave_piece call = ap piece_of (sym (p.rolls-Leave call)) ∙ fold-roll-Piece PieceTree piece_step (Piece-F.Leave call)

@@ -136,9 +136,16 @@ pub record Outline : Type 0 where
   pub params : List VarId
   pub result : Option VarId
 
-abbrev pub top_call : CoreFunctionTree → List Home → ℕ → List Home → CallId → Option VarId → Call
-top_call fn file file_variables homes call result =
+abbrev pub outermost : CoreFunctionTree → List Home → ℕ → List Home → CallId → Option VarId → Call
+outermost fn file file_variables homes call result =
     record { file = file; file_variables = file_variables; homes = homes; objects = fn.objects; body_at = fn.at; path = []; call = call; result = result }
+
+-- the call of the top function, for whose objects these stand: its value is the variable of the result
+abbrev pub top_call : List CoreFunctionTree → CoreFunctionTree → List Home → ℕ → List Home → State → Part (Option VarId)
+top_call functions fn file file_variables homes s =
+    then_ (next_call s) (λ call s1.
+    then_ (fresh_result fn.result s1) (λ own s2.
+    then_ (run_through (calls functions (length functions)) (outermost fn file file_variables homes call own) fn s2) (λ u s3. gives own s3)))
 
 abbrev pub top_run : CoreProgramTree → CoreFunctionTree → State → Part Outline
 top_run p fn s =
@@ -146,10 +153,8 @@ top_run p fn s =
     then_ (top_parameters (take fn.params fn.objects) [] s1) (λ params s2.
     then_ (file_homes p.file kept [] s2) (λ file s3.
     then_ (locals (drop fn.params fn.objects) params s3) (λ homes s4.
-    then_ (next_call s4) (λ call s5.
-    then_ (fresh_result fn.result s5) (λ own s6.
-    then_ (run_through (calls p.functions (length p.functions)) (top_call fn file (length s1.variables) homes call own) fn s6) (λ u s7.
-    gives (record { kept = kept; params = variables_of params; result = own }) s7)))))))
+    then_ (top_call p.functions fn file (length s1.variables) homes s4) (λ own s5.
+    gives (record { kept = kept; params = variables_of params; result = own }) s5)))))
 
 abbrev pub nothing : State
 nothing = record { variables = []; arrays = []; slots = []; calls = 0; loops = 0; made = 0 }

@@ -1,5 +1,5 @@
 -- What an expression becomes: the pieces that have to come before it, and the value that is left.
-use Rattle.std.specs.Prelude.{ℕ, Bool, true, false, ◌&&◌, ◌||◌, List, [], ◌∷◌, ◌++◌, Option, Some, None, if◌then◌else◌}
+use Rattle.std.specs.Prelude.{ℕ, Bool, true, false, ◌&&◌, List, [], ◌∷◌, ◌++◌, Option, Some, None, if◌then◌else◌}
 use Rattle.hls_base.specs.declared.place.Place.{Place}
 use Rattle.hls_base.specs.declared.point.PointKind.TheVariants as point
 use Rattle.hls_base.specs.declared.number.VarId.{VarId}
@@ -97,7 +97,7 @@ operated c op k at x later right s =
     if (is_logical op && acts later) then forked c op k at left right s1 else then_ (right s1) (λ y s2. gives (tree.binary op left y k at) s2))
 
 -- a `?:` behind its test
-abbrev pub chosen : Call → CType → Place → Place → PureTree → Effects → (State → Part PureTree) → (State → Part PureTree) → State → Part PureTree
+unfoldable pub chosen : Call → CType → Place → Place → PureTree → Effects → (State → Part PureTree) → (State → Part PureTree) → State → Part PureTree
 chosen c k at colon test later left right s =
     if acts later
     then then_ (save c.file_variables test later s) (λ t s1.

@@ -20,20 +20,23 @@ use Rattle.piece_making.specs.Acting.{no_effects, effects}
 use Rattle.piece_making.specs.Leaving.{is_empty}
 use Rattle.piece_making.specs.Assigning.{step, one, apply}
 use Rattle.piece_making.specs.Objects.{local_array}
-use Rattle.c_expand.specs.Expressions.{Callee, expression, targeted, set_unused}
+use Rattle.c_expand.specs.Expressions.{Callee, expression, targeted, discarded}
 
 abbrev pub marked : Call → PointKind → Place → State → Part (Unit {0})
 marked c kind at s = emit (tree.mark (point_in c kind at)) s
 
 -- ---- actions
 
+abbrev pub is_call : CoreTree → Bool
+is_call (core.call callee args k at) = true
+is_call _ = false
+
 -- an expression whose value is not used: where it is no call, it is set into a variable of its own
-abbrev pub valued : Callee → Call → CoreTree → State → Part (Unit {0})
-valued f c (core.call callee args k at) s = then_ (expression f c (core.call callee args k at) s) (λ x s1. gives tt s1)
-valued f c e s = then_ (expression f c e s) (λ x s1. set_unused x s1)
+unfoldable pub valued : Callee → Call → CoreTree → State → Part (Unit {0})
+valued f c e s = then_ (expression f c e s) (λ x s1. discarded (is_call e) x s1)
 
 -- an assignment, `++` or `--` that stands by itself
-abbrev pub changed : Callee → Call → CoreTree → State → Part (Unit {0})
+unfoldable pub changed : Callee → Call → CoreTree → State → Part (Unit {0})
 changed f c (core.assign left op value at) s =
     then_ (targeted f c left (effects value) op at s) (λ t s1. then_ (expression f c value s1) (λ by s2. apply c t by s2))
 changed f c (core.bump left up post at) s = then_ (targeted f c left no_effects (step up) at s) (λ t s1. apply c t one s1)
@@ -43,7 +46,7 @@ abbrev pub action : Callee → Call → CoreActionTree → State → Part (Unit 
 action f c (core.change e) s = changed f c e s
 action f c (core.value e) s = valued f c e s
 
-abbrev pub actions : Callee → Call → List CoreActionTree → State → Part (Unit {0})
+unfoldable pub actions : Callee → Call → List CoreActionTree → State → Part (Unit {0})
 actions f c [] s = gives tt s
 actions f c (first ∷ rest) s = then_ (action f c first s) (λ u s1. actions f c rest s1)
 
@@ -97,7 +100,7 @@ abbrev pub tested : Callee → Call → Option CoreTree → State → Part PureT
 tested f c None s = gives one s
 tested f c (Some e) s = expression f c e s
 
-abbrev pub stepped : Callee → Call → List CoreActionTree → Place → State → Part (Unit {0})
+unfoldable pub stepped : Callee → Call → List CoreActionTree → Place → State → Part (Unit {0})
 stepped f c [] at s = gives tt s
 stepped f c (first ∷ rest) at s = then_ (marked c point.Step at s) (λ u s1. actions f c (first ∷ rest) s1)
 

@@ -1,12 +1,15 @@
 //! Calls, which are replaced by what the called function does.
-ghost use Rattle.std.specs.Prelude.{◌≡◌, ◌∷◌, ◌++◌, IfOk, map, [], drop, slice_get, Some};
+ghost use Rattle.std.specs.Prelude.{◌≡◌, ◌∷◌, ◌++◌, IfOk, map, [], drop, slice_get, Some, true};
 ghost use Rattle.std.specs.Option.{option_map};
 ghost use Rattle.hls_base.specs.Refusals.{IfRefused};
-ghost use Rattle.core_program.specs.CoreView.{core_function_of, core_object_of};
+ghost use Rattle.core_program.specs.Core.{argument_row};
+ghost use Rattle.core_program.specs.CoreView.{core_argument_of, core_function_of, core_object_of};
 ghost use Rattle.pieces.specs.View.{pure_of, piece_of};
+ghost use Rattle.piece_making.specs.Calls.{call_of, point_in};
 ghost use Rattle.piece_making.specs.Stocks.{IsMade, IsTooHeavy, state_of, stock};
-ghost use Rattle.c_expand.specs.Callees.{given_of};
-ghost use Rattle.c_expand.specs.Expansion.{end_of, homes_for, parameter, parameters, locals, value_of};
+ghost use Rattle.c_expand.specs.Callees.{callee_of, call_at, given_of};
+ghost use Rattle.c_expand.specs.Expressions.{argument, arguments, called};
+ghost use Rattle.c_expand.specs.Expansion.{run_through, end_of, homes_for, parameter, parameters, locals, value_of, opened};
 
 use crate::expressions::expression;
 use crate::here::{Here, deeper, one_more_open};
@@ -44,7 +47,10 @@ pub fn called(
     function: u32,
     args: &[Argument],
     at: Place,
-) -> Result<Option<Pure>, Fail> {
+) -> Result<Option<Pure>, Fail>
+    ensures made { IfOk result (λ v. IsMade (stock work.old) (stock work.new) (option_map pure_of v) (called (callee_of here.entry) (call_at here.entry) function (argument_row (map core_argument_of args.now)) at (state_of (stock work.old)))) }
+    ensures refused { IfRefused result (λ r. IsTooHeavy (stock work.old) r (called (callee_of here.entry) (call_at here.entry) function (argument_row (map core_argument_of args.now)) at (state_of (stock work.old)))) }
+{
     let depth = deeper(here.depth)?;
     let here = Here { depth, ..here };
     let given = arguments(here, work, args)?;
@@ -69,7 +75,10 @@ fn opened(
     function: &CoreFunction,
     given: Vec<Given>,
     at: Place,
-) -> Result<Option<Pure>, Fail> {
+) -> Result<Option<Pure>, Fail>
+    ensures made { IfOk result (λ v. IsMade (stock work.old) (stock work.new) (option_map pure_of v) (opened (callee_of here.entry) (core_function_of function.now) (map given_of given.items) (call_at here.entry) at (state_of (stock work.old)))) }
+    ensures refused { IfRefused result (λ r. IsTooHeavy (stock work.old) r (opened (callee_of here.entry) (core_function_of function.now) (map given_of given.items) (call_at here.entry) at (state_of (stock work.old)))) }
+{
     let Here {
         frame,
         calls,
@@ -113,7 +122,10 @@ fn value_of(variable: Option<VarId>, kind: Option<CType>) -> Option<Pure>
 /// The body of a function, between its points.
 #[inline(never)]
 #[cycle(expansion)]
-pub fn run_through(here: Here, work: &mut Work) -> Result<(), Fail> {
+pub fn run_through(here: Here, work: &mut Work) -> Result<(), Fail>
+    ensures made { IfOk result (λ v. IsMade (stock work.old) (stock work.new) v (run_through (callee_of here.entry) (call_at here.entry) (core_function_of here.entry.frame.now.function.now) (state_of (stock work.old)))) }
+    ensures refused { IfRefused result (λ r. IsTooHeavy (stock work.old) r (run_through (callee_of here.entry) (call_at here.entry) (core_function_of here.entry.frame.now.function.now) (state_of (stock work.old)))) }
+{
     let depth = deeper(here.depth)?;
     let here = Here { depth, ..here };
     let frame = here.frame;
@@ -142,7 +154,10 @@ fn end_of(leaves: bool, call: CallId, end: Point) -> Piece
 /// The arguments of a call, from left to right. What each of them reads is saved where a later one has effects.
 #[inline(never)]
 #[cycle(expansion)]
-fn arguments(here: Here, work: &mut Work, args: &[Argument]) -> Result<Vec<Given>, Fail> {
+fn arguments(here: Here, work: &mut Work, args: &[Argument]) -> Result<Vec<Given>, Fail>
+    ensures made { IfOk result (λ v. IsMade (stock work.old) (stock work.new) (map given_of v.items) (arguments (callee_of here.entry) (call_at here.entry) (argument_row (map core_argument_of args.now)) [] (state_of (stock work.old)))) }
+    ensures refused { IfRefused result (λ r. IsTooHeavy (stock work.old) r (arguments (callee_of here.entry) (call_at here.entry) (argument_row (map core_argument_of args.now)) [] (state_of (stock work.old)))) }
+{
     let depth = deeper(here.depth)?;
     let here = Here { depth, ..here };
     let mut all = Vec::new(here.frame.context.alloc);
@@ -156,7 +171,10 @@ fn arguments(here: Here, work: &mut Work, args: &[Argument]) -> Result<Vec<Given
 
 /// An argument behind which the evaluation has these effects.
 #[cycle(expansion)]
-fn argument(here: Here, work: &mut Work, arg: &Argument, later: Effects) -> Result<Given, Fail> {
+fn argument(here: Here, work: &mut Work, arg: &Argument, later: Effects) -> Result<Given, Fail>
+    ensures made { IfOk result (λ v. IsMade (stock work.old) (stock work.new) (given_of v) (argument (callee_of here.entry) (call_at here.entry) (core_argument_of arg.now) later (state_of (stock work.old)))) }
+    ensures refused { IfRefused result (λ r. IsTooHeavy (stock work.old) r (argument (callee_of here.entry) (call_at here.entry) (core_argument_of arg.now) later (state_of (stock work.old)))) }
+{
     let depth = deeper(here.depth)?;
     let here = Here { depth, ..here };
     match arg {

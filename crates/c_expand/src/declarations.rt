@@ -1,8 +1,13 @@
 //! Declarations that are reached.
 ghost use Rattle.std.specs.Prelude.{◌≡◌, ◌≤◌, IfOk, map};
+ghost use Rattle.std.specs.Option.{option_map};
+ghost use Rattle.hls_base.specs.Refusals.{IfRefused};
 ghost use Rattle.hls_base.specs.ArrayAddress.{element_count};
-ghost use Rattle.pieces.specs.View.{pures_of};
-ghost use Rattle.c_expand.specs.Statements.{subscripts_at, at_least_one};
+ghost use Rattle.core_program.specs.CoreView.{core_of, core_init_of};
+ghost use Rattle.pieces.specs.View.{pure_of, pures_of};
+ghost use Rattle.piece_making.specs.Stocks.{IsMade, IsTooHeavy, state_of, stock};
+ghost use Rattle.c_expand.specs.Callees.{callee_of, call_at};
+ghost use Rattle.c_expand.specs.Statements.{declare, scalar_declared, initialised, filled, item_value, subscripts_at, at_least_one};
 
 use crate::expressions::expression;
 use crate::here::{Here, deeper};
@@ -21,7 +26,10 @@ use std::alloc::{AllocError, Global};
 /// A declaration that is reached.
 #[inline(never)]
 #[cycle(expansion)]
-pub fn declare(here: Here, work: &mut Work, object: u32, init: &CoreInit) -> Result<(), Fail> {
+pub fn declare(here: Here, work: &mut Work, object: u32, init: &CoreInit) -> Result<(), Fail>
+    ensures made { IfOk result (λ v. IsMade (stock work.old) (stock work.new) v (declare (callee_of here.entry) (call_at here.entry) object (core_init_of init.now) (state_of (stock work.old)))) }
+    ensures refused { IfRefused result (λ r. IsTooHeavy (stock work.old) r (declare (callee_of here.entry) (call_at here.entry) object (core_init_of init.now) (state_of (stock work.old)))) }
+{
     let depth = deeper(here.depth)?;
     let here = Here { depth, ..here };
     match here.frame.local(object)? {
@@ -38,7 +46,10 @@ pub fn declare(here: Here, work: &mut Work, object: u32, init: &CoreInit) -> Res
 
 /// A scalar. Without an initialiser it makes no piece, and weighs 1.
 #[cycle(expansion)]
-fn declare_scalar(here: Here, work: &mut Work, own: VarId, init: &CoreInit) -> Result<(), Fail> {
+fn declare_scalar(here: Here, work: &mut Work, own: VarId, init: &CoreInit) -> Result<(), Fail>
+    ensures made { IfOk result (λ v. IsMade (stock work.old) (stock work.new) v (scalar_declared (callee_of here.entry) (call_at here.entry) own (core_init_of init.now) (state_of (stock work.old)))) }
+    ensures refused { IfRefused result (λ r. IsTooHeavy (stock work.old) r (scalar_declared (callee_of here.entry) (call_at here.entry) own (core_init_of init.now) (state_of (stock work.old)))) }
+{
     let depth = deeper(here.depth)?;
     let here = Here { depth, ..here };
     match init {
@@ -59,7 +70,10 @@ fn initialise(
     array: ArrayId,
     lengths: &[u32],
     init: &CoreInit,
-) -> Result<(), Fail> {
+) -> Result<(), Fail>
+    ensures made { IfOk result (λ v. IsMade (stock work.old) (stock work.new) v (initialised (callee_of here.entry) (call_at here.entry) array lengths.now (core_init_of init.now) (state_of (stock work.old)))) }
+    ensures refused { IfRefused result (λ r. IsTooHeavy (stock work.old) r (initialised (callee_of here.entry) (call_at here.entry) array lengths.now (core_init_of init.now) (state_of (stock work.old)))) }
+{
     let depth = deeper(here.depth)?;
     let here = Here { depth, ..here };
     match init {
@@ -77,7 +91,10 @@ fn fill(
     array: ArrayId,
     lengths: &[u32],
     items: &[Option<CoreExpr>],
-) -> Result<(), Fail> {
+) -> Result<(), Fail>
+    ensures made { IfOk result (λ v. IsMade (stock work.old) (stock work.new) v (filled (callee_of here.entry) (call_at here.entry) array lengths.now 0 (map (option_map core_of) items.now) (state_of (stock work.old)))) }
+    ensures refused { IfRefused result (λ r. IsTooHeavy (stock work.old) r (filled (callee_of here.entry) (call_at here.entry) array lengths.now 0 (map (option_map core_of) items.now) (state_of (stock work.old)))) }
+{
     let depth = deeper(here.depth)?;
     let here = Here { depth, ..here };
     let alloc = here.frame.context.alloc;
@@ -92,7 +109,10 @@ fn fill(
 
 /// The value of an item. A missing one is 0.
 #[cycle(expansion)]
-fn item_value(here: Here, work: &mut Work, item: &Option<CoreExpr>) -> Result<Pure, Fail> {
+fn item_value(here: Here, work: &mut Work, item: &Option<CoreExpr>) -> Result<Pure, Fail>
+    ensures made { IfOk result (λ v. IsMade (stock work.old) (stock work.new) (pure_of v) (item_value (callee_of here.entry) (call_at here.entry) (option_map core_of item.now) (state_of (stock work.old)))) }
+    ensures refused { IfRefused result (λ r. IsTooHeavy (stock work.old) r (item_value (callee_of here.entry) (call_at here.entry) (option_map core_of item.now) (state_of (stock work.old)))) }
+{
     let depth = deeper(here.depth)?;
     let here = Here { depth, ..here };
     match item {

@@ -1,9 +1,12 @@
 //! The expansion of a program.
-ghost use Rattle.std.specs.Prelude.{◌≡◌, IfOk, map, [], take};
+ghost use Rattle.std.specs.Prelude.{◌≡◌, ◌≤◌, IfOk, map, [], take};
 ghost use Rattle.hls_base.specs.Refusals.{IfRefused};
-ghost use Rattle.core_program.specs.CoreView.{core_object_of, file_object_of};
+ghost use Rattle.core_program.specs.CoreView.{core_object_of, file_object_of, core_function_of, core_program_of};
+ghost use Rattle.pieces.specs.Program.{expanded_of};
 ghost use Rattle.piece_making.specs.Stocks.{IsMade, IsTooHeavy, state_of, stock};
-ghost use Rattle.c_expand.specs.Expansion.{kept_scalars, kept_scalar, is_kept, file_homes, file_home, kept_behind, top_parameters, top_parameter, variables_of};
+ghost use Rattle.c_expand.specs.Expansion.{IsOverweight, expansion, expanded_weight, kept_scalars, kept_scalar, is_kept, file_homes, file_home, kept_behind, top_parameters, top_parameter, variables_of, top_call, top_run};
+ghost use Rattle.c_expand.specs.Callees.{functions_of};
+ghost use Rattle.c_expand.specs.Outlines.{outline_of};
 
 use crate::calls::{add_locals, function_at, run_through};
 use crate::here::Here;
@@ -18,7 +21,11 @@ use pieces::expanded::Expanded;
 use std::alloc::{AllocError, Global};
 
 /// The pieces of a program. It is refused where they weigh too much.
-pub fn expand(alloc: Global, program: &CoreProgram) -> Result<Expanded, Fail> {
+pub fn expand(alloc: Global, program: &CoreProgram) -> Result<Expanded, Fail>
+    ensures made { IfOk result (λ e. expanded_of e ≡ expansion (core_program_of program.now)) }
+    ensures within { IfOk result (λ e. expanded_weight (core_program_of program.now) ≤ 8192) }
+    ensures refused { IfRefused result (λ r. IsOverweight (core_program_of program.now) r) }
+{
     let top = function_at(program, program.top)?;
     let mut work = Work::new(alloc, top.at);
     let outline = run(alloc, &mut work, program, top)?;
@@ -55,7 +62,10 @@ fn run(
     work: &mut Work,
     program: &CoreProgram,
     top: &CoreFunction,
-) -> Result<Outline, Fail> {
+) -> Result<Outline, Fail>
+    ensures made { IfOk result (λ v. IsMade (stock work.old) (stock work.new) (outline_of v) (top_run (core_program_of program.now) (core_function_of top.now) (state_of (stock work.old)))) }
+    ensures refused { IfRefused result (λ r. IsTooHeavy (stock work.old) r (top_run (core_program_of program.now) (core_function_of top.now) (state_of (stock work.old)))) }
+{
     let kept = kept_scalars(alloc, work, &program.file)?;
     let file_variables = work.variable_count()?;
     let params = parameters(alloc, work, top)?;
@@ -63,36 +73,48 @@ fn run(
     let file = file_homes(alloc, work, &program.file, &kept)?;
     let mut homes = params;
     add_locals(work, top, &mut homes)?;
-    let call = work.next_call()?;
-    let result = work.fresh_result(top.result)?;
     let context = Context {
         alloc,
         core: program,
         file,
         file_variables,
     };
-    let frame = Frame {
-        context: &context,
-        function: top,
-        homes,
-        path: Path::new(Vec::new(alloc)),
-        call,
-        result,
-    };
-    let calls = program.functions.len();
-    run_through(
-        Here {
-            frame: &frame,
-            calls,
-            depth: u32::MAX,
-        },
-        work,
-    )?;
+    let result = top_call(&context, work, top, homes)?;
     Ok(Outline {
         kept,
         params: variables,
         result,
     })
+}
+
+/// The call of the top function, for whose objects these stand. Answers the variable of its result.
+fn top_call(
+    context: &Context,
+    work: &mut Work,
+    top: &CoreFunction,
+    homes: Vec<Home>,
+) -> Result<Option<VarId>, Fail>
+    ensures made { IfOk result (λ v. IsMade (stock work.old) (stock work.new) v (top_call (functions_of context.now) (core_function_of top.now) context.now.file.items context.now.file_variables homes.items (state_of (stock work.old)))) }
+    ensures refused { IfRefused result (λ r. IsTooHeavy (stock work.old) r (top_call (functions_of context.now) (core_function_of top.now) context.now.file.items context.now.file_variables homes.items (state_of (stock work.old)))) }
+{
+    let call = work.next_call()?;
+    let result = work.fresh_result(top.result)?;
+    let frame = Frame {
+        context,
+        function: top,
+        homes,
+        path: Path::new(Vec::new(context.alloc)),
+        call,
+        result,
+    };
+    let calls = context.core.functions.len();
+    let here = Here {
+        frame: &frame,
+        calls,
+        depth: u32::MAX,
+    };
+    run_through(here, work)?;
+    Ok(result)
 }
 
 /// Variables for the scalars of file scope that are not const.

@@ -1,9 +1,17 @@
 //! Expressions: the pieces that have to come before them, and the value that is left.
-ghost use Rattle.std.specs.Prelude.{◌≡◌};
+ghost use Rattle.std.specs.Prelude.{◌≡◌, IfOk, map, []};
 ghost use Rattle.std.specs.Option.{option_map};
-ghost use Rattle.core_program.specs.CoreView.{core_of};
+ghost use Rattle.hls_base.specs.Refusals.{IfRefused};
+ghost use Rattle.core_program.specs.Core as core;
+ghost use Rattle.core_program.specs.Core.{row};
+ghost use Rattle.core_program.specs.CoreView.{core_of, core_target_of};
 ghost use Rattle.pieces.specs.View.{pure_of};
-ghost use Rattle.c_expand.specs.Expressions.{may_be_unused, value_or_zero};
+ghost use Rattle.piece_making.specs.Acting.{no_effects, effects};
+ghost use Rattle.piece_making.specs.Assigning.{change_of, step};
+ghost use Rattle.piece_making.specs.Stocks.{IsMade, IsTooHeavy, state_of, stock};
+ghost use Rattle.c_expand.specs.Callees.{callee_of, call_at};
+ghost use Rattle.c_expand.specs.Chains.{links};
+ghost use Rattle.c_expand.specs.Expressions.{expression, operands, targeted, may_be_unused, value_or_zero};
 
 use crate::calls::called;
 use crate::here::{Here, deeper};
@@ -22,7 +30,10 @@ use pieces::pure_expr::Pure;
 
 /// The value of an expression, behind the pieces that it needs. Operators are gone through in a loop, so that the depth of the recursion is bounded by how deep the source nests.
 #[cycle(expansion)]
-pub fn expression(here: Here, work: &mut Work, e: &CoreExpr) -> Result<Pure, Fail> {
+pub fn expression(here: Here, work: &mut Work, e: &CoreExpr) -> Result<Pure, Fail>
+    ensures made { IfOk result (λ v. IsMade (stock work.old) (stock work.new) (pure_of v) (expression (callee_of here.entry) (call_at here.entry) (core_of e.now) (state_of (stock work.old)))) }
+    ensures refused { IfRefused result (λ r. IsTooHeavy (stock work.old) r (expression (callee_of here.entry) (call_at here.entry) (core_of e.now) (state_of (stock work.old)))) }
+{
     let depth = deeper(here.depth)?;
     let here = Here { depth, ..here };
     let mut steps = Vec::new(here.frame.context.alloc);
@@ -79,7 +90,10 @@ pub fn expression(here: Here, work: &mut Work, e: &CoreExpr) -> Result<Pure, Fai
 /// An expression at whose top no operator of a chain stands.
 #[inline(never)]
 #[cycle(expansion)]
-fn innermost(here: Here, work: &mut Work, e: &CoreExpr) -> Result<Pure, Fail> {
+fn innermost(here: Here, work: &mut Work, e: &CoreExpr) -> Result<Pure, Fail>
+    ensures made { IfOk result (λ v. IsMade (stock work.old) (stock work.new) (pure_of v) (expression (callee_of here.entry) (call_at here.entry) (core_of e.now) (state_of (stock work.old)))) }
+    ensures refused { IfRefused result (λ r. IsTooHeavy (stock work.old) r (expression (callee_of here.entry) (call_at here.entry) (core_of e.now) (state_of (stock work.old)))) }
+{
     let depth = deeper(here.depth)?;
     let here = Here { depth, ..here };
     match e {
@@ -129,7 +143,10 @@ fn value_or_zero(value: Option<Pure>) -> Pure
 
 /// The operators of a chain, the last one first, around its first operand.
 #[cycle(expansion)]
-fn joined(here: Here, work: &mut Work, first: Pure, steps: Vec<Step>) -> Result<Pure, Fail> {
+fn joined(here: Here, work: &mut Work, first: Pure, steps: Vec<Step>) -> Result<Pure, Fail>
+    ensures made { IfOk result (λ v. IsMade (stock work.old) (stock work.new) (pure_of v) (links (callee_of here.entry) (call_at here.entry) steps.entry.items (pure_of first) (state_of (stock work.old)))) }
+    ensures refused { IfRefused result (λ r. IsTooHeavy (stock work.old) r (links (callee_of here.entry) (call_at here.entry) steps.entry.items (pure_of first) (state_of (stock work.old)))) }
+{
     let depth = deeper(here.depth)?;
     let here = Here { depth, ..here };
     let mut steps = steps;
@@ -150,7 +167,10 @@ fn element_of(
     subscripts: &[CoreExpr],
     kind: CType,
     at: Place,
-) -> Result<Pure, Fail> {
+) -> Result<Pure, Fail>
+    ensures made { IfOk result (λ v. IsMade (stock work.old) (stock work.new) (pure_of v) (expression (callee_of here.entry) (call_at here.entry) (core.element array (row (map core_of subscripts.now)) kind at) (state_of (stock work.old)))) }
+    ensures refused { IfRefused result (λ r. IsTooHeavy (stock work.old) r (expression (callee_of here.entry) (call_at here.entry) (core.element array (row (map core_of subscripts.now)) kind at) (state_of (stock work.old)))) }
+{
     let depth = deeper(here.depth)?;
     let here = Here { depth, ..here };
     let subscripts = operands(here, work, subscripts, NO_EFFECTS)?;
@@ -168,7 +188,10 @@ pub fn assignment<'e>(
     op: Option<Binary>,
     value: &CoreExpr,
     at: Place,
-) -> Result<Change<'e>, Fail> {
+) -> Result<Change<'e>, Fail>
+    ensures made { IfOk result (λ v. IsMade (stock work.old) (stock work.new) (change_of v) (targeted (callee_of here.entry) (call_at here.entry) (core_target_of target.now) (effects (core_of value.now)) op at (state_of (stock work.old)))) }
+    ensures refused { IfRefused result (λ r. IsTooHeavy (stock work.old) r (targeted (callee_of here.entry) (call_at here.entry) (core_target_of target.now) (effects (core_of value.now)) op at (state_of (stock work.old)))) }
+{
     let depth = deeper(here.depth)?;
     let here = Here { depth, ..here };
     let later = effects_of(value);
@@ -190,7 +213,10 @@ pub fn step_by_one<'e>(
     target: &'e CoreTarget,
     up: bool,
     at: Place,
-) -> Result<Change<'e>, Fail> {
+) -> Result<Change<'e>, Fail>
+    ensures made { IfOk result (λ v. IsMade (stock work.old) (stock work.new) (change_of v) (targeted (callee_of here.entry) (call_at here.entry) (core_target_of target.now) no_effects (step up) at (state_of (stock work.old)))) }
+    ensures refused { IfRefused result (λ r. IsTooHeavy (stock work.old) r (targeted (callee_of here.entry) (call_at here.entry) (core_target_of target.now) no_effects (step up) at (state_of (stock work.old)))) }
+{
     let depth = deeper(here.depth)?;
     let here = Here { depth, ..here };
     let subscripts = operands(here, work, &target.subscripts, NO_EFFECTS)?;
@@ -205,7 +231,10 @@ fn operands(
     work: &mut Work,
     es: &[CoreExpr],
     behind: Effects,
-) -> Result<Vec<Pure>, Fail> {
+) -> Result<Vec<Pure>, Fail>
+    ensures made { IfOk result (λ v. IsMade (stock work.old) (stock work.new) (map pure_of v.items) (operands (callee_of here.entry) (call_at here.entry) (row (map core_of es.now)) behind [] (state_of (stock work.old)))) }
+    ensures refused { IfRefused result (λ r. IsTooHeavy (stock work.old) r (operands (callee_of here.entry) (call_at here.entry) (row (map core_of es.now)) behind [] (state_of (stock work.old)))) }
+{
     let depth = deeper(here.depth)?;
     let here = Here { depth, ..here };
     let context = here.frame.context;

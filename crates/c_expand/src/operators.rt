@@ -1,11 +1,15 @@
 //! Operators behind their first operand, and those whose operands may not be reached.
 ghost use Rattle.std.specs.Prelude.{◌≡◌, IfOk, map};
 ghost use Rattle.hls_base.specs.Refusals.{IfRefused};
+ghost use Rattle.core_program.specs.CoreView.{core_of};
 ghost use Rattle.pieces.specs.View.{pure_of, piece_of};
+ghost use Rattle.piece_making.specs.Acting.{either, effects};
 ghost use Rattle.piece_making.specs.Calls.{call_of};
 ghost use Rattle.piece_making.specs.Saving.{is_logical};
 ghost use Rattle.piece_making.specs.Stocks.{IsMade, IsTooHeavy, state_of, stock};
-ghost use Rattle.c_expand.specs.Expressions.{decided, fork_of, discarded, set_unused, is_or};
+ghost use Rattle.c_expand.specs.Callees.{callee_of, call_at};
+ghost use Rattle.c_expand.specs.Chains.{link};
+ghost use Rattle.c_expand.specs.Expressions.{expression, operated, forked, chosen, arm, decided, same, to_bool, fork_of, discarded, set_unused, is_or};
 
 use crate::expressions::expression;
 use crate::here::{Here, deeper};
@@ -52,7 +56,10 @@ pub enum Step<'e> {
 /// An operator behind the operand that it goes on with.
 #[inline(never)]
 #[cycle(expansion)]
-pub fn linked(here: Here, work: &mut Work, step: Step, part: Pure) -> Result<Pure, Fail> {
+pub fn linked(here: Here, work: &mut Work, step: Step, part: Pure) -> Result<Pure, Fail>
+    ensures made { IfOk result (λ v. IsMade (stock work.old) (stock work.new) (pure_of v) (link (callee_of here.entry) (call_at here.entry) step.entry (pure_of part) (state_of (stock work.old)))) }
+    ensures refused { IfRefused result (λ r. IsTooHeavy (stock work.old) r (link (callee_of here.entry) (call_at here.entry) step.entry (pure_of part) (state_of (stock work.old)))) }
+{
     let depth = deeper(here.depth)?;
     let here = Here { depth, ..here };
     let alloc = here.frame.context.alloc;
@@ -68,8 +75,8 @@ pub fn linked(here: Here, work: &mut Work, step: Step, part: Pure) -> Result<Pur
     }
 }
 
-/// The value of an operand of a comma that is not used. It is set into a variable of its own, unless it may be let go.
-fn discard(work: &mut Work, is_let_go: bool, value: Pure) -> Result<(), Fail>
+/// A value that is not used. It is set into a variable of its own, unless it may be let go.
+pub fn discard(work: &mut Work, is_let_go: bool, value: Pure) -> Result<(), Fail>
     ensures made { IfOk result (λ v. IsMade (stock work.old) (stock work.new) v (discarded is_let_go (pure_of value) (state_of (stock work.old)))) }
     ensures refused { IfRefused result (λ r. IsTooHeavy (stock work.old) r (discarded is_let_go (pure_of value) (state_of (stock work.old)))) }
 {
@@ -80,7 +87,7 @@ fn discard(work: &mut Work, is_let_go: bool, value: Pure) -> Result<(), Fail>
 }
 
 /// A value that is not used is set into a variable of its own.
-pub fn set_unused(work: &mut Work, value: Pure) -> Result<(), Fail>
+fn set_unused(work: &mut Work, value: Pure) -> Result<(), Fail>
     ensures made { IfOk result (λ v. IsMade (stock work.old) (stock work.new) v (set_unused (pure_of value) (state_of (stock work.old)))) }
     ensures refused { IfRefused result (λ r. IsTooHeavy (stock work.old) r (set_unused (pure_of value) (state_of (stock work.old)))) }
 {
@@ -98,7 +105,10 @@ fn operated(
     operator: Operator,
     left: Pure,
     right: &CoreExpr,
-) -> Result<Pure, Fail> {
+) -> Result<Pure, Fail>
+    ensures made { IfOk result (λ v. IsMade (stock work.old) (stock work.new) (pure_of v) (operated (call_at here.entry) operator.op operator.kind operator.at (pure_of left) (effects (core_of right.now)) (expression (callee_of here.entry) (call_at here.entry) (core_of right.now)) (state_of (stock work.old)))) }
+    ensures refused { IfRefused result (λ r. IsTooHeavy (stock work.old) r (operated (call_at here.entry) operator.op operator.kind operator.at (pure_of left) (effects (core_of right.now)) (expression (callee_of here.entry) (call_at here.entry) (core_of right.now)) (state_of (stock work.old)))) }
+{
     let depth = deeper(here.depth)?;
     let here = Here { depth, ..here };
     let context = here.frame.context;
@@ -132,7 +142,10 @@ fn forked(
     operator: Operator,
     test: Pure,
     right: &CoreExpr,
-) -> Result<Pure, Fail> {
+) -> Result<Pure, Fail>
+    ensures made { IfOk result (λ v. IsMade (stock work.old) (stock work.new) (pure_of v) (forked (call_at here.entry) operator.op operator.kind operator.at (pure_of test) (expression (callee_of here.entry) (call_at here.entry) (core_of right.now)) (state_of (stock work.old)))) }
+    ensures refused { IfRefused result (λ r. IsTooHeavy (stock work.old) r (forked (call_at here.entry) operator.op operator.kind operator.at (pure_of test) (expression (callee_of here.entry) (call_at here.entry) (core_of right.now)) (state_of (stock work.old)))) }
+{
     let depth = deeper(here.depth)?;
     let here = Here { depth, ..here };
     let Operator { op, kind, at } = operator;
@@ -208,7 +221,10 @@ fn truth_arm(
     own: VarId,
     e: &CoreExpr,
     at: Place,
-) -> Result<Vec<Piece>, Fail> {
+) -> Result<Vec<Piece>, Fail>
+    ensures made { IfOk result (λ v. IsMade (stock work.old) (stock work.new) (record { value = tt; pieces = map piece_of v.items }) (arm (call_at here.entry) at (expression (callee_of here.entry) (call_at here.entry) (core_of e.now)) to_bool own (state_of (stock work.old)))) }
+    ensures refused { IfRefused result (λ r. IsTooHeavy (stock work.old) r (arm (call_at here.entry) at (expression (callee_of here.entry) (call_at here.entry) (core_of e.now)) to_bool own (state_of (stock work.old)))) }
+{
     let depth = deeper(here.depth)?;
     let here = Here { depth, ..here };
     let alloc = here.frame.context.alloc;
@@ -224,13 +240,10 @@ fn truth_arm(
 /// A branch that sets this variable to the value of the expression.
 #[inline(never)]
 #[cycle(expansion)]
-fn arm(
-    here: Here,
-    work: &mut Work,
-    own: VarId,
-    e: &CoreExpr,
-    at: Place,
-) -> Result<Vec<Piece>, Fail> {
+fn arm(here: Here, work: &mut Work, own: VarId, e: &CoreExpr, at: Place) -> Result<Vec<Piece>, Fail>
+    ensures made { IfOk result (λ v. IsMade (stock work.old) (stock work.new) (record { value = tt; pieces = map piece_of v.items }) (arm (call_at here.entry) at (expression (callee_of here.entry) (call_at here.entry) (core_of e.now)) same own (state_of (stock work.old)))) }
+    ensures refused { IfRefused result (λ r. IsTooHeavy (stock work.old) r (arm (call_at here.entry) at (expression (callee_of here.entry) (call_at here.entry) (core_of e.now)) same own (state_of (stock work.old)))) }
+{
     let depth = deeper(here.depth)?;
     let here = Here { depth, ..here };
     let outer = work.begin(here.frame.context.alloc);
@@ -254,7 +267,10 @@ struct Choice<'e> {
 /// A `?:`.
 #[inline(never)]
 #[cycle(expansion)]
-pub fn chosen(here: Here, work: &mut Work, e: &CoreExpr) -> Result<Pure, Fail> {
+pub fn chosen(here: Here, work: &mut Work, e: &CoreExpr) -> Result<Pure, Fail>
+    ensures made { IfOk result (λ v. IsMade (stock work.old) (stock work.new) (pure_of v) (expression (callee_of here.entry) (call_at here.entry) (core_of e.now) (state_of (stock work.old)))) }
+    ensures refused { IfRefused result (λ r. IsTooHeavy (stock work.old) r (expression (callee_of here.entry) (call_at here.entry) (core_of e.now) (state_of (stock work.old)))) }
+{
     let depth = deeper(here.depth)?;
     let here = Here { depth, ..here };
     let CoreExpr::Choice {
@@ -283,7 +299,10 @@ pub fn chosen(here: Here, work: &mut Work, e: &CoreExpr) -> Result<Pure, Fail> {
 /// A `?:` behind its test. It becomes a fork where its second or third operand needs pieces of its own.
 #[inline(never)]
 #[cycle(expansion)]
-fn selected(here: Here, work: &mut Work, test: Pure, operands: Choice) -> Result<Pure, Fail> {
+fn selected(here: Here, work: &mut Work, test: Pure, operands: Choice) -> Result<Pure, Fail>
+    ensures made { IfOk result (λ v. IsMade (stock work.old) (stock work.new) (pure_of v) (chosen (call_at here.entry) operands.entry.kind operands.entry.at operands.entry.colon (pure_of test) (either (effects (core_of operands.entry.yes.now)) (effects (core_of operands.entry.no.now))) (expression (callee_of here.entry) (call_at here.entry) (core_of operands.entry.yes.now)) (expression (callee_of here.entry) (call_at here.entry) (core_of operands.entry.no.now)) (state_of (stock work.old)))) }
+    ensures refused { IfRefused result (λ r. IsTooHeavy (stock work.old) r (chosen (call_at here.entry) operands.entry.kind operands.entry.at operands.entry.colon (pure_of test) (either (effects (core_of operands.entry.yes.now)) (effects (core_of operands.entry.no.now))) (expression (callee_of here.entry) (call_at here.entry) (core_of operands.entry.yes.now)) (expression (callee_of here.entry) (call_at here.entry) (core_of operands.entry.no.now)) (state_of (stock work.old)))) }
+{
     let depth = deeper(here.depth)?;
     let here = Here { depth, ..here };
     let context = here.frame.context;

@@ -2,16 +2,20 @@
 ghost use Rattle.std.specs.Prelude.{◌≡◌, ◌&&◌, IfOk, map, [], true, false, Some};
 ghost use Rattle.std.specs.Option.{option_map};
 ghost use Rattle.hls_base.specs.Refusals.{IfRefused};
-ghost use Rattle.core_program.specs.CoreView.{core_of, core_stmt_of, core_action_of};
+ghost use Rattle.core_program.specs.Core.{stmt_row};
+ghost use Rattle.core_program.specs.CoreView.{core_of, core_stmt_of, core_else_of, core_else_part, core_action_of};
+ghost use Rattle.pieces.specs.View.{pure_of, piece_of};
+ghost use Rattle.piece_making.specs.Making.{inside};
 ghost use Rattle.piece_making.specs.Calls.{call_of};
 ghost use Rattle.piece_making.specs.Stocks.{IsMade, IsTooHeavy, state_of, stock};
-ghost use Rattle.c_expand.specs.Loops.{loop_of, loop_tree};
-ghost use Rattle.c_expand.specs.Statements.{labelled};
+ghost use Rattle.c_expand.specs.Callees.{callee_of, call_at};
+ghost use Rattle.c_expand.specs.Loops.{loop_of, loop_tree, repeat_of, test_of};
+ghost use Rattle.c_expand.specs.Statements.{statement, statements, other_branch, branch, labelled, switched, loop_body, stepped, tested, returned, result_set, actions, action, changed, valued, is_call};
 
 use crate::declarations::declare;
 use crate::expressions::{assignment, expression, step_by_one};
 use crate::here::{Here, deeper};
-use crate::operators::set_unused;
+use crate::operators::discard;
 use core_program::expression::CoreExpr;
 use core_program::statement::{CoreAction, CoreElse, CoreStmt};
 use hls_base::place::Place;
@@ -27,7 +31,10 @@ use pieces::pure_expr::Pure;
 /// The statements of a block. `tail` tells whether the block is in a tail position.
 #[inline(never)]
 #[cycle(expansion)]
-pub fn block(here: Here, work: &mut Work, body: &[CoreStmt], tail: bool) -> Result<(), Fail> {
+pub fn block(here: Here, work: &mut Work, body: &[CoreStmt], tail: bool) -> Result<(), Fail>
+    ensures made { IfOk result (λ v. IsMade (stock work.old) (stock work.new) v (statements (callee_of here.entry) (call_at here.entry) (stmt_row (map core_stmt_of body.now)) tail (state_of (stock work.old)))) }
+    ensures refused { IfRefused result (λ r. IsTooHeavy (stock work.old) r (statements (callee_of here.entry) (call_at here.entry) (stmt_row (map core_stmt_of body.now)) tail (state_of (stock work.old)))) }
+{
     let depth = deeper(here.depth)?;
     let here = Here { depth, ..here };
     let count = body.len();
@@ -46,7 +53,10 @@ fn both(a: bool, b: bool) -> bool
 
 #[inline(never)]
 #[cycle(expansion)]
-fn statement(here: Here, work: &mut Work, stmt: &CoreStmt, tail: bool) -> Result<(), Fail> {
+fn statement(here: Here, work: &mut Work, stmt: &CoreStmt, tail: bool) -> Result<(), Fail>
+    ensures made { IfOk result (λ v. IsMade (stock work.old) (stock work.new) v (statement (callee_of here.entry) (call_at here.entry) (core_stmt_of stmt.now) tail (state_of (stock work.old)))) }
+    ensures refused { IfRefused result (λ r. IsTooHeavy (stock work.old) r (statement (callee_of here.entry) (call_at here.entry) (core_stmt_of stmt.now) tail (state_of (stock work.old)))) }
+{
     let depth = deeper(here.depth)?;
     let here = Here { depth, ..here };
     match stmt {
@@ -92,7 +102,10 @@ fn branch(
     stmt: &CoreStmt,
     tail: bool,
     at: Place,
-) -> Result<Vec<Piece>, Fail> {
+) -> Result<Vec<Piece>, Fail>
+    ensures made { IfOk result (λ v. IsMade (stock work.old) (stock work.new) (record { value = tt; pieces = map piece_of v.items }) (branch (call_at here.entry) at (statement (callee_of here.entry) (call_at here.entry) (core_stmt_of stmt.now) tail) (state_of (stock work.old)))) }
+    ensures refused { IfRefused result (λ r. IsTooHeavy (stock work.old) r (branch (call_at here.entry) at (statement (callee_of here.entry) (call_at here.entry) (core_stmt_of stmt.now) tail) (state_of (stock work.old)))) }
+{
     let depth = deeper(here.depth)?;
     let here = Here { depth, ..here };
     let outer = work.begin(here.frame.context.alloc);
@@ -108,7 +121,10 @@ fn second_branch(
     work: &mut Work,
     no: &Option<CoreElse>,
     tail: bool,
-) -> Result<Vec<Piece>, Fail> {
+) -> Result<Vec<Piece>, Fail>
+    ensures made { IfOk result (λ v. IsMade (stock work.old) (stock work.new) (record { value = tt; pieces = map piece_of v.items }) (other_branch (callee_of here.entry) (call_at here.entry) (core_else_part (option_map core_else_of no.now)) tail (state_of (stock work.old)))) }
+    ensures refused { IfRefused result (λ r. IsTooHeavy (stock work.old) r (other_branch (callee_of here.entry) (call_at here.entry) (core_else_part (option_map core_else_of no.now)) tail (state_of (stock work.old)))) }
+{
     let depth = deeper(here.depth)?;
     let here = Here { depth, ..here };
     match no {
@@ -135,7 +151,10 @@ fn switch(
     test: &CoreExpr,
     body: &[CoreStmt],
     at: Place,
-) -> Result<(), Fail> {
+) -> Result<(), Fail>
+    ensures made { IfOk result (λ v. IsMade (stock work.old) (stock work.new) v (switched (callee_of here.entry) (call_at here.entry) (core_of test.now) (statements (callee_of here.entry) (call_at here.entry) (stmt_row (map core_stmt_of body.now)) false) at (state_of (stock work.old)))) }
+    ensures refused { IfRefused result (λ r. IsTooHeavy (stock work.old) r (switched (callee_of here.entry) (call_at here.entry) (core_of test.now) (statements (callee_of here.entry) (call_at here.entry) (stmt_row (map core_stmt_of body.now)) false) at (state_of (stock work.old)))) }
+{
     let depth = deeper(here.depth)?;
     let here = Here { depth, ..here };
     let alloc = here.frame.context.alloc;
@@ -212,7 +231,10 @@ impl<'s> Loop<'s> {
 
 #[inline(never)]
 #[cycle(expansion)]
-fn repeat(here: Here, work: &mut Work, parts: Loop) -> Result<(), Fail> {
+fn repeat(here: Here, work: &mut Work, parts: Loop) -> Result<(), Fail>
+    ensures made { IfOk result (λ v. IsMade (stock work.old) (stock work.new) v (repeat_of (callee_of here.entry) (call_at here.entry) (loop_of parts.entry) (state_of (stock work.old)))) }
+    ensures refused { IfRefused result (λ r. IsTooHeavy (stock work.old) r (repeat_of (callee_of here.entry) (call_at here.entry) (loop_of parts.entry) (state_of (stock work.old)))) }
+{
     let depth = deeper(here.depth)?;
     let here = Here { depth, ..here };
     let Loop {
@@ -244,7 +266,10 @@ fn repeat(here: Here, work: &mut Work, parts: Loop) -> Result<(), Fail> {
 }
 
 #[cycle(expansion)]
-fn tested(here: Here, work: &mut Work, test: Option<&CoreExpr>) -> Result<Pure, Fail> {
+fn tested(here: Here, work: &mut Work, test: Option<&CoreExpr>) -> Result<Pure, Fail>
+    ensures made { IfOk result (λ v. IsMade (stock work.old) (stock work.new) (pure_of v) (tested (callee_of here.entry) (call_at here.entry) (test_of test.entry) (state_of (stock work.old)))) }
+    ensures refused { IfRefused result (λ r. IsTooHeavy (stock work.old) r (tested (callee_of here.entry) (call_at here.entry) (test_of test.entry) (state_of (stock work.old)))) }
+{
     let depth = deeper(here.depth)?;
     let here = Here { depth, ..here };
     match test {
@@ -255,7 +280,10 @@ fn tested(here: Here, work: &mut Work, test: Option<&CoreExpr>) -> Result<Pure, 
 
 /// The body of a loop, behind its mark.
 #[cycle(expansion)]
-fn loop_body(here: Here, work: &mut Work, body: &CoreStmt, at: Place) -> Result<Vec<Piece>, Fail> {
+fn loop_body(here: Here, work: &mut Work, body: &CoreStmt, at: Place) -> Result<Vec<Piece>, Fail>
+    ensures made { IfOk result (λ v. IsMade (stock work.old) (stock work.new) (record { value = tt; pieces = map piece_of v.items }) (loop_body (call_at here.entry) at (statement (callee_of here.entry) (call_at here.entry) (core_stmt_of body.now) false) (state_of (stock work.old)))) }
+    ensures refused { IfRefused result (λ r. IsTooHeavy (stock work.old) r (loop_body (call_at here.entry) at (statement (callee_of here.entry) (call_at here.entry) (core_stmt_of body.now) false) (state_of (stock work.old)))) }
+{
     let depth = deeper(here.depth)?;
     let here = Here { depth, ..here };
     let outer = work.begin(here.frame.context.alloc);
@@ -267,12 +295,10 @@ fn loop_body(here: Here, work: &mut Work, body: &CoreStmt, at: Place) -> Result<
 
 /// The third part of a `for`, if there is one.
 #[cycle(expansion)]
-fn step_of(
-    here: Here,
-    work: &mut Work,
-    step: &[CoreAction],
-    at: Place,
-) -> Result<Vec<Piece>, Fail> {
+fn step_of(here: Here, work: &mut Work, step: &[CoreAction], at: Place) -> Result<Vec<Piece>, Fail>
+    ensures made { IfOk result (λ v. IsMade (stock work.old) (stock work.new) (record { value = tt; pieces = map piece_of v.items }) (inside (stepped (callee_of here.entry) (call_at here.entry) (map core_action_of step.now) at) (state_of (stock work.old)))) }
+    ensures refused { IfRefused result (λ r. IsTooHeavy (stock work.old) r (inside (stepped (callee_of here.entry) (call_at here.entry) (map core_action_of step.now) at) (state_of (stock work.old)))) }
+{
     let depth = deeper(here.depth)?;
     let here = Here { depth, ..here };
     let outer = work.begin(here.frame.context.alloc);
@@ -281,7 +307,10 @@ fn step_of(
 }
 
 #[cycle(expansion)]
-fn stepped(here: Here, work: &mut Work, step: &[CoreAction], at: Place) -> Result<(), Fail> {
+fn stepped(here: Here, work: &mut Work, step: &[CoreAction], at: Place) -> Result<(), Fail>
+    ensures made { IfOk result (λ v. IsMade (stock work.old) (stock work.new) v (stepped (callee_of here.entry) (call_at here.entry) (map core_action_of step.now) at (state_of (stock work.old)))) }
+    ensures refused { IfRefused result (λ r. IsTooHeavy (stock work.old) r (stepped (callee_of here.entry) (call_at here.entry) (map core_action_of step.now) at (state_of (stock work.old)))) }
+{
     let depth = deeper(here.depth)?;
     let here = Here { depth, ..here };
     if step.is_empty() {
@@ -294,7 +323,10 @@ fn stepped(here: Here, work: &mut Work, step: &[CoreAction], at: Place) -> Resul
 
 /// A return. In a tail position control goes on to the end of the call by itself.
 #[cycle(expansion)]
-fn returned(here: Here, work: &mut Work, value: &Option<CoreExpr>, tail: bool) -> Result<(), Fail> {
+fn returned(here: Here, work: &mut Work, value: &Option<CoreExpr>, tail: bool) -> Result<(), Fail>
+    ensures made { IfOk result (λ v. IsMade (stock work.old) (stock work.new) v (returned (callee_of here.entry) (call_at here.entry) (option_map core_of value.now) tail (state_of (stock work.old)))) }
+    ensures refused { IfRefused result (λ r. IsTooHeavy (stock work.old) r (returned (callee_of here.entry) (call_at here.entry) (option_map core_of value.now) tail (state_of (stock work.old)))) }
+{
     let depth = deeper(here.depth)?;
     let here = Here { depth, ..here };
     set_result(here, work, value)?;
@@ -306,7 +338,10 @@ fn returned(here: Here, work: &mut Work, value: &Option<CoreExpr>, tail: bool) -
 
 /// Sets the variable of the call's result.
 #[cycle(expansion)]
-fn set_result(here: Here, work: &mut Work, value: &Option<CoreExpr>) -> Result<(), Fail> {
+fn set_result(here: Here, work: &mut Work, value: &Option<CoreExpr>) -> Result<(), Fail>
+    ensures made { IfOk result (λ v. IsMade (stock work.old) (stock work.new) v (result_set (callee_of here.entry) (call_at here.entry) (option_map core_of value.now) (state_of (stock work.old)))) }
+    ensures refused { IfRefused result (λ r. IsTooHeavy (stock work.old) r (result_set (callee_of here.entry) (call_at here.entry) (option_map core_of value.now) (state_of (stock work.old)))) }
+{
     let depth = deeper(here.depth)?;
     let here = Here { depth, ..here };
     match value {
@@ -321,7 +356,10 @@ fn set_result(here: Here, work: &mut Work, value: &Option<CoreExpr>) -> Result<(
 
 #[inline(never)]
 #[cycle(expansion)]
-fn actions(here: Here, work: &mut Work, list: &[CoreAction]) -> Result<(), Fail> {
+fn actions(here: Here, work: &mut Work, list: &[CoreAction]) -> Result<(), Fail>
+    ensures made { IfOk result (λ v. IsMade (stock work.old) (stock work.new) v (actions (callee_of here.entry) (call_at here.entry) (map core_action_of list.now) (state_of (stock work.old)))) }
+    ensures refused { IfRefused result (λ r. IsTooHeavy (stock work.old) r (actions (callee_of here.entry) (call_at here.entry) (map core_action_of list.now) (state_of (stock work.old)))) }
+{
     let depth = deeper(here.depth)?;
     let here = Here { depth, ..here };
     for one in list {
@@ -331,7 +369,10 @@ fn actions(here: Here, work: &mut Work, list: &[CoreAction]) -> Result<(), Fail>
 }
 
 #[cycle(expansion)]
-fn action(here: Here, work: &mut Work, one: &CoreAction) -> Result<(), Fail> {
+fn action(here: Here, work: &mut Work, one: &CoreAction) -> Result<(), Fail>
+    ensures made { IfOk result (λ v. IsMade (stock work.old) (stock work.new) v (action (callee_of here.entry) (call_at here.entry) (core_action_of one.now) (state_of (stock work.old)))) }
+    ensures refused { IfRefused result (λ r. IsTooHeavy (stock work.old) r (action (callee_of here.entry) (call_at here.entry) (core_action_of one.now) (state_of (stock work.old)))) }
+{
     let depth = deeper(here.depth)?;
     let here = Here { depth, ..here };
     match one {
@@ -342,7 +383,10 @@ fn action(here: Here, work: &mut Work, one: &CoreAction) -> Result<(), Fail> {
 
 /// An assignment, `++` or `--` that stands by itself.
 #[cycle(expansion)]
-fn changed(here: Here, work: &mut Work, e: &CoreExpr) -> Result<(), Fail> {
+fn changed(here: Here, work: &mut Work, e: &CoreExpr) -> Result<(), Fail>
+    ensures made { IfOk result (λ v. IsMade (stock work.old) (stock work.new) v (changed (callee_of here.entry) (call_at here.entry) (core_of e.now) (state_of (stock work.old)))) }
+    ensures refused { IfRefused result (λ r. IsTooHeavy (stock work.old) r (changed (callee_of here.entry) (call_at here.entry) (core_of e.now) (state_of (stock work.old)))) }
+{
     let depth = deeper(here.depth)?;
     let here = Here { depth, ..here };
     match e {
@@ -367,12 +411,18 @@ fn changed(here: Here, work: &mut Work, e: &CoreExpr) -> Result<(), Fail> {
 
 /// Any other expression that stands by itself. Where it is no call, it is set into a variable of its own.
 #[cycle(expansion)]
-fn valued(here: Here, work: &mut Work, e: &CoreExpr) -> Result<(), Fail> {
+fn valued(here: Here, work: &mut Work, e: &CoreExpr) -> Result<(), Fail>
+    ensures made { IfOk result (λ v. IsMade (stock work.old) (stock work.new) v (valued (callee_of here.entry) (call_at here.entry) (core_of e.now) (state_of (stock work.old)))) }
+    ensures refused { IfRefused result (λ r. IsTooHeavy (stock work.old) r (valued (callee_of here.entry) (call_at here.entry) (core_of e.now) (state_of (stock work.old)))) }
+{
     let depth = deeper(here.depth)?;
     let here = Here { depth, ..here };
     let value = expression(here, work, e)?;
-    if matches!(e, CoreExpr::Call { .. }) {
-        return Ok(());
-    }
-    set_unused(work, value)
+    discard(work, is_call(e), value)
+}
+
+fn is_call(e: &CoreExpr) -> bool
+    ensures { result ≡ is_call (core_of e.now) }
+{
+    matches!(e, CoreExpr::Call { .. })
 }

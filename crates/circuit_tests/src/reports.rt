@@ -193,7 +193,7 @@ fn counts_cycles(rt: HostRuntime) -> Result<(), Fail> {
     let mut counts = Vec::new(rt.alloc());
     counts.push((point(rt.alloc(), 10, PointKind::Begin), 1u64))?;
     let tally = Tally::new(counts);
-    assert_eq!(rt; formula.cycles(&tally), 3);
+    assert_eq!(rt; formula.cycles(&tally), Some(3));
     Ok(())
 }
 

@@ -1,7 +1,6 @@
 //! The number of cycles that a formula gives for a run.
 
-ghost use Rattle.std.specs.Prelude.{ℕ, List, ◌≡◌, ◌≤◌, ◌*◌, ◌^◌, length};
-ghost use Rattle.std.specs.List.{All};
+ghost use Rattle.std.specs.Prelude.{ℕ, ◌≡◌, ◌<◌, ◌*◌, ◌^◌, SomeIff};
 ghost use Rattle.hls_base.specs.Tallies.{count_in, same_place, same_path, same_point};
 ghost use Rattle.cycle_report.specs.FormulaValue.{cycles};
 
@@ -10,25 +9,22 @@ use hls_base::place::Place;
 use hls_base::point::{Point, Tally};
 
 impl Formula {
-    /// The cycles of a run that passed each point as often as the tally says.
-    pub fn cycles(&self, tally: &Tally) -> u128
-        requires rows { length self.now.rows.items ≤ 2 ^ 31 }
-        requires counts { All (λ entry. entry.1 ≤ 2 ^ 32) tally.now }
-        ensures { result ≡ cycles self.now.base self.now.rows.items tally.now }
+    /// The cycles of a run that passed each point as often as the tally says, if they have 128 bits.
+    pub fn cycles(&self, tally: &Tally) -> Option<u128>
+        ensures { SomeIff result (cycles self.now.base self.now.rows.items tally.now < 2 ^ 128) (cycles self.now.base self.now.rows.items tally.now) }
     {
         let mut total = u128::from(self.base);
         for row in &self.rows {
             let count = count_at(tally.items(), &row.point);
-            total += spent(row.cost, count);
+            total = total.checked_add(spent(row.cost, count))?;
         }
-        total
+        Some(total)
     }
 }
 
 /// What so many passings cost.
 fn spent(cost: u64, count: u64) -> u128
-    ensures value { result ≡ cost * count }
-    ensures small { count ≤ 2 ^ 32 → result ≤ 2 ^ 96 }
+    ensures { result ≡ cost * count }
 {
     u128::from(cost) * u128::from(count)
 }

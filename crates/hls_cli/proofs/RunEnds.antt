@@ -1,18 +1,19 @@
 -- What a run's status says, from what its work gave and what the last put gave.
-use Rattle.std.proofs.Common.{◌≡◌, ◌⊎◌, ℕ, List, [], Option, Some, None, inl, inr, refl, sym, ◌∙◌, subst}
-use Rattle.std.specs.String.{string_bytes}
+use Rattle.std.proofs.Common.{◌≡◌, ◌≢◌, ◌⊎◌, ℕ, List, Option, Some, None, Result, Ok, Err, IfOk, inl, inr, refl, sym, ◌∙◌, subst}
 use Rattle.hls_base.specs.declared.refusal.Refusal.{Refusal}
-use Rattle.hls_base.specs.Outside.{Files, HasRisen, WhereTold, IsAbsent, PutsPrefix}
-use Rattle.hls_base.proofs.OutsideLemmas.{WhereTold-same, WhereTold-weaker}
+use Rattle.hls_base.specs.Outside.{Files, HasRisen, WhereTold, IsAbsent, PutsAll, PutsPrefix}
+use Rattle.hls_base.proofs.OutsideLemmas.{WhereTold-same}
 use Rattle.hls_flow.specs.FirstFault.{IsAccepted, IsFirstFault}
 use Rattle.hls_flow.proofs.Faults.{accepted_has_no_fault}
 use Rattle.command_words.specs.Commands as command
 use Rattle.command_words.specs.Commands.{Synth, Cosim}
 use Rattle.hls_cli.specs.declared.work.Answer.{Answer}
+use Rattle.hls_flow.specs.declared.verdict.CosimInputs.{CosimInputs}
+use Rattle.hls_cli.specs.Comparisons.{IsGiven, IsCosimAnswer, IsCosimWork, answers, IsComparisonAnswer}
 use Rattle.hls_cli.specs.Words.{IsSynth, IsCosim, IsComparison}
 use Rattle.hls_cli.specs.Work as work
 use Rattle.hls_cli.specs.Work.{IsSynthWork}
-use Rattle.hls_cli.specs.SynthRun.{IsSourceOf, SameFiles, IsRefused, PutsCutLine, Outside, IsCutOff, HasFault, IsComplete}
+use Rattle.hls_cli.specs.SynthRun.{IsSourceOf, SameFiles, IsRefused, PutsCutLine, Outside, RanToVerdict, IsCutOff, HasFault, IsComplete}
 use Rattle.hls_cli.specs.SynthRun as run
 
 -- how a status may change as the lines are put
@@ -56,7 +57,7 @@ never_refused words c fault old new is refused done =
 
 -- ---- what was made, or refused
 
-pub synth_cut : (words : List (List ℕ)) (c : Synth) (a : Answer) (put last : List ℕ) (o : Outside) → IsSynth words c → IsSynthWork c o.old_files o.new_files a → put ≡ string_bytes a.lines
+pub synth_cut : (words : List (List ℕ)) (c : Synth) (a : Answer) (put last : List ℕ) (o : Outside) → IsSynth words c → IsSynthWork c o.old_files o.new_files a → put ≡ a.lines
     → WhereTold (PutsCutLine put last) o.old_bytes o.new_bytes → IsCutOff words last o
 synth_cut words c a put last o is (work.made zero said files) e bytes = run.at_made c is files (subst (λ l. WhereTold (PutsCutLine l last) o.old_bytes o.new_bytes) (e ∙ said) bytes)
 synth_cut words c a put last o is (work.refused fault one said files) e bytes = run.at_refusal c fault is files (subst (λ l. WhereTold (PutsCutLine l last) o.old_bytes o.new_bytes) (e ∙ said) bytes)
@@ -70,15 +71,32 @@ synth_complete words c a old new r d e is w (inr (inr four)) rose done sink = in
 
 -- ---- comparisons
 
-pub verdict_cut : (words : List (List ℕ)) (put last : List ℕ) (o : Outside) → IsComparison words → o.new_files ≡ o.old_files → WhereTold (PutsCutLine put last) o.old_bytes o.new_bytes → IsCutOff words last o
-verdict_cut words put last o is same bytes = run.of_comparison put is (same_files o.old_files o.new_files same) bytes
+-- what a comparison says of what was read
+pub cosim_work : {E : Type 0} (c : Cosim) (files : Option Files) (given : CosimInputs) (r : Result Answer E) → IsGiven c files given → IfOk r (λ a. IsCosimAnswer given a.status a.lines)
+    → IfOk r (λ a. IsCosimWork c files a.status a.lines)
+cosim_work c files given (Ok a) is answer = answers given is answer
+cosim_work c files given (Err e) is answer = tt
 
-early : (last x y : List ℕ) → PutsPrefix last x y → PutsCutLine [] last x y
-early last x y (k, e) = (0, k, e)
+-- the status is that of the answer, and so its lines were put
+pub ran_to_verdict : (words : List (List ℕ)) (status r n : ℕ) (put lines : List ℕ) (o : Outside) → IsComparisonAnswer words o.old_files status lines → put ≡ lines → o.new_files ≡ o.old_files
+    → (r ≡ status → WhereTold (PutsAll put) o.old_bytes o.new_bytes) → Ended status r → r ≡ n → n ≢ 3 → n ≢ 4 → RanToVerdict words n o
+ran_to_verdict words status r n put lines o answer e same bytes (inl kept) is no_fault no_memory = record {
+  lines = put;
+  answer = subst (λ k. IsComparisonAnswer words o.old_files k put) (sym kept ∙ is) (subst (IsComparisonAnswer words o.old_files status) (sym e) answer);
+  files = same_files o.old_files o.new_files same;
+  bytes = bytes kept;
+}
+ran_to_verdict words status r n put lines o answer e same bytes (inr (inl three)) is no_fault no_memory = absurd (no_fault (sym is ∙ three))
+ran_to_verdict words status r n put lines o answer e same bytes (inr (inr four)) is no_fault no_memory = absurd (no_memory (sym is ∙ four))
+
+pub verdict_cut : (words : List (List ℕ)) (status : ℕ) (put lines last : List ℕ) (o : Outside) → IsComparisonAnswer words o.old_files status lines → put ≡ lines → o.new_files ≡ o.old_files
+    → WhereTold (PutsCutLine put last) o.old_bytes o.new_bytes → IsCutOff words last o
+verdict_cut words status put lines last o answer e same bytes =
+    run.at_comparison status put (subst (IsComparisonAnswer words o.old_files status) (sym e) answer) (same_files o.old_files o.new_files same) bytes
 
 -- the work stopped before there was a line
 pub verdict_cut_early : (words : List (List ℕ)) (last : List ℕ) (o : Outside) → IsComparison words → o.new_files ≡ o.old_files → WhereTold (PutsPrefix last) o.old_bytes o.new_bytes → IsCutOff words last o
-verdict_cut_early words last o is same bytes = run.of_comparison [] is (same_files o.old_files o.new_files same) (WhereTold-weaker o.old_bytes o.new_bytes bytes (early last))
+verdict_cut_early words last o is same bytes = run.uncompared is (same_files o.old_files o.new_files same) bytes
 
 -- ---- faults of the work
 

@@ -1,4 +1,6 @@
 pub mod Words
 pub mod Lines
+pub mod VerdictLines
+pub mod Comparisons
 pub mod SynthRun
 pub mod Work

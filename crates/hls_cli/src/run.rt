@@ -16,11 +16,11 @@ use std::alloc::Global;
 pub fn run<F: Shelf, K: Sink>(alloc: Global, words: &[String], shelf: &mut F, out: &mut K) -> u8
     ensures status { result ≤ 9 }
     ensures made { result ≡ 0 → RanToModule (map string_bytes words.now) (outside (F.files shelf.old) (F.files shelf.new) (K.written out.old) (K.written out.new))
-        ⊎ RanToVerdict (map string_bytes words.now) (outside (F.files shelf.old) (F.files shelf.new) (K.written out.old) (K.written out.new)) }
+        ⊎ RanToVerdict (map string_bytes words.now) 0 (outside (F.files shelf.old) (F.files shelf.new) (K.written out.old) (K.written out.new)) }
     ensures refused { result ≡ 1 → RanToRefusal (map string_bytes words.now) (outside (F.files shelf.old) (F.files shelf.new) (K.written out.old) (K.written out.new))
-        ⊎ RanToVerdict (map string_bytes words.now) (outside (F.files shelf.old) (F.files shelf.new) (K.written out.old) (K.written out.new)) }
+        ⊎ RanToVerdict (map string_bytes words.now) 1 (outside (F.files shelf.old) (F.files shelf.new) (K.written out.old) (K.written out.new)) }
     ensures usage { result ≡ 2 → RanToUsage (map string_bytes words.now) (outside (F.files shelf.old) (F.files shelf.new) (K.written out.old) (K.written out.new)) }
-    ensures compared { 5 ≤ result → RanToVerdict (map string_bytes words.now) (outside (F.files shelf.old) (F.files shelf.new) (K.written out.old) (K.written out.new)) }
+    ensures compared { 5 ≤ result → RanToVerdict (map string_bytes words.now) result (outside (F.files shelf.old) (F.files shelf.new) (K.written out.old) (K.written out.new)) }
 
     // A fault of the outside, and want of memory, cut the run off.
     ensures fault { result ≡ 3 → HasFault (map string_bytes words.now) (F.files shelf.old) (F.faults shelf.old) (F.faults shelf.new) (K.faults out.old) (K.faults out.new) }
@@ -32,17 +32,17 @@ pub fn run<F: Shelf, K: Sink>(alloc: Global, words: &[String], shelf: &mut F, ou
 {
     match read_words(alloc, words) {
         Ok(Some(Command::Synth(command))) => match work_synth(alloc, &command, shelf) {
-            Ok(answer) => finish(answer.status, answer.lines.as_bytes(), out),
+            Ok(answer) => finish(answer.status, answer.lines.items(), out),
             Err(ShelfError::Failed) => stop_for_fault(out),
             Err(ShelfError::Memory) => stop_for_memory(out),
         },
         Ok(Some(Command::Cosim(command))) => match work_cosim(alloc, &command, shelf) {
-            Ok(answer) => finish(answer.status, answer.lines.as_bytes(), out),
+            Ok(answer) => finish(answer.status, answer.lines.items(), out),
             Err(ShelfError::Failed) => stop_for_fault(out),
             Err(ShelfError::Memory) => stop_for_memory(out),
         },
         Ok(Some(Command::Soak(number))) => match work_soak(alloc, number) {
-            Ok(answer) => finish(answer.status, answer.lines.as_bytes(), out),
+            Ok(answer) => finish(answer.status, answer.lines.items(), out),
             Err(_) => stop_for_memory(out),
         },
         Ok(None) => finish(2, USAGE, out),

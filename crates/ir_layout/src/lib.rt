@@ -2,6 +2,7 @@
 #![tactic(auto)]
 
 mod counts;
+mod fits;
 mod flat;
 pub mod layout;
 mod ways;

@@ -1,7 +1,12 @@
 //! Where control goes from a block.
-use crate::counts::{parts_count, sequence_count, side_count};
-use hls_base::number::NodeId;
-use hls_base::refusal::impossible;
+ghost use Rattle.std.specs.Prelude.{◌≡◌, ◌+◌, map, get_or, IfOk};
+ghost use Rattle.std.specs.Option.{option_map};
+ghost use Rattle.block_meaning.specs.Trees.{sequence_of, shape_of, arm_row, side_of};
+ghost use Rattle.ir_layout.specs.Layout.{side_start, body_start, step_start, ahead_of, behind_shape};
+ghost use Rattle.ir_layout.specs.Views.{number, arm_starts_from, other_in, ahead_view};
+
+use crate::counts::{parts_count, plus, sequence_count, side_count};
+use hls_base::number::{NodeId, VarId};
 use ir_core::tree::{Sequence, Shape};
 use std::alloc::{AllocError, Global};
 
@@ -14,19 +19,15 @@ pub enum Ways {
     Cases { cases: Vec<NodeId>, other: NodeId },
 }
 
-/// Where jumps lead.
+/// Where jumps lead, and the variable of the result.
 #[derive(Clone, Copy, Debug)]
 pub struct Around {
     pub leave: Option<NodeId>,
     pub again: Option<NodeId>,
+    pub returned: Option<VarId>,
 }
 
-pub fn node_at(place: u64) -> Result<NodeId, AllocError> {
-    let id = u32::try_from(place).map_err(|_| impossible())?;
-    Ok(NodeId(id))
-}
-
-/// The first nodes of the parts of a loop.
+/// The first nodes of the parts of a loop. `again` is where `Continue` leads.
 #[derive(Clone, Copy, Debug)]
 pub struct Starts {
     pub test: NodeId,
@@ -36,39 +37,46 @@ pub struct Starts {
 
 /// The parts of a loop whose first node is at this place.
 pub fn loop_starts(
-    base: u64,
+    base: u32,
     test: &Sequence,
     body: &Sequence,
-    has_step: bool,
-) -> Result<Starts, AllocError> {
-    let start = node_at(base)?;
-    let behind_test = base.saturating_add(sequence_count(test));
-    let behind_body = behind_test.saturating_add(sequence_count(body));
-    let again = if has_step {
-        node_at(behind_body)?
-    } else {
-        start
+    step: &Option<Box<Sequence>>,
+) -> Result<Starts, AllocError>
+    ensures test { IfOk result (λ starts. number starts.test ≡ base) }
+    ensures body { IfOk result (λ starts. number starts.body ≡ body_start base (sequence_of test.now)) }
+    ensures again { IfOk result (λ starts. number starts.again ≡ step_start base (sequence_of test.now) (sequence_of body.now) (side_of (option_map (λ part. sequence_of part.value) step.now))) }
+{
+    let behind_test = plus(base, sequence_count(test)?)?;
+    let behind_body = plus(behind_test, sequence_count(body)?)?;
+    let again = match step {
+        Some(_) => behind_body,
+        None => base,
     };
     Ok(Starts {
-        test: start,
-        body: node_at(behind_test)?,
-        again,
+        test: NodeId(base),
+        body: NodeId(behind_test),
+        again: NodeId(again),
     })
 }
 
 /// The first node of each arm, where the first arm begins at this place.
-pub fn arm_starts(alloc: Global, base: u64, arms: &[Sequence]) -> Result<Vec<NodeId>, AllocError> {
+fn arm_starts(alloc: Global, base: u32, arms: &[Sequence]) -> Result<Vec<NodeId>, AllocError>
+    ensures { IfOk result (λ starts. map number starts.items ≡ arm_starts_from base (arm_row (map sequence_of arms.now))) }
+{
     let mut starts = Vec::new(alloc);
     let mut place = base;
     for arm in arms {
-        starts.push(node_at(place)?)?;
-        place = place.saturating_add(sequence_count(arm));
+        starts.push(NodeId(place))?;
+        place = plus(place, sequence_count(arm)?)?;
     }
     Ok(starts)
 }
 
 /// The arm of this number, or the node behind the switch.
-pub fn arm_at(starts: &[NodeId], index: usize, after: NodeId) -> NodeId {
+fn arm_at(starts: &[NodeId], index: u32, after: NodeId) -> NodeId
+    ensures { number result ≡ get_or (map number starts.now) index (number after) }
+{
+    let index = index as usize;
     if index < starts.len() {
         starts[index]
     } else {
@@ -81,43 +89,48 @@ fn case_nodes(
     starts: &[NodeId],
     targets: &[u32],
     after: NodeId,
-) -> Result<Vec<NodeId>, AllocError> {
+) -> Result<Vec<NodeId>, AllocError>
+    ensures { IfOk result (λ nodes. map number nodes.items ≡ map (λ i. get_or (map number starts.now) i (number after)) targets.now) }
+{
     let mut nodes = Vec::new(alloc);
     for target in targets {
-        nodes.push(arm_at(starts, *target as usize, after))?;
+        nodes.push(arm_at(starts, *target, after))?;
     }
     Ok(nodes)
 }
 
-/// The first node of a branch, or the node behind the fork.
-fn side_start(side: &Option<Sequence>, base: u64, after: NodeId) -> Result<NodeId, AllocError> {
-    match side {
-        Some(_) => node_at(base),
-        None => Ok(after),
+fn other_node(starts: &[NodeId], other: &Option<u32>, after: NodeId) -> NodeId
+    ensures { number result ≡ other_in (map number starts.now) (number after) other.now }
+{
+    match other {
+        Some(arm) => arm_at(starts, *arm, after),
+        None => after,
     }
 }
 
-/// Where control goes from the block before a shape, whose first node is at this place.
-pub fn ways_into(
-    alloc: Global,
-    shape: &Shape,
-    base: u64,
-    after: NodeId,
-) -> Result<Ways, AllocError> {
+/// The first node of a branch, or the node behind the fork.
+fn side_node(side: &Option<Sequence>, base: u32, after: u32) -> NodeId
+    ensures { number result ≡ side_start base after (side_of (option_map sequence_of side.now)) }
+{
+    match side {
+        Some(_) => NodeId(base),
+        None => NodeId(after),
+    }
+}
+
+/// Where control goes from the block before a shape, whose first node is at this place, and behind which stands another one.
+pub fn ways_into(alloc: Global, shape: &Shape, base: u32, after: u32) -> Result<Ways, AllocError>
+    requires { after ≡ behind_shape base (shape_of shape.now) }
+    ensures { IfOk result (λ ways. ahead_view ways ≡ ahead_of base (shape_of shape.now)) }
+{
     match shape {
         Shape::Fork { yes, no, .. } => Ok(Ways::Test {
-            yes: side_start(yes, base, after)?,
-            no: side_start(no, base.saturating_add(side_count(yes)), after)?,
+            yes: side_node(yes, base, after),
+            no: side_node(no, plus(base, side_count(yes)?)?, after),
         }),
-        Shape::Loop {
-            post,
-            test,
-            body,
-            step,
-            ..
-        } => {
-            let starts = loop_starts(base, test, body, step.is_some())?;
-            Ok(Ways::Node(if *post { starts.body } else { starts.test }))
+        Shape::Loop { post, test, .. } => {
+            let body = plus(base, sequence_count(test)?)?;
+            Ok(Ways::Node(NodeId(if *post { body } else { base })))
         }
         Shape::Choose {
             dead,
@@ -125,16 +138,13 @@ pub fn ways_into(
             other,
             arms,
         } => {
-            let first = base.saturating_add(parts_count(dead));
+            let first = plus(base, parts_count(dead)?)?;
             let starts = arm_starts(alloc, first, arms)?;
-            let cases = case_nodes(alloc, &starts, targets, after)?;
-            let other = match other {
-                Some(arm) => arm_at(&starts, *arm as usize, after),
-                None => after,
-            };
+            let cases = case_nodes(alloc, &starts, targets, NodeId(after))?;
+            let other = other_node(&starts, other, NodeId(after));
             Ok(Ways::Cases { cases, other })
         }
-        Shape::Land(_) => Ok(Ways::Node(after)),
-        Shape::Overlapped { .. } => Ok(Ways::Node(node_at(base)?)),
+        Shape::Land(_) => Ok(Ways::Node(NodeId(base))),
+        Shape::Overlapped { .. } => Ok(Ways::Node(NodeId(base))),
     }
 }

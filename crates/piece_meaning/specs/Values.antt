@@ -1,11 +1,11 @@
 -- What expressions without calls and changes mean: C11 6.3.1 and 6.5.
-use Rattle.std.specs.Prelude.{ℕ, ◌==◌, true, false, List, [], ◌∷◌, ℤ, pos, slice_get, Option, Some, None, if◌then◌else◌}
+use Rattle.std.specs.Prelude.{ℕ, ◌==◌, true, false, List, [], ◌∷◌, ℤ, slice_get, Option, Some, None, if◌then◌else◌}
 use Rattle.hls_base.specs.declared.place.Place.{Place}
 use Rattle.hls_base.specs.declared.refusal.UbRule.TheVariants as ub
 use Rattle.c_tree.specs.declared.operator.Binary.{Binary}
 use Rattle.c_tree.specs.declared.operator.Binary.TheVariants as b
 use Rattle.c_token.specs.declared.ctype.CType.{CType}
-use Rattle.c_value.specs.Values.{convert}
+use Rattle.c_value.specs.Values.{number_of, convert}
 use Rattle.c_value.specs.Operators as o
 use Rattle.c_value.specs.Operators.{Computed, truth, is_true, unary_value, binary_value}
 use Rattle.c_meaning.specs.Store.{element_place}
@@ -57,7 +57,7 @@ joined op left x right at second = and_then second (λ y. computed (binary_value
 
 abbrev mutual
   pub value : List ArrayTree → PureTree → Store → Valued ℤ
-  value arrays (tree.number v k) t = is (pos v)
+  value arrays (tree.number v k) t = is (number_of k v)
   value arrays (tree.variable name k) t = is (t.variables name.0)
   value arrays (tree.element array subscripts k at) t =
       and_then (values arrays subscripts t) (λ is_. element_at array.0 (element_number arrays array.0 is_) at t)

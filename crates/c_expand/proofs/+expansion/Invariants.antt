@@ -1,5 +1,16 @@
-use Rattle.std.proofs.Common.{◌≤◌, length}
+use Rattle.std.proofs.Common.{◌≤◌, [], map, drop, length}
+use Rattle.std.specs.Option.{option_map}
 use Rattle.core_program.specs.declared.expression.CoreExpr.{size-CoreExpr}
+use Rattle.core_program.specs.Core.{row, argument_row, stmt_row}
+use Rattle.core_program.specs.CoreView.{core_of, core_argument_of, core_stmt_of, core_action_of}
+use Rattle.pieces.specs.View.{pure_of}
+use Rattle.piece_making.specs.Stocks.{stock, state_of}
+use Rattle.c_expand.specs.Callees.{callee_of, call_at, given_of}
+use Rattle.c_expand.specs.Chains.{links}
+use Rattle.c_expand.specs.Expressions.{expression, operands, arguments}
+use Rattle.c_expand.specs.Statements.{statements, actions, filled}
+use Rattle.c_expand.proofs.Leading.{Leads}
+use Rattle.c_expand.proofs.Chaining.{chained}
 use Rattle.c_expand.proofs.+expansion.Given as goal
 
 abbrev pub decreases-expressions::expression : goal.decreases-expressions::expression
@@ -129,4 +140,37 @@ abbrev pub decreases-expressions::joined-loop-step : goal.decreases-expressions:
 decreases-expressions::joined-loop-step l = length l.steps.items
 
 abbrev pub invariant-expressions::expression-chain : goal.invariant-expressions::expression-chain
-invariant-expressions::expression-chain l = size-CoreExpr l.part ≤ size-CoreExpr l.fn.e
+invariant-expressions::expression-chain l = record {
+  no_deeper : size-CoreExpr l.part ≤ size-CoreExpr l.fn.e;
+  leads : Leads (stock l.initial.work) (stock l.work) (chained (callee_of l.here) (call_at l.here) l.steps.items (expression (callee_of l.here) (call_at l.here) (core_of l.part) (state_of (stock l.work)))) (expression (callee_of l.here) (call_at l.here) (core_of l.fn.e) (state_of (stock l.initial.work)));
+}
+
+abbrev pub invariant-expressions::joined-loop-step : goal.invariant-expressions::joined-loop-step
+invariant-expressions::joined-loop-step l =
+    Leads (stock l.initial.work) (stock l.work) (links (callee_of l.here) (call_at l.here) l.steps.items (pure_of l.part) (state_of (stock l.work)))
+    (links (callee_of l.here) (call_at l.here) l.fn.steps.items (pure_of l.fn.first) (state_of (stock l.initial.work)))
+
+abbrev pub invariant-expressions::operands-loop-i : goal.invariant-expressions::operands-loop-i
+invariant-expressions::operands-loop-i l =
+    Leads (stock l.initial.work) (stock l.work) (operands (callee_of l.here) (call_at l.here) (row (map core_of (drop l.i l.es))) l.behind (map pure_of l.values.items) (state_of (stock l.work)))
+    (operands (callee_of l.here) (call_at l.here) (row (map core_of l.es)) l.behind [] (state_of (stock l.initial.work)))
+
+abbrev pub invariant-calls::arguments-loop-i : goal.invariant-calls::arguments-loop-i
+invariant-calls::arguments-loop-i l =
+    Leads (stock l.initial.work) (stock l.work) (arguments (callee_of l.here) (call_at l.here) (argument_row (map core_argument_of (drop l.i l.args))) (map given_of l.all.items) (state_of (stock l.work)))
+    (arguments (callee_of l.here) (call_at l.here) (argument_row (map core_argument_of l.args)) [] (state_of (stock l.initial.work)))
+
+abbrev pub invariant-statements::block-loop-i : goal.invariant-statements::block-loop-i
+invariant-statements::block-loop-i l =
+    Leads (stock l.initial.work) (stock l.work) (statements (callee_of l.here) (call_at l.here) (stmt_row (map core_stmt_of (drop l.i l.body))) l.tail (state_of (stock l.work)))
+    (statements (callee_of l.here) (call_at l.here) (stmt_row (map core_stmt_of l.body)) l.tail (state_of (stock l.initial.work)))
+
+abbrev pub invariant-statements::actions-loop-one : goal.invariant-statements::actions-loop-one
+invariant-statements::actions-loop-one l =
+    Leads (stock l.initial.work) (stock l.work) (actions (callee_of l.here) (call_at l.here) (map core_action_of (drop l.one-index l.list)) (state_of (stock l.work)))
+    (actions (callee_of l.here) (call_at l.here) (map core_action_of l.list) (state_of (stock l.initial.work)))
+
+abbrev pub invariant-declarations::fill-loop-i : goal.invariant-declarations::fill-loop-i
+invariant-declarations::fill-loop-i l =
+    Leads (stock l.initial.work) (stock l.work) (filled (callee_of l.here) (call_at l.here) l.array l.lengths l.i (map (option_map core_of) (drop l.i l.items)) (state_of (stock l.work)))
+    (filled (callee_of l.here) (call_at l.here) l.array l.lengths 0 (map (option_map core_of) l.items) (state_of (stock l.initial.work)))

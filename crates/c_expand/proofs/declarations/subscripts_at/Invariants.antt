@@ -1,4 +1,4 @@
-use Rattle.std.proofs.Common.{◌≡◌, ◌++◌, List, map, drop}
+use Rattle.std.proofs.Common.{◌≡◌, map, drop}
 use Rattle.pieces.specs.View.{pure_of}
 use Rattle.c_expand.specs.Statements.{subscripts_at}
 use Rattle.c_expand.proofs.Subscripts.{behind_row}

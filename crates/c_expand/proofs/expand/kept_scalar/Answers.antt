@@ -1,5 +1,3 @@
-use Rattle.std.proofs.Common.{ap}
-use Rattle.hls_base.specs.declared.number.Kept.{Kept}
 use Rattle.piece_making.proofs.Exits.{through}
 use Rattle.piece_making.proofs.Parts.{made_behind, heavy_at_once}
 use Rattle.c_expand.proofs.Leading.{given}

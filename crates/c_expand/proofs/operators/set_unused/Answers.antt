@@ -1,4 +1,4 @@
-use Rattle.std.proofs.Common.{ap, subst}
+use Rattle.std.proofs.Common.{ap}
 use Rattle.c_token.specs.declared.ctype.CType.{CType}
 use Rattle.pieces.specs.View.{pure_of}
 use Rattle.piece_making.specs.Making.{set_own}

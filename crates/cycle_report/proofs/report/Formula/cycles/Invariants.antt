@@ -1,9 +1,9 @@
-use Rattle.std.proofs.Common.{◌≡◌, ◌≤◌, ◌+◌, ◌*◌, ◌^◌, take}
+use Rattle.std.proofs.Common.{◌≡◌, ◌<◌, ◌^◌, take}
 use Rattle.cycle_report.specs.FormulaValue.{cycles}
 use Rattle.cycle_report.proofs.report.Formula.cycles.Given as goal
 
 abbrev pub invariant-loop-row : goal.invariant-loop-row
 invariant-loop-row l = record {
   value : l.total ≡ cycles l.self.base (take l.row-index l.self.rows.items) l.tally;
-  small : l.total ≤ 2 ^ 64 + l.row-index * 2 ^ 96;
+  fits : l.total < 2 ^ 128;
 }

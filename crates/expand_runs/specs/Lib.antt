@@ -1,0 +1,10 @@
+pub mod Keeping
+pub mod Reading
+pub mod Growing
+pub mod Saving
+pub mod Showing
+pub mod Sound
+pub mod Evaluating
+pub mod Worlds
+pub mod Ending
+pub mod Laws

@@ -1,0 +1,9 @@
+mod Runs
+mod Overlapping
+mod Ends
+mod Places
+mod Entering
+mod Looping
+mod Trees
+mod Whole
+mod There
