@@ -1,0 +1,4 @@
+pub mod Equal
+pub mod Constants
+pub mod Numbering
+pub mod Examples
