@@ -169,11 +169,11 @@ module _ (unary_fits : UnaryFits) (binary_fits : BinaryFits) (f : Frame) (k : �
       (λ v s w t1 n1 le a.
       let d = save_well f here c o Homes Lives kinds base world unary_fits binary_fits (λ y. Reads y left) low first.value (kind_of left) v later first.state s t1 low_base low_first a.done.shown a.done.typed (a.value tt) within in
       let J = λ (t2 : Store). value f.arrays sv.value t2 ≡ is v in
-      let R2 = Result true right (length sv.state.variables) high second.value in
+      let right_done = Result true right (length sv.state.variables) high second.value in
       goes_first f k Q sv.pieces (second.pieces ++ []) (ce.joined op (kind_of left) v (kind_of right) fork at here r s n1) t1 d.after n1 d.goes
       (subst (λ z. Same false k Q z (run_of f (second.pieces ++ []) d.after n1)) (sym (core_plain op (kind_of left) v (kind_of right) fork at here r s n1 plain))
-      (on_same f k (λ y s2 w2 t3. R2 y s2 w2 t3 × J t3) Q second.pieces [] (r s n1) (λ y s2 n2. ce.computed (binary_value op (kind_of left) v (kind_of right) y) at s2 n2) d.after n1
-      (ended_same k R2 J (r s n1) (run_of f second.pieces d.after n1) (pieces_hold J f (piece_row second.pieces) (keeps v s t1 d) d.after n1 d.value.same) (next s d.after n1 le d.shown d.typed))
+      (on_same f k (λ y s2 w2 t3. right_done y s2 w2 t3 × J t3) Q second.pieces [] (r s n1) (λ y s2 n2. ce.computed (binary_value op (kind_of left) v (kind_of right) y) at s2 n2) d.after n1
+      (ended_same k right_done J (r s n1) (run_of f second.pieces d.after n1) (pieces_hold J f (piece_row second.pieces) (keeps v s t1 d) d.after n1 d.value.same) (next s d.after n1 le d.shown d.typed))
       (λ y s2 w2 t3 z. z.0.done.on_)
       (λ y s2 w2 t3 n2 le2 z.
       let m = z.0.value tt in

@@ -71,9 +71,9 @@ module _ (unary_fits : UnaryFits) (binary_fits : BinaryFits) (f : Frame) (k : �
       (λ v s w t1 n1 le a.
       let d = save_well f here c o Homes Lives kinds base world unary_fits binary_fits (λ y. Reads y first) low x.value (kind_of first) v (either behind later) x.state s t1 low_base low_x a.done.shown a.done.typed (a.value tt) within in
       let J = λ (t2 : Store). value f.arrays sv.value t2 ≡ is v in
-      let R2 = Done rest later (length sv.state.variables) high (before ++ sv.value ∷ []) part.value (bs ++ v ∷ []) in
+      let rest_done = Done rest later (length sv.state.variables) high (before ++ sv.value ∷ []) part.value (bs ++ v ∷ []) in
       goes_first f k Q sv.pieces part.pieces (r v s n1) t1 d.after n1 d.goes
-      (same_more k k (λ js s2 w2 t3. R2 js s2 w2 t3 × J t3) Q (r v s n1) (run_of f part.pieces d.after n1) (le_refl k)
+      (same_more k k (λ js s2 w2 t3. rest_done js s2 w2 t3 × J t3) Q (r v s n1) (run_of f part.pieces d.after n1) (le_refl k)
       (λ js s2 w2 t3 z. record {
         done = z.0.done;
         ys = sv.value ∷ z.0.ys;
@@ -93,4 +93,4 @@ module _ (unary_fits : UnaryFits) (binary_fits : BinaryFits) (f : Frame) (k : �
         };
         safe = (safe_more f here c o Homes Lives kinds base world behind later sv.value d.safe, z.0.safe);
       })
-      (ended_same k R2 J (r v s n1) (run_of f part.pieces d.after n1) (pieces_hold J f (piece_row part.pieces) (keeps v s t1 d) d.after n1 d.value.same) (next v s d.after n1 le d.shown d.typed))))
+      (ended_same k rest_done J (r v s n1) (run_of f part.pieces d.after n1) (pieces_hold J f (piece_row part.pieces) (keeps v s t1 d) d.after n1 d.value.same) (next v s d.after n1 le d.shown d.typed))))
