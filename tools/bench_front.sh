@@ -36,7 +36,7 @@ put("changes", "int f(int a){f(" + "a++," * 5000 + "a);return 1;}")
 put("subscripts", "int f(int a[1]){return a" + "[a[0]]" * 2700 + ";}")
 PY
 "$root/hls" >/dev/null || true
-program=$root/crates/hls_cli/out/hls_cli
+program=$root/crates/hls/out/hls
 [ -x "$program" ] || { echo "bench: the program was not built" >&2; exit 1; }
 TIMEFORMAT='%U %S'
 for source in smallest nesting tokens operators comments blanks names doubling ladder empty brackets choices \

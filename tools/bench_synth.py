@@ -12,7 +12,7 @@ import sys
 import tempfile
 
 ROOT = pathlib.Path(__file__).resolve().parent.parent
-HLS = os.environ.get("HLS", str(ROOT / "crates" / "hls_cli" / "out" / "hls_cli"))
+HLS = os.environ.get("HLS", str(ROOT / "crates" / "hls" / "out" / "hls"))
 
 
 def straight(weight):

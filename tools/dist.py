@@ -14,7 +14,7 @@ import sys
 
 ROOT = pathlib.Path(__file__).resolve().parent.parent
 DIST = ROOT / "dist"
-BUILT = ROOT / "crates" / "hls_cli" / "out" / "hls_cli"
+BUILT = ROOT / "crates" / "hls" / "out" / "hls"
 
 
 def digest(data):
@@ -48,10 +48,10 @@ def release():
 def make(program):
     data = pathlib.Path(program).read_bytes()
     DIST.mkdir(exist_ok=True)
-    (DIST / "hls_cli.xz").write_bytes(xz(["-9", "-T1", "-c"], data))
+    (DIST / "hls.xz").write_bytes(xz(["-9", "-T1", "-c"], data))
     machine = f"{os.uname().sysname} {os.uname().machine}"
     (DIST / "release.txt").write_text(f"machine {machine}\nsources {sources()}\nprogram {digest(data)}\n")
-    print(f"dist: {len(data)} bytes, {(DIST / 'hls_cli.xz').stat().st_size} packed")
+    print(f"dist: {len(data)} bytes, {(DIST / 'hls.xz').stat().st_size} packed")
 
 
 def check(program):
@@ -60,8 +60,8 @@ def check(program):
     if not kept:
         print("dist: there is no release")
         return True
-    if digest(xz(["-dc"], (DIST / "hls_cli.xz").read_bytes())) != kept["program"]:
-        print("dist: hls_cli.xz is damaged")
+    if digest(xz(["-dc"], (DIST / "hls.xz").read_bytes())) != kept["program"]:
+        print("dist: hls.xz is damaged")
         return False
     if kept["sources"] != sources():
         print("dist: the release was built from other sources")

@@ -1,7 +1,14 @@
 ghost use Rattle.std.specs.Prelude.{◌≡◌, ◌≤◌, ◌↔◌, IsTrue, IfOk, map};
 ghost use Rattle.std.specs.List.{All};
+ghost use Rattle.hls_base.specs.Refusals.{IfRefused};
+ghost use Rattle.c_tree.specs.View.{program_of};
+ghost use Rattle.c_elaborate.specs.Programs.{program_elaborated};
+ghost use Rattle.pieces.specs.Program.{expanded_of};
+ghost use Rattle.c_expand.specs.Expansion.{expansion, expanded_weight, IsOverweight};
+ghost use Rattle.ir_lower.specs.Frames.{frame_view, frame_of};
 ghost use Rattle.rtl_core.specs.Netlist.{netlist_of};
 ghost use Rattle.cycle_report.specs.PlainReport.{plain_of, loop_of};
+ghost use Rattle.compile_flow.specs.Resets.{expanded_frame, AreAddressable, reset_cycles};
 ghost use Rattle.compile_flow.specs.Reports.{allowed_units, IsTimed, EachNodeCounts, IsReportOf, KeepsSettings};
 
 use crate::frame::{copy_frame, copy_settings};
@@ -38,7 +45,11 @@ pub struct Compiled {
 }
 
 /// The program with its calls expanded. It is refused where it is too large then.
-pub fn expanded(alloc: Global, checked: &Checked) -> Result<Expanded, Fail> {
+pub fn expanded(alloc: Global, checked: &Checked) -> Result<Expanded, Fail>
+    ensures made { IfOk result (λ e. expanded_of e ≡ expansion (program_elaborated (program_of checked.now.program) checked.now.top)) }
+    ensures within { IfOk result (λ e. expanded_weight (program_elaborated (program_of checked.now.program) checked.now.top) ≤ 8192) }
+    ensures refused { IfRefused result (λ r. IsOverweight (program_elaborated (program_of checked.now.program) checked.now.top) r) }
+{
     let program = elaborate(alloc, checked)?;
     expand(alloc, &program)
 }
@@ -48,7 +59,9 @@ fn flat_program(
     alloc: Global,
     expanded: &Expanded,
     settings: &Settings,
-) -> Result<Cfg<Untimed>, AllocError> {
+) -> Result<Cfg<Untimed>, AllocError>
+    ensures { IfOk result (λ cfg. frame_view cfg.frame ≡ frame_of expanded.now) }
+{
     let tree = lower(alloc, expanded)?;
     let tree = number(alloc, tree)?;
     let tree = convert(alloc, tree, !settings.plain)?;
@@ -152,6 +165,8 @@ pub fn compile_expanded(
     ensures timed { IfOk result (λ c. IsTimed (allowed_units settings.now) c.untimed c.timed (plain_of c.report).loops) }
     ensures kept { IfOk result (λ c. KeepsSettings (plain_of c.report) settings.now) }
     ensures longer { IfOk result (λ c. EachNodeCounts c.timed.nodes.items (plain_of c.report)) }
+    ensures frame { IfOk result (λ c. frame_view c.timed.frame ≡ expanded_frame (expanded_of expanded.now)) }
+    ensures init { IfOk result (λ c. AreAddressable (expanded_frame (expanded_of expanded.now)) → (plain_of c.report).init ≡ reset_cycles (expanded_frame (expanded_of expanded.now))) }
 {
     let units = units_of(settings);
     let untimed = flat_program(alloc, expanded, settings)?;
@@ -176,7 +191,10 @@ pub fn compile(alloc: Global, checked: &Checked, settings: &Settings) -> Result<
     ensures timed { IfOk result (λ c. IsTimed (allowed_units settings.now) c.untimed c.timed (plain_of c.report).loops) }
     ensures kept { IfOk result (λ c. KeepsSettings (plain_of c.report) settings.now) }
     ensures longer { IfOk result (λ c. EachNodeCounts c.timed.nodes.items (plain_of c.report)) }
+    ensures frame { IfOk result (λ c. frame_view c.timed.frame ≡ expanded_frame (expansion (program_elaborated (program_of checked.now.program) checked.now.top))) }
+    ensures init { IfOk result (λ c. AreAddressable (expanded_frame (expansion (program_elaborated (program_of checked.now.program) checked.now.top))) → (plain_of c.report).init ≡ reset_cycles (expanded_frame (expansion (program_elaborated (program_of checked.now.program) checked.now.top)))) }
 {
     let expanded = expanded(alloc, checked)?;
-    Ok(compile_expanded(alloc, &expanded, settings)?)
+    let compiled = compile_expanded(alloc, &expanded, settings)?;
+    Ok(compiled)
 }

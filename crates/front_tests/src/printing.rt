@@ -1,8 +1,6 @@
 //! Programs whose printed text is the text that they were read from.
-use c_lexer::{end_of, lex};
-use c_macro::replace;
-use c_parser::parse;
 use c_tree::print::print;
+use checked_source::read::read_program;
 use hls_base::refusal::Fail;
 use hls_base::text::Text;
 use std::alloc::Global;
@@ -10,9 +8,7 @@ use std::test::Fail as TestFail;
 
 /// The text of the program that a source is.
 fn printed(alloc: Global, source: &[u8]) -> Result<Text, Fail> {
-    let tokens = lex(alloc, source)?;
-    let replaced = replace(alloc, tokens.as_slice())?;
-    let program = parse(alloc, replaced.as_slice(), end_of(source))?;
+    let program = read_program(alloc, source)?;
     Ok(print(alloc, &program)?)
 }
 

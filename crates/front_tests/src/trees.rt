@@ -1,5 +1,4 @@
 //! The trees of sources: one of each production, and how operators group.
-use crate::fault::program_of;
 use c_token::ctype::CType;
 use c_tree::action::Action;
 use c_tree::expression::Expr;
@@ -7,6 +6,7 @@ use c_tree::object::Object;
 use c_tree::operator::{Binary, Unary};
 use c_tree::program::{Item, Program};
 use c_tree::statement::Stmt;
+use checked_source::read::read_program;
 use std::test::Fail as TestFail;
 
 const INT: CType = CType::Int {
@@ -42,7 +42,7 @@ fn is_name(e: &Expr, wanted: &[u8]) -> bool {
 
 #[test]
 fn differences_group_to_the_left(rt: HostRuntime) -> Result<(), TestFail> {
-    let made = program_of(rt.alloc(), "int f ( ) { return a - b - c ; }")?;
+    let made = read_program(rt.alloc(), "int f ( ) { return a - b - c ; }".as_bytes())?;
     assert!(rt;
         matches!(returned(&made), Some(Expr::Binary { op: Binary::Sub, left, right, .. }) if is_binary(left, Binary::Sub) && is_name(right, b"c"))
     );
@@ -52,7 +52,10 @@ fn differences_group_to_the_left(rt: HostRuntime) -> Result<(), TestFail> {
 
 #[test]
 fn choices_group_to_the_right(rt: HostRuntime) -> Result<(), TestFail> {
-    let made = program_of(rt.alloc(), "int f ( ) { return a ? b : c ? d : e ; }")?;
+    let made = read_program(
+        rt.alloc(),
+        "int f ( ) { return a ? b : c ? d : e ; }".as_bytes(),
+    )?;
     assert!(rt;
         matches!(returned(&made), Some(Expr::Choice { test, no, .. }) if is_name(test, b"a") && matches!(&**no, Expr::Choice { .. }))
     );
@@ -61,7 +64,10 @@ fn choices_group_to_the_right(rt: HostRuntime) -> Result<(), TestFail> {
 
 #[test]
 fn products_are_tighter_than_sums(rt: HostRuntime) -> Result<(), TestFail> {
-    let made = program_of(rt.alloc(), "int f ( ) { return b != 0 && a / b > 2 ; }")?;
+    let made = read_program(
+        rt.alloc(),
+        "int f ( ) { return b != 0 && a / b > 2 ; }".as_bytes(),
+    )?;
     assert!(rt;
         matches!(returned(&made), Some(Expr::Binary { op: Binary::LogAnd, left, right, .. }) if is_binary(left, Binary::Ne) && is_binary(right, Binary::Gt))
     );
@@ -70,11 +76,11 @@ fn products_are_tighter_than_sums(rt: HostRuntime) -> Result<(), TestFail> {
 
 #[test]
 fn prefixes_hold_what_is_behind(rt: HostRuntime) -> Result<(), TestFail> {
-    let made = program_of(rt.alloc(), "int f ( ) { return - a ++ ; }")?;
+    let made = read_program(rt.alloc(), "int f ( ) { return - a ++ ; }".as_bytes())?;
     assert!(rt;
         matches!(returned(&made), Some(Expr::Unary { op: Unary::Minus, arg, .. }) if matches!(&**arg, Expr::Bump { post: true, .. }))
     );
-    let made = program_of(rt.alloc(), "int f ( ) { return ( int ) - a ; }")?;
+    let made = read_program(rt.alloc(), "int f ( ) { return ( int ) - a ; }".as_bytes())?;
     assert!(rt;
         matches!(returned(&made), Some(Expr::Cast { to: INT, arg, at }) if at.column == 20 && matches!(&**arg, Expr::Unary { .. }))
     );
@@ -83,7 +89,10 @@ fn prefixes_hold_what_is_behind(rt: HostRuntime) -> Result<(), TestFail> {
 
 #[test]
 fn changes_are_actions(rt: HostRuntime) -> Result<(), TestFail> {
-    let made = program_of(rt.alloc(), "int f ( ) { a = b = c , ( d ++ ) ; }")?;
+    let made = read_program(
+        rt.alloc(),
+        "int f ( ) { a = b = c , ( d ++ ) ; }".as_bytes(),
+    )?;
     assert!(rt;
         matches!(first_statement(&made), Some(Stmt::Act(all)) if matches!(all.as_slice(), [Action::Assign { value, .. }, Action::Value(_)] if matches!(value, Expr::Assign { .. })))
     );
@@ -92,7 +101,10 @@ fn changes_are_actions(rt: HostRuntime) -> Result<(), TestFail> {
 
 #[test]
 fn else_is_of_the_nearest_if(rt: HostRuntime) -> Result<(), TestFail> {
-    let made = program_of(rt.alloc(), "int f ( ) { if ( a ) if ( b ) ; else c = 1 ; }")?;
+    let made = read_program(
+        rt.alloc(),
+        "int f ( ) { if ( a ) if ( b ) ; else c = 1 ; }".as_bytes(),
+    )?;
     assert!(rt;
         matches!(first_statement(&made), Some(Stmt::If { yes, no: None, .. }) if matches!(&**yes, Stmt::If { no: Some(_), .. }))
     );
@@ -103,7 +115,7 @@ fn else_is_of_the_nearest_if(rt: HostRuntime) -> Result<(), TestFail> {
 fn each_production_once(rt: HostRuntime) -> Result<(), TestFail> {
     let source =
         "static const int t [ 2 ] [ ] = { { 1 , 2 , } , { 3 } } , n ; inline unsigned char g ( int , long long a [ 4 ] ) ; void f ( void ) { int i = 0 ; for ( ; ; ) break ; for ( int k = 0 ; k < 3 ; k ++ , i += t [ k ] [ 0 ] ) continue ; while ( i ) { i = g ( i , 2 ) ; } do ; while ( ( i , 1 ) ) ; switch ( i ) { case 1 : return ; default : ++ i ; } return ; }";
-    let made = program_of(rt.alloc(), source)?;
+    let made = read_program(rt.alloc(), source.as_bytes())?;
     assert_eq!(rt; made.items.len(), 3);
     assert!(rt;
         made.items.iter().any(|item| matches!(item, Item::Function(f) if f.params.len() == 2))
@@ -130,7 +142,7 @@ fn sets_an_element(statement: &Stmt, column: u32) -> bool {
 fn parses_a_program(rt: HostRuntime) -> Result<(), TestFail> {
     let source =
         "const int t [ 2 ] ; void f ( int a , int b [ ] ) { if ( a ) b [ 0 ] = t [ a ] ; else return ; }";
-    let program = program_of(rt.alloc(), source)?;
+    let program = read_program(rt.alloc(), source.as_bytes())?;
     assert_eq!(rt; program.end.column, 96);
     let [Item::Objects(objects), Item::Function(f)] = program.items.as_slice() else {
         return Err("objects and a function".into());

@@ -1,4 +1,7 @@
 pub mod Words
 pub mod Lines
+pub mod VerdictLines
+pub mod Comparisons
 pub mod SynthRun
+pub mod Ends
 pub mod Work

@@ -5,6 +5,7 @@ use Rattle.hls_base.specs.Outside.{Files, HasRisen, WhereTold, IsAbsent, IsWritt
 use Rattle.hls_flow.specs.FirstFault.{IsAccepted, IsFirstFault}
 use Rattle.hls_flow.specs.Synthesis.{IsSynthesis}
 use Rattle.command_words.specs.Commands.{Synth, Cosim}
+use Rattle.hls_cli.specs.Comparisons.{IsComparisonAnswer}
 use Rattle.hls_cli.specs.Words.{IsSynth, IsCosim, IsUsage, IsComparison, settings_of}
 use Rattle.hls_cli.specs.Lines.{made_line, memory_line, refusal_line, usage_line}
 
@@ -70,7 +71,9 @@ pub data IsCutOff (words : List (List ℕ)) (last : List ℕ) (o : Outside) : Ty
   at_refusal : (c : Synth) (fault : Refusal) → IsSynth words c → WhereTold (IsRefused c fault) o.old_files o.new_files
       → WhereTold (PutsCutLine (refusal_line fault) last) o.old_bytes o.new_bytes → IsCutOff words last o
   at_made : (c : Synth) → IsSynth words c → WhereTold (IsMade c) o.old_files o.new_files → WhereTold (PutsCutLine (made_line c) last) o.old_bytes o.new_bytes → IsCutOff words last o
-  of_comparison : (lines : List ℕ) → IsComparison words → WhereTold SameFiles o.old_files o.new_files → WhereTold (PutsCutLine lines last) o.old_bytes o.new_bytes → IsCutOff words last o
+  uncompared : IsComparison words → WhereTold SameFiles o.old_files o.new_files → WhereTold (PutsPrefix last) o.old_bytes o.new_bytes → IsCutOff words last o
+  at_comparison : (status : ℕ) (lines : List ℕ) → IsComparisonAnswer words o.old_files status lines → WhereTold SameFiles o.old_files o.new_files
+      → WhereTold (PutsCutLine lines last) o.old_bytes o.new_bytes → IsCutOff words last o
 
 -- ---- what each status says
 
@@ -89,11 +92,11 @@ pub record RanToRefusal (words : List (List ℕ)) (o : Outside) : Type 0 where
   pub files : WhereTold (IsRefused command fault) o.old_files o.new_files
   pub bytes : WhereTold (PutsAll (refusal_line fault)) o.old_bytes o.new_bytes
 
--- what a comparison ends with: no file changed, and its lines were put
-pub record RanToVerdict (words : List (List ℕ)) (o : Outside) : Type 0 where
-  pub comparison : IsComparison words
-  pub files : WhereTold SameFiles o.old_files o.new_files
+-- what a comparison ends with, with this status: no file changed, and exactly the lines of its answer were put
+pub record RanToVerdict (words : List (List ℕ)) (status : ℕ) (o : Outside) : Type 0 where
   pub lines : List ℕ
+  pub answer : IsComparisonAnswer words o.old_files status lines
+  pub files : WhereTold SameFiles o.old_files o.new_files
   pub bytes : WhereTold (PutsAll lines) o.old_bytes o.new_bytes
 
 -- 2: the words are no command

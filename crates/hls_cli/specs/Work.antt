@@ -1,6 +1,5 @@
 -- What the work of a command gives, before any line is put.
 use Rattle.std.specs.Prelude.{◌≡◌, ◌⊎◌, ◌≤◌, ℕ, List, Option}
-use Rattle.std.specs.String.{string_bytes}
 use Rattle.hls_base.specs.declared.refusal.Refusal.{Refusal}
 use Rattle.hls_base.specs.Outside.{Files, WhereTold, IsWritten, IsCutShort}
 use Rattle.hls_cli.specs.declared.work.Answer.{Answer}
@@ -22,8 +21,8 @@ pub data AreCutShort (c : Synth) (module_bytes report_bytes : List ℕ) (old new
 
 -- The lines say what was done: the files were made, or the source was refused. Where there are none the work stopped.
 pub data IsSynthWork (c : Synth) (old new : Option Files) (a : Answer) : Type 0 where
-  made : a.status ≡ 0 → string_bytes a.lines ≡ made_line c → WhereTold (IsMade c) old new → IsSynthWork c old new a
-  refused : (fault : Refusal) → a.status ≡ 1 → string_bytes a.lines ≡ refusal_line fault → WhereTold (IsRefused c fault) old new → IsSynthWork c old new a
+  made : a.status ≡ 0 → a.lines ≡ made_line c → WhereTold (IsMade c) old new → IsSynthWork c old new a
+  refused : (fault : Refusal) → a.status ≡ 1 → a.lines ≡ refusal_line fault → WhereTold (IsRefused c fault) old new → IsSynthWork c old new a
 
 -- the statuses with which a comparison ends
 abbrev pub IsVerdictStatus : ℕ → Type 0

@@ -1,13 +1,16 @@
 //! The answer of a command: a status, and the lines that are put.
-ghost use Rattle.std.specs.Prelude.{◌≡◌, ◌≢◌, ◌≤◌, ◌⊎◌, map};
+ghost use Rattle.std.specs.Prelude.{◌≡◌, ◌≤◌, ◌⊎◌, List, ℕ, Option, map};
 ghost use Rattle.std.specs.String.{string_bytes};
-ghost use Rattle.hls_base.specs.Outside.{HasRisen, NeverFalls, WhereTold, PutsAll, PutsPrefix};
+ghost use Rattle.hls_base.specs.Outside.{Files, HasRisen, NeverFalls, WhereTold, PutsPrefix};
+ghost use Rattle.command_words.specs.CommandViews.{synth_view, cosim_view, HasRange, NamesThreeFiles};
+ghost use Rattle.hls_cli.specs.Ends.{seen, Ends, IsFinish};
 ghost use Rattle.hls_cli.specs.Lines.{fault_line, memory_line};
-ghost use Rattle.hls_cli.specs.SynthRun.{outside, RanToModule, RanToRefusal, RanToUsage, RanToVerdict, PutsCutLine, IsCutOff, HasFault, IsComplete};
+ghost use Rattle.hls_cli.specs.Words.{IsSynth, IsCosim, IsSoak};
+ghost use Rattle.hls_cli.specs.SynthRun.{outside, RanToModule, RanToRefusal, RanToUsage, RanToVerdict, IsCutOff, HasFault, IsComplete};
 
 use crate::lines::{FAULT, MEMORY, USAGE};
 use crate::work::{work_cosim, work_soak, work_synth};
-use command_words::command::Command;
+use command_words::command::{Command, Cosim, Synth};
 use command_words::reading::read_words;
 use hls_base::outside::{Shelf, ShelfError, Sink, SinkError};
 use std::alloc::Global;
@@ -16,11 +19,11 @@ use std::alloc::Global;
 pub fn run<F: Shelf, K: Sink>(alloc: Global, words: &[String], shelf: &mut F, out: &mut K) -> u8
     ensures status { result ≤ 9 }
     ensures made { result ≡ 0 → RanToModule (map string_bytes words.now) (outside (F.files shelf.old) (F.files shelf.new) (K.written out.old) (K.written out.new))
-        ⊎ RanToVerdict (map string_bytes words.now) (outside (F.files shelf.old) (F.files shelf.new) (K.written out.old) (K.written out.new)) }
+        ⊎ RanToVerdict (map string_bytes words.now) 0 (outside (F.files shelf.old) (F.files shelf.new) (K.written out.old) (K.written out.new)) }
     ensures refused { result ≡ 1 → RanToRefusal (map string_bytes words.now) (outside (F.files shelf.old) (F.files shelf.new) (K.written out.old) (K.written out.new))
-        ⊎ RanToVerdict (map string_bytes words.now) (outside (F.files shelf.old) (F.files shelf.new) (K.written out.old) (K.written out.new)) }
+        ⊎ RanToVerdict (map string_bytes words.now) 1 (outside (F.files shelf.old) (F.files shelf.new) (K.written out.old) (K.written out.new)) }
     ensures usage { result ≡ 2 → RanToUsage (map string_bytes words.now) (outside (F.files shelf.old) (F.files shelf.new) (K.written out.old) (K.written out.new)) }
-    ensures compared { 5 ≤ result → RanToVerdict (map string_bytes words.now) (outside (F.files shelf.old) (F.files shelf.new) (K.written out.old) (K.written out.new)) }
+    ensures compared { 5 ≤ result → RanToVerdict (map string_bytes words.now) result (outside (F.files shelf.old) (F.files shelf.new) (K.written out.old) (K.written out.new)) }
 
     // A fault of the outside, and want of memory, cut the run off.
     ensures fault { result ≡ 3 → HasFault (map string_bytes words.now) (F.files shelf.old) (F.faults shelf.old) (F.faults shelf.new) (K.faults out.old) (K.faults out.new) }
@@ -30,35 +33,58 @@ pub fn run<F: Shelf, K: Sink>(alloc: Global, words: &[String], shelf: &mut F, ou
     // A source that is accepted is compiled, unless a fault or want of memory comes.
     ensures complete { IsComplete (map string_bytes words.now) (F.files shelf.old) → (¬ HasRisen (F.faults shelf.old) (F.faults shelf.new)) → (¬ HasRisen (K.faults out.old) (K.faults out.new)) → (result ≡ 0) ⊎ (result ≡ 4) }
 {
+    answer(alloc, words, shelf, out)
+}
+
+fn answer<F: Shelf, K: Sink>(alloc: Global, words: &[String], shelf: &mut F, out: &mut K) -> u8
+    ensures { Ends (map string_bytes words.now) (seen (F.files shelf.old) (F.faults shelf.old) (K.written out.old) (K.faults out.old)) (seen (F.files shelf.new) (F.faults shelf.new) (K.written out.new) (K.faults out.new)) result }
+{
     match read_words(alloc, words) {
-        Ok(Some(Command::Synth(command))) => match work_synth(alloc, &command, shelf) {
-            Ok(answer) => finish(answer.status, answer.lines.as_bytes(), out),
-            Err(ShelfError::Failed) => stop_for_fault(out),
-            Err(ShelfError::Memory) => stop_for_memory(out),
-        },
-        Ok(Some(Command::Cosim(command))) => match work_cosim(alloc, &command, shelf) {
-            Ok(answer) => finish(answer.status, answer.lines.as_bytes(), out),
-            Err(ShelfError::Failed) => stop_for_fault(out),
-            Err(ShelfError::Memory) => stop_for_memory(out),
-        },
-        Ok(Some(Command::Soak(number))) => match work_soak(alloc, number) {
-            Ok(answer) => finish(answer.status, answer.lines.as_bytes(), out),
-            Err(_) => stop_for_memory(out),
-        },
+        Ok(Some(Command::Synth(command))) => run_synth(alloc, &command, shelf, out),
+        Ok(Some(Command::Cosim(command))) => run_cosim(alloc, &command, shelf, out),
+        Ok(Some(Command::Soak(number))) => run_soak(alloc, number, out),
         Ok(None) => finish(2, USAGE, out),
+        Err(_) => stop_for_memory(out),
+    }
+}
+
+fn run_synth<F: Shelf, K: Sink>(alloc: Global, command: &Synth, shelf: &mut F, out: &mut K) -> u8
+    requires range { HasRange (synth_view command.now) }
+    requires files { NamesThreeFiles (synth_view command.now) }
+    ensures { (words : List (List ℕ)) → IsSynth words (synth_view command.now) →
+        Ends words (seen (F.files shelf.old) (F.faults shelf.old) (K.written out.old) (K.faults out.old)) (seen (F.files shelf.new) (F.faults shelf.new) (K.written out.new) (K.faults out.new)) result }
+{
+    match work_synth(alloc, command, shelf) {
+        Ok(answer) => finish(answer.status, answer.lines.items(), out),
+        Err(ShelfError::Failed) => stop_for_fault(out),
+        Err(ShelfError::Memory) => stop_for_memory(out),
+    }
+}
+
+fn run_cosim<F: Shelf, K: Sink>(alloc: Global, command: &Cosim, shelf: &mut F, out: &mut K) -> u8
+    ensures { (words : List (List ℕ)) → IsCosim words (cosim_view command.now) →
+        Ends words (seen (F.files shelf.old) (F.faults shelf.old) (K.written out.old) (K.faults out.old)) (seen (F.files shelf.new) (F.faults shelf.new) (K.written out.new) (K.faults out.new)) result }
+{
+    match work_cosim(alloc, command, shelf) {
+        Ok(answer) => finish(answer.status, answer.lines.items(), out),
+        Err(ShelfError::Failed) => stop_for_fault(out),
+        Err(ShelfError::Memory) => stop_for_memory(out),
+    }
+}
+
+fn run_soak<K: Sink>(alloc: Global, number: u64, out: &mut K) -> u8
+    ensures { (words : List (List ℕ)) (files : Option Files) (faults : ℕ) → IsSoak words number →
+        Ends words (seen files faults (K.written out.old) (K.faults out.old)) (seen files faults (K.written out.new) (K.faults out.new)) result }
+{
+    match work_soak(alloc, number) {
+        Ok(answer) => finish(answer.status, answer.lines.items(), out),
         Err(_) => stop_for_memory(out),
     }
 }
 
 // Puts the lines, and answers the status. Where the lines cannot be put the answer is 3 or 4.
 fn finish<K: Sink>(status: u8, line: &[u8], out: &mut K) -> u8
-    requires no_fault { status ≢ 3 }
-    requires no_memory { status ≢ 4 }
-    ensures status { (result ≡ status) ⊎ ((result ≡ 3) ⊎ (result ≡ 4)) }
-    ensures done { result ≡ status → WhereTold (PutsAll line.now) (K.written out.old) (K.written out.new) }
-    ensures fault { result ≡ 3 → HasRisen (K.faults out.old) (K.faults out.new) }
-    ensures after_fault { result ≡ 3 → WhereTold (PutsCutLine line.now fault_line) (K.written out.old) (K.written out.new) }
-    ensures after_memory { result ≡ 4 → WhereTold (PutsCutLine line.now memory_line) (K.written out.old) (K.written out.new) }
+    ensures { IsFinish status line.now (K.written out.old) (K.written out.new) (K.faults out.old) (K.faults out.new) result }
 {
     match out.put(line) {
         Ok(()) => status,

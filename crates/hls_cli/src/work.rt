@@ -1,17 +1,18 @@
 //! The work of a command: it reads, compiles and writes, and puts nothing.
 ghost use Rattle.std.specs.Prelude.{◌≡◌, ◌⊎◌, IfOk, OnOk, OnErr, IsErrOf};
-ghost use Rattle.std.specs.String.{string_bytes};
 ghost use Rattle.hls_base.specs.Outside.{HasRisen, NeverFalls, WhereTold, IsAbsent};
 ghost use Rattle.hls_base.specs.Refusals.{IfRefused};
 ghost use Rattle.hls_flow.specs.FirstFault.{IsFirstFault};
 ghost use Rattle.hls_flow.specs.Synthesis.{IsSynthesis};
-ghost use Rattle.command_words.specs.CommandViews.{synth_view, HasRange, NamesThreeFiles};
+ghost use Rattle.command_words.specs.CommandViews.{synth_view, cosim_view, HasRange, NamesThreeFiles};
 ghost use Rattle.hls_cli.specs.Words.{settings_of};
+ghost use Rattle.hls_cli.specs.Comparisons.{IsGiven, IsCosimAnswer, IsCosimWork, IsSoakWork};
 ghost use Rattle.hls_cli.specs.Lines as line;
 ghost use Rattle.hls_cli.specs.SynthRun.{IsStopped};
 ghost use Rattle.hls_cli.specs.Work.{AreWritten, AreCutShort, IsSynthWork, IsVerdictStatus};
 
-use crate::lines::{made_line, refusal_line, soak_line, verdict_lines, verdict_status};
+use crate::lines::{made_line, refusal_line, soak_line};
+use crate::verdict_lines::{verdict_lines, verdict_status};
 use command_words::command::{Cosim, Synth};
 use hls_base::outside::{Shelf, ShelfError};
 use hls_base::refusal::{Fail, Refusal};
@@ -36,7 +37,7 @@ const TEXT_BYTES: u32 = 16_777_217;
 #[derive(Debug, Drop)]
 pub struct Answer {
     pub status: u8,
-    pub lines: String,
+    pub lines: Text,
 }
 
 /// The settings that a command asks for.
@@ -101,7 +102,7 @@ pub fn work_synth<F: Shelf>(
 /// The answer to a source that is refused.
 fn refused(alloc: Global, refusal: Refusal) -> Result<Answer, AllocError>
     ensures status { IfOk result (λ a. a.status ≡ 1) }
-    ensures lines { IfOk result (λ a. string_bytes a.lines ≡ line.refusal_line refusal) }
+    ensures lines { IfOk result (λ a. a.lines ≡ line.refusal_line refusal) }
 {
     Ok(Answer {
         status: 1,
@@ -115,6 +116,7 @@ fn read_files<F: Shelf>(
     command: &Cosim,
     shelf: &mut F,
 ) -> Result<CosimInputs, ShelfError>
+    ensures given { IfOk result (IsGiven (cosim_view command.now) (F.files shelf.old)) }
     ensures files { F.files shelf.new ≡ F.files shelf.old }
     ensures failed { IsErrOf result ShelfError.Failed →
         HasRisen (F.faults shelf.old) (F.faults shelf.new) ⊎ (IsAbsent (F.files shelf.old) command.now.source.now ⊎ (IsAbsent (F.files shelf.old) command.now.module_file.now ⊎ (IsAbsent (F.files shelf.old) command.now.report.now ⊎ IsAbsent (F.files shelf.old) command.now.run.now))) }
@@ -137,13 +139,14 @@ fn read_files<F: Shelf>(
 
 /// What a comparison says of what was read.
 fn compared(alloc: Global, given: &CosimInputs) -> Result<Answer, ShelfError>
+    ensures answer { IfOk result (λ a. IsCosimAnswer given.now a.status a.lines) }
     ensures status { IfOk result (λ a. IsVerdictStatus a.status) }
     ensures memory { IsErrOf result ShelfError.Failed → ⊥ }
 {
     match cosim(alloc, given) {
         Ok(verdict) => Ok(Answer {
             status: verdict_status(&verdict),
-            lines: verdict_lines(alloc, &verdict)?,
+            lines: Text::new(verdict_lines(alloc, &verdict)?),
         }),
         Err(Fail::Refused(refusal)) => Ok(refused(alloc, refusal)?),
         Err(Fail::Memory) => Err(ShelfError::Memory),
@@ -156,6 +159,7 @@ pub fn work_cosim<F: Shelf>(
     command: &Cosim,
     shelf: &mut F,
 ) -> Result<Answer, ShelfError>
+    ensures answer { IfOk result (λ a. IsCosimWork (cosim_view command.now) (F.files shelf.old) a.status a.lines) }
     ensures files { F.files shelf.new ≡ F.files shelf.old }
     ensures status { IfOk result (λ a. IsVerdictStatus a.status) }
     ensures failed { IsErrOf result ShelfError.Failed →
@@ -168,7 +172,8 @@ pub fn work_cosim<F: Shelf>(
 
 /// Makes a program from a number, and compares its levels.
 pub fn work_soak(alloc: Global, number: u64) -> Result<Answer, AllocError>
-    ensures { IfOk result (λ a. a.status ≡ 0) }
+    ensures answer { IfOk result (λ a. IsSoakWork number a.status a.lines) }
+    ensures status { IfOk result (λ a. a.status ≡ 0) }
 {
     let summary = soak(alloc, number)?;
     Ok(Answer {

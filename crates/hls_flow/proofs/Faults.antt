@@ -1,51 +1,48 @@
--- A source that is a program has no fault, and is one program.
-use Rattle.std.proofs.Common.{◌≡◌, ℕ, ◌<◌, List, [], ◌∷◌, sym, subst, arith}
+-- A source that is accepted has no first fault, and another one has at most one.
+use Rattle.std.proofs.Common.{◌≡◌, ◌≤◌, ◌<◌, ℕ, List, [], sym, subst, ap, ◌∙◌, arith}
 use Rattle.hls_base.specs.declared.refusal.Refusal.{Refusal}
-use Rattle.c_token.specs.declared.token.Token.{Token}
-use Rattle.c_token.specs.SourceText.{Spells}
-use Rattle.c_token.specs.Replacement.{Becomes}
-use Rattle.c_token.proofs.Unique.{spells_once, spelled_or_refused}
-use Rattle.c_token.proofs.Divided.{becomes_once, becomes_or_refused}
-use Rattle.c_tree.specs.Terminals.{terminals}
-use Rattle.c_tree.specs.Tree.{ProgramTree}
-use Rattle.c_tree.specs.Refusal.{IsProgram}
-use Rattle.c_checked.specs.Faults.{IsLeast}
+use Rattle.c_tree.specs.Tree.{FunctionTree, ProgramTree}
+use Rattle.c_checked.specs.Faults.{fault}
 use Rattle.c_checked.specs.Programs.{program_faults}
+use Rattle.checked_source.specs.Sources.{IsTopFunction}
+use Rattle.checked_source.proofs.BodyOnce.{one_top, one_top_function}
+use Rattle.checked_source.proofs.Faults.{no_source_fault}
+use Rattle.checked_source.proofs.Once.{one_program, source_fault_once}
+use Rattle.c_elaborate.specs.Programs.{program_elaborated}
+use Rattle.c_expand.specs.Expansion.{expanded_weight}
 use Rattle.hls_flow.specs.FirstFault as f
-use Rattle.hls_flow.specs.FirstFault.{end_of, IsReplaced, IsProgramOf, IsSumSource, IsAccepted, IsFaultBefore, IsFirstFault}
-use Rattle.c_tree.proofs.FaultOnce.{no_fault}
+use Rattle.hls_flow.specs.FirstFault.{IsAccepted, IsTooLarge, IsFirstFault}
 
--- ---- a source
+-- ---- a source that is accepted
 
-pub one_list : (source : List ℕ) (tokens others : List Token) → IsReplaced source tokens → IsReplaced source others → tokens ≡ others
-one_list source tokens others a b =
-    let spelled : a.tokens ≡ b.tokens = spells_once source a.tokens b.tokens a.spelled b.spelled in
-    becomes_once b.tokens tokens others (subst (λ x. Becomes x tokens) spelled a.becomes) b.becomes
+not_above : (n : ℕ) → n ≤ 8192 → 8192 < n → ⊥
+not_above n low high = absurd (omega (arith, low, high))
 
-pub program_has_no_fault : (source : List ℕ) (program : ProgramTree) (fault : Refusal) → IsProgramOf source program → IsFaultBefore source fault → ⊥
-program_has_no_fault source program fault p (f.of_tokens refused) = spelled_or_refused source p.replaced.tokens fault p.replaced.spelled refused
-program_has_no_fault source program fault p (f.of_replacement tokens spelled refused) =
-    let same : p.replaced.tokens ≡ tokens = spells_once source _ _ p.replaced.spelled spelled in
-    becomes_or_refused tokens p.tokens fault (subst (λ x. Becomes x p.tokens) same p.replaced.becomes) refused
-program_has_no_fault source program fault p (f.of_grammar tokens replaced refused) =
-    let same : p.tokens ≡ tokens = one_list source _ _ p.replaced replaced in
-    no_fault (terminals tokens) (end_of source) program fault (subst (λ x. IsProgram (terminals x) (end_of source) program) same p.is) refused
+not_too_large : (p : ProgramTree) (top : List ℕ) (index : ℕ) (g : FunctionTree) (r : Refusal) → program_faults p top ≡ [] → IsTopFunction p top index g
+    → expanded_weight (program_elaborated p index) ≤ 8192 → IsTooLarge p top r → ⊥
+not_too_large p top index g r faultless is within large =
+    let same : index ≡ large.index = one_top p top index large.index g large.function faultless is large.is in
+    not_above (expanded_weight (program_elaborated p large.index)) (subst (λ i. expanded_weight (program_elaborated p i) ≤ 8192) same within) large.heavy
 
-pub are_replaced : (source : List ℕ) (items tokens others replaced : List Token) → tokens ≡ items → replaced ≡ others → Spells source items → Becomes tokens others → IsReplaced source replaced
-are_replaced source items tokens others replaced e g spelled becomes =
-    record { tokens = tokens; spelled = subst (Spells source) (sym e) spelled; becomes = subst (Becomes tokens) (sym g) becomes }
+pub accepted_has_no_fault : (source top : List ℕ) (r : Refusal) → IsAccepted source top → IsFirstFault source top r → ⊥
+accepted_has_no_fault source top r accepted (f.of_source a) = no_source_fault source top accepted.program r accepted.is accepted.faultless a
+accepted_has_no_fault source top r accepted (f.too_large program the faultless large) =
+    let same : accepted.program ≡ program = one_program source accepted.program program accepted.is the in
+    not_too_large program top accepted.index accepted.function r faultless
+    (subst (λ p. IsTopFunction p top accepted.index accepted.function) same accepted.top_is)
+    (subst (λ p. expanded_weight (program_elaborated p accepted.index) ≤ 8192) same accepted.within) large
 
--- what the source's only list of tokens is
-pub program_of_list : (source : List ℕ) (program : ProgramTree) (tokens : List Token) → IsProgramOf source program → IsReplaced source tokens → IsProgram (terminals tokens) (end_of source) program
-program_of_list source program tokens p replaced = subst (λ x. IsProgram (terminals x) (end_of source) program) (one_list source _ _ p.replaced replaced) p.is
+-- ---- a source that is refused
 
-pub no_least : (fs : List Refusal) (fault : Refusal) → fs ≡ [] → IsLeast fs fault → ⊥
-no_least [] fault e least = let none : least.0.0 < 0 = least.0.1 in absurd (omega arith)
-no_least (f ∷ fs) fault e least = absurd cc
+too_large_once : (program : ProgramTree) (top : List ℕ) (r q : Refusal) → program_faults program top ≡ [] → IsTooLarge program top r → IsTooLarge program top q → q ≡ r
+too_large_once program top r q faultless a b =
+    let same : a.function ≡ b.function = one_top_function program top a.index b.index a.function b.function faultless a.is b.is in
+    b.fault_is ∙ (ap (λ (g : FunctionTree). fault 36 g.at) (sym same) ∙ sym a.fault_is)
 
-pub accepted_has_no_fault : (source top : List ℕ) (fault : Refusal) → IsAccepted source top → IsFirstFault source top fault → ⊥
-accepted_has_no_fault source top fault accepted (f.no_program before) = program_has_no_fault source accepted.is.program fault accepted.is.is before
-accepted_has_no_fault source top fault accepted (f.breaks_a_rule program the least) =
-    let same : accepted.is.program ≡ program = the.only accepted.is.program accepted.is.is in
-    no_least (program_faults program top) fault (subst (λ p. program_faults p top ≡ []) same accepted.is.faultless) least
-accepted_has_no_fault source top fault accepted (f.too_large program the faultless none too) = none accepted.sum accepted.is
+pub first_fault_once : (source top : List ℕ) (r q : Refusal) → IsFirstFault source top r → IsFirstFault source top q → q ≡ r
+first_fault_once source top r q (f.of_source a) (f.of_source b) = source_fault_once source top r q a b
+first_fault_once source top r q (f.of_source a) (f.too_large program the faultless b) = absurd (no_source_fault source top program r the faultless a)
+first_fault_once source top r q (f.too_large program the faultless a) (f.of_source b) = absurd (no_source_fault source top program q the faultless b)
+first_fault_once source top r q (f.too_large program the faultless a) (f.too_large other is clean b) =
+    let same : program ≡ other = one_program source program other the is in
+    too_large_once other top r q clean (subst (λ p. IsTooLarge p top r) same a) b

@@ -2,9 +2,10 @@ mod Words
 mod Outcomes
 mod SumRun
 mod SumMade
-mod Made
 pub mod Faults
-mod Lengths
-mod LeastOnce
-mod BodyOnce
-pub mod Once
+mod TopPlace
+mod Made
+pub mod Stopped
+pub mod ScalarCount
+pub mod VerdictCases
+pub mod SoakMade

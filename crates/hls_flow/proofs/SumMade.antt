@@ -34,7 +34,8 @@ use Rattle.sum_program.specs.SumMeaning.{sum_result, sum_trace}
 use Rattle.sum_circuit.specs.SumCircuit.{sum_interface, AnswersWithSum, sum_netlist}
 use Rattle.sum_circuit.proofs.SumAgrees.{sum_agrees_with}
 use Rattle.sum_circuit.proofs.Names.{all_by}
-use Rattle.hls_flow.specs.FirstFault.{IsFound, IsTopFunction}
+use Rattle.checked_source.specs.Sources.{IsTopFunction}
+use Rattle.hls_flow.specs.FirstFault.{IsFound}
 use Rattle.cosim_pins.specs.FunctionPins.{scalar_bits, array_shapes, interface_of}
 use Rattle.c_box.specs.CAnswers.{ends, is_undefined, is_endless, c_answers}
 use Rattle.hls_flow.specs.Synthesis.{AreInRange, ReportsCircuit, TakesTwoCycles, SynthesisIsCorrect}

@@ -1,3 +1,7 @@
 pub mod FirstFault
+pub mod Laws
 pub mod Synthesis
 pub mod SumReport
+pub mod Verdicts
+pub mod Comparing
+pub mod SoakRun

@@ -1,5 +1,6 @@
 -- What it is that a synthesis is correct: the module is a circuit that agrees with the C program, to the cycle that the report's formula gives.
 use Rattle.std.specs.Prelude.{◌≡◌, ℕ, ◌≤◌, List, [], ◌++◌, codes}
+use Rattle.hls_base.specs.declared.refusal.Refusal.{Refusal}
 use Rattle.hls_base.specs.declared.settings.Settings.{Settings}
 use Rattle.hls_base.specs.declared.point.Point.{Point}
 use Rattle.hls_base.specs.declared.point.PointKind.TheVariants.{Begin}
@@ -16,11 +17,15 @@ use Rattle.cycle_report.specs.FormulaValue.{cycles}
 use Rattle.ir_core.specs.declared.cfg.Cfg.{Cfg}
 use Rattle.ir_core.specs.declared.stamp.Untimed.{Untimed}
 use Rattle.clock_ir.specs.declared.timed.Timed.{Timed}
+use Rattle.pieces.specs.Program.{ExpandedTree}
+use Rattle.ir_lower.specs.Frames.{frame_view}
+use Rattle.compile_flow.specs.Resets.{expanded_frame, AreAddressable, reset_cycles}
 use Rattle.compile_flow.specs.Reports.{allowed_units, IsTimed, EachNodeCounts, ReportsDesign, IsReportOf, KeepsSettings}
+use Rattle.checked_source.specs.Sources.{IsTheProgramOf, IsTopFunction}
 use Rattle.sum_program.specs.declared.program.Sum.{Sum}
-use Rattle.hls_flow.specs.FirstFault.{IsTheProgramOf, IsTopFunction, IsSumSource}
 use Rattle.cosim_pins.specs.FunctionPins.{interface_of}
 use Rattle.c_box.specs.CAnswers.{c_answers}
+use Rattle.hls_flow.specs.FirstFault.{IsFirstFault, IsSumSource, IsAccepted, expansion_of}
 
 -- the ranges of the numbers that a user can ask for
 pub record AreInRange (s : Settings) : Type 0 where
@@ -71,27 +76,25 @@ pub record HasTexts (settings : Settings) (module_bytes report_bytes : List ℕ)
   pub module_is : IsModuleText module_bytes design
   pub resources : ReportsCircuit report settings design
 
--- The report gives the cycles of a program of blocks and loops, each with the least times that its dependences and the orders of its units allow; the loops are those that the report names, each at its least interval.
-pub record IsScheduledReport (settings : Settings) (report : PlainReport) (design : Netlist) : Type 0 where
+-- The report gives the cycles of the blocks and loops that an expanded program becomes, each with the least times that its dependences and the orders of its units allow; the loops are those that the report names, each at its least interval. Beside the blocks stands what the expanded program has beside its pieces, and so the report's initial cycles are those of its kept scalars and arrays.
+pub record IsScheduledReport (settings : Settings) (expanded : ExpandedTree) (report : PlainReport) (design : Netlist) : Type 0 where
   pub untimed : Cfg Untimed
   pub timed : Cfg Timed
+  pub frame : frame_view timed.frame ≡ expanded_frame expanded
+  pub init : AreAddressable (expanded_frame expanded) → report.init ≡ reset_cycles (expanded_frame expanded)
   pub is_timed : IsTimed (allowed_units settings) untimed timed report.loops
   pub reported : IsReportOf report settings timed design
   pub longer : EachNodeCounts timed.nodes.items report
 
--- texts whose report is that of a scheduled program
-pub record HasScheduledTexts (settings : Settings) (module_bytes report_bytes : List ℕ) : Type 0 where
+-- texts whose report is that of an expanded program with times
+pub record HasScheduledTexts (settings : Settings) (expanded : ExpandedTree) (module_bytes report_bytes : List ℕ) : Type 0 where
   pub texts : HasTexts settings module_bytes report_bytes
-  pub scheduled : IsScheduledReport settings texts.report texts.design
+  pub scheduled : IsScheduledReport settings expanded texts.report texts.design
 
--- What a synthesis gives: the source is one program without faults, whose top function has its body, and both files have their texts. Where the program is a sum, the circuit agrees with it; for the others that is not proved, and the report is that of a scheduled program.
+-- What a synthesis gives: the source is accepted, so that it has no fault, and both files have their texts. Where the program is a sum, the circuit agrees with it; for the others that is not proved, and the report is that of the expanded program with times.
 pub record IsSynthesis (source : List ℕ) (settings : Settings) (module_bytes report_bytes : List ℕ) : Type 0 where
-  pub program : ProgramTree
-  pub is : IsTheProgramOf source program
-  pub faultless : program_faults program settings.top ≡ []
-  pub index : ℕ
-  pub function : FunctionTree
-  pub top : IsTopFunction program settings.top index function
+  pub accepted : IsAccepted source settings.top
+  pub no_fault : (fault : Refusal) → ¬ IsFirstFault source settings.top fault
   pub texts : HasTexts settings module_bytes report_bytes
   pub agrees : (sum : Sum) → IsSumSource source settings.top sum → SynthesisIsCorrect source settings module_bytes report_bytes
-  pub scheduled : ((sum : Sum) → ¬ IsSumSource source settings.top sum) → IsScheduledReport settings texts.report texts.design
+  pub scheduled : ((sum : Sum) → ¬ IsSumSource source settings.top sum) → IsScheduledReport settings (expansion_of accepted) texts.report texts.design

@@ -1,98 +1,62 @@
-use crate::levels::{
-    c_level, cycles_of, difference, module_level, result_number, shown_arrays, top_of,
-};
+ghost use Rattle.std.specs.Prelude.{◌≡◌, length, IfOk};
+ghost use Rattle.hls_base.specs.Refusals.{IfRefused};
+ghost use Rattle.hls_base.specs.declared.refusal.Refusal.{Refusal};
+ghost use Rattle.c_tree.specs.View.{program_of, function_of};
+ghost use Rattle.cosim_pins.specs.FunctionPins.{interface_of, plain};
+ghost use Rattle.cosim_levels.specs.Verdicts.{verdict_of, IfStopped};
+ghost use Rattle.cosim_levels.specs.Levels.{IsWaiting};
+ghost use Rattle.hls_flow.specs.FirstFault.{IsFirstFault};
+ghost use Rattle.hls_flow.specs.Verdicts.{AreFiles, IsVerdictOn, IsVerdict};
+ghost use Rattle.hls_flow.specs.Comparing.{files_of, AreCompared, IsAgreement};
+
+use crate::files::{Read, read_files};
 use crate::machines::clocked_steps;
-use crate::synth::read_checked;
-use crate::verdict::{CosimInputs, Stop, Verdict};
+use crate::top::top_of;
+use crate::verdict::CosimInputs;
 use c_checked::checked::Checked;
 use c_meaning::outcome::Final;
 use c_tree::function::Function;
+use checked_source::read::read_checked;
 use compile_flow::compile::{compile_expanded, expanded};
-use cosim_pins::interface::{Interface, has_pins, interface_of};
-use cosim_pins::name_place::name_place;
-use cycle_report::report::Report;
+use cosim_levels::compared::{agreeing, differing};
+use cosim_levels::difference::first_difference;
+use cosim_levels::levels::{c_level, cycles_of, module_level};
+use cosim_levels::verdict::{Difference, Stop, Verdict};
 use hls_base::inputs::Inputs;
-use hls_base::place::Place;
-use hls_base::refusal::{Fail, Refusal};
+use hls_base::refusal::Fail;
+use hls_base::settings::Settings;
 use pieces::expanded::Expanded;
-use rtl_core::design::Design;
-use run_file::fault::RunFault;
-use std::alloc::Global;
+use std::alloc::{AllocError, Global};
 
-/// The place of the name in a report, which stands in its second line behind `top`.
-const REPORT_NAME: Place = Place {
-    line: 2,
-    column: 5,
-    part: 0,
-};
-
-/// What was read of the files of a comparison.
-#[derive(Debug, Drop)]
-struct Read {
-    interface: Interface,
-    report: Report,
-    design: Design,
+/// What a program is compiled with and run on, and the cycles that its report gives for the run.
+#[derive(Drop)]
+struct Counted {
+    settings: Settings,
     inputs: Inputs,
+    cycles: u128,
 }
 
-/// The report, which is one of the top function.
-fn report_of(alloc: Global, given: &CosimInputs) -> Result<Report, Stop> {
-    match cycle_report::read::read(alloc, given.report.items()) {
-        Ok(report) if report.settings.top.is_same(given.top.items()) => Ok(report),
-        Ok(_) => Err(Stop::Answer(Verdict::ReportBad(Refusal {
-            rule: 61,
-            place: REPORT_NAME,
-        }))),
-        Err(Fail::Refused(refusal)) => Err(Stop::Answer(Verdict::ReportBad(refusal))),
-        Err(Fail::Memory) => Err(Stop::Memory),
-    }
+/// That, and where the module differs first from the run in C.
+#[derive(Drop)]
+struct Compared {
+    counted: Counted,
+    difference: Option<Difference>,
 }
 
-/// The circuit, which has the pins of the top function.
-fn design_of(alloc: Global, given: &CosimInputs, interface: &Interface) -> Result<Design, Stop> {
-    let text = given.module.items();
-    match verilog_read::read(alloc, text) {
-        Ok(design) if has_pins(alloc, &design, interface)? => Ok(design),
-        Ok(_) => Err(Stop::Answer(Verdict::ModuleBad(Refusal {
-            rule: 57,
-            place: name_place(text),
-        }))),
-        Err(Fail::Refused(refusal)) => Err(Stop::Answer(Verdict::ModuleBad(refusal))),
-        Err(Fail::Memory) => Err(Stop::Memory),
-    }
-}
-
-/// What the run file gives.
-fn inputs_of(alloc: Global, given: &CosimInputs, function: &Function) -> Result<Inputs, Stop> {
-    match run_file::read::read(alloc, &function.params, given.run.items()) {
-        Ok(inputs) => Ok(inputs),
-        Err(RunFault::Line(line)) => Err(Stop::Answer(Verdict::RunLine(line))),
-        Err(RunFault::Memory) => Err(Stop::Memory),
-    }
-}
-
-/// Reads the report, then the module, then the run file.
-fn read_files(alloc: Global, given: &CosimInputs, function: &Function) -> Result<Read, Stop> {
-    let interface = interface_of(alloc, function)?;
-    let report = report_of(alloc, given)?;
-    let design = design_of(alloc, given, &interface)?;
-    let inputs = inputs_of(alloc, given, function)?;
-    Ok(Read {
-        interface,
-        report,
-        design,
-        inputs,
-    })
-}
-
-/// Runs the module, and compares it with the run in C. Answers the cycles.
+/// Runs the module, and compares it with the run in C.
 fn compare_module(
     alloc: Global,
     given: &CosimInputs,
     function: &Function,
     read: Read,
     ended: &Final,
-) -> Result<(Report, Inputs, u128), Stop> {
+) -> Result<Compared, Stop>
+    requires interface { plain read.interface ≡ interface_of (function_of function.now) }
+    requires files { AreFiles given.now (function_of function.now) (files_of read) }
+    requires scalars { length read.inputs.scalars ≡ length read.interface.scalars.items }
+    ensures compared { IfOk result (λ c. AreCompared given.now (function_of function.now) (files_of read) ended.now c.counted.cycles c.difference) }
+    ensures waiting { IfStopped result (IsWaiting (files_of read).circuit (interface_of (function_of function.now)) (files_of read).scalars (files_of read).arrays given.now.cycles) }
+{
     let Read {
         interface,
         report,
@@ -101,39 +65,72 @@ fn compare_module(
     } = read;
     let shown = module_level(alloc, design, &interface, &inputs, given.cycles)?;
     let cycles = cycles_of(&report.formula, &ended.tally)?;
-    match difference(alloc, function, ended, cycles, &shown)? {
-        Some(verdict) => Err(Stop::Answer(verdict)),
-        None => Ok((report, inputs, cycles)),
-    }
+    let difference = first_difference(alloc, function, ended, cycles, &shown)?;
+    Ok(Compared {
+        counted: Counted {
+            settings: report.settings,
+            inputs,
+            cycles,
+        },
+        difference,
+    })
 }
 
-/// Runs all levels of a program.
+/// The verdict where no number differs: the clocked machine is run too, and its steps are told.
+fn agreement(
+    alloc: Global,
+    function: &Function,
+    expanded: &Expanded,
+    counted: &Counted,
+    ended: &Final,
+) -> Result<Verdict, AllocError>
+    ensures { IfOk result (λ v. IsAgreement (function_of function.now) ended.now counted.now.cycles (verdict_of v)) }
+{
+    let compiled = compile_expanded(alloc, expanded, &counted.settings)?;
+    let clock = clocked_steps(
+        alloc,
+        &compiled.untimed,
+        &compiled.timed,
+        &counted.inputs,
+        ended,
+    )?;
+    agreeing(alloc, function, ended, counted.cycles, u128::from(clock))
+}
+
+/// Runs all levels of a program with this top function.
 fn compare(
     alloc: Global,
     given: &CosimInputs,
     checked: &Checked,
+    function: &Function,
     expanded: &Expanded,
-) -> Result<Verdict, Stop> {
-    let function = top_of(checked)?;
+) -> Result<Verdict, Stop>
+    ensures ran { IfOk result (λ v. IsVerdictOn given.now (program_of checked.now.program) checked.now.top (function_of function.now) (verdict_of v)) }
+    ensures stopped { IfStopped result (IsVerdictOn given.now (program_of checked.now.program) checked.now.top (function_of function.now)) }
+{
     let read = read_files(alloc, given, function)?;
     let ended = c_level(alloc, checked, &read.inputs, given.points)?;
-    let (report, inputs, cycles) = compare_module(alloc, given, function, read, &ended)?;
-    let compiled = compile_expanded(alloc, expanded, &report.settings)?;
-    let clock = clocked_steps(alloc, &compiled.untimed, &compiled.timed, &inputs, &ended)?;
-    Ok(Verdict::Agree {
-        ret: result_number(function, ended.ret),
-        arrays: shown_arrays(alloc, function, ended.arrays.items())?,
-        cycles,
-        clock: u128::from(clock),
-    })
+    let Compared {
+        counted,
+        difference,
+    } = compare_module(alloc, given, function, read, &ended)?;
+    match difference {
+        Some(difference) => Ok(differing(difference)),
+        None => Ok(agreement(alloc, function, expanded, &counted, &ended)?),
+    }
 }
 
 /// Compares the levels of a program: its run in C, its module driven through its pins, with the cycles that the formula of its report gives, and its clocked blocks. It is refused where the source is.
-pub fn cosim(alloc: Global, given: &CosimInputs) -> Result<Verdict, Fail> {
+pub fn cosim(alloc: Global, given: &CosimInputs) -> Result<Verdict, Fail>
+    ensures verdict { IfOk result (λ v. IsVerdict given.now (verdict_of v)) }
+    ensures refused { IfRefused result (IsFirstFault given.now.source given.now.top) }
+    ensures once { IfRefused result (λ r. (q : Refusal) → IsFirstFault given.now.source given.now.top q → q ≡ r) }
+{
     let checked = read_checked(alloc, given.source.items(), &given.top)?;
     let expanded = expanded(alloc, &checked)?;
-    match compare(alloc, given, &checked, &expanded) {
-        Ok(verdict) | Err(Stop::Answer(verdict)) => Ok(verdict),
+    match compare(alloc, given, &checked, top_of(&checked), &expanded) {
+        Ok(verdict) => Ok(verdict),
+        Err(Stop::Answer(verdict)) => Ok(verdict),
         Err(Stop::Memory) => Err(Fail::Memory),
     }
 }

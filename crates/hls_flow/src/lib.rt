@@ -2,8 +2,10 @@
 #![tactic(auto)]
 
 pub mod cosim;
-mod levels;
+mod files;
+pub mod laws;
 mod machines;
 pub mod soak;
 pub mod synth;
+mod top;
 pub mod verdict;

@@ -1,101 +1,28 @@
-use Rattle.std.proofs.Common.{map, inl, inr, refl, sym, ◌∙◌}
-use Rattle.std.specs.String.{string_bytes}
-use Rattle.command_words.specs.CommandViews.{synth_view, cosim_view}
-use Rattle.hls_cli.specs.Lines.{fault_line, memory_line}
-use Rattle.hls_cli.specs.SynthRun.{outside}
-use Rattle.hls_cli.specs.SynthRun as run
-use Rattle.hls_cli.proofs.RunEnds.{synth_cut, synth_complete, synth_fault, cosim_fault, same_files, verdict_cut, verdict_cut_early}
 use Rattle.hls_cli.proofs.run.run.Goals as goal
 
-pub returns-in-Ok-clause-fault : goal.returns-in-Ok-clause-fault
-returns-in-Ok-clause-fault g c = λ e. inr (inl (c.finish.ensures.fault e))
+pub returns-clause-status : goal.returns-clause-status
+returns-clause-status g c = c.answer.ensures.known
 
-pub returns-in-Ok-clause-after_fault : goal.returns-in-Ok-clause-after_fault
-returns-in-Ok-clause-after_fault g c = λ e.
-    synth_cut (map string_bytes c.args.words.now) (synth_view c.in-Ok-Some-Synth.command) c.in-Ok.answer c.as_bytes.result.now fault_line
-    (outside (g.F.Shelf.files c.args.shelf.now) (g.F.Shelf.files c.work_synth.new.shelf) (g.K.Sink.written c.args.out.now) (g.K.Sink.written c.finish.new.out))
-    (sym (rw (c.in-Ok-Some-Synth.field-0-is, c.in-Ok-Some-Synth.field-0-0-is) at c.in-Ok-Some-Synth.ensures.value)) c.in-Ok.ensures.answer c.as_bytes.ensures.value (c.finish.ensures.after_fault e)
+pub returns-clause-made : goal.returns-clause-made
+returns-clause-made g c = c.answer.ensures.made
 
-pub returns-in-Ok-clause-after_memory : goal.returns-in-Ok-clause-after_memory
-returns-in-Ok-clause-after_memory g c = λ e.
-    synth_cut (map string_bytes c.args.words.now) (synth_view c.in-Ok-Some-Synth.command) c.in-Ok.answer c.as_bytes.result.now memory_line
-    (outside (g.F.Shelf.files c.args.shelf.now) (g.F.Shelf.files c.work_synth.new.shelf) (g.K.Sink.written c.args.out.now) (g.K.Sink.written c.finish.new.out))
-    (sym (rw (c.in-Ok-Some-Synth.field-0-is, c.in-Ok-Some-Synth.field-0-0-is) at c.in-Ok-Some-Synth.ensures.value)) c.in-Ok.ensures.answer c.as_bytes.ensures.value (c.finish.ensures.after_memory e)
+pub returns-clause-refused : goal.returns-clause-refused
+returns-clause-refused g c = c.answer.ensures.refused
 
-pub returns-in-Ok-clause-complete : goal.returns-in-Ok-clause-complete
-returns-in-Ok-clause-complete g c = λ done shelf sink.
-    synth_complete (map string_bytes c.args.words.now) (synth_view c.in-Ok-Some-Synth.command) c.in-Ok.answer (g.F.Shelf.files c.args.shelf.now) (g.F.Shelf.files c.work_synth.new.shelf) c.finish.result (g.K.Sink.faults c.args.out.now) (g.K.Sink.faults c.finish.new.out)
-    (sym (rw (c.in-Ok-Some-Synth.field-0-is, c.in-Ok-Some-Synth.field-0-0-is) at c.in-Ok-Some-Synth.ensures.value)) c.in-Ok.ensures.answer c.finish.ensures.status c.finish.ensures.fault done sink
+pub returns-clause-usage : goal.returns-clause-usage
+returns-clause-usage g c = c.answer.ensures.usage
 
-pub returns-in-Err-Failed-clause-fault : goal.returns-in-Err-Failed-clause-fault
-returns-in-Err-Failed-clause-fault g c = λ e.
-    synth_fault (map string_bytes c.args.words.now) (synth_view c.in-Ok-Some-Synth.command) (g.F.Shelf.files c.args.shelf.now) (g.F.Shelf.faults c.args.shelf.now) (g.F.Shelf.faults c.work_synth.new.shelf) (g.K.Sink.faults c.args.out.now) (g.K.Sink.faults c.stop_for_fault.new.out)
-    (sym (rw (c.in-Ok-Some-Synth.field-0-is, c.in-Ok-Some-Synth.field-0-0-is) at c.in-Ok-Some-Synth.ensures.value)) (c.in-Err-Failed.ensures.failed (cc))
+pub returns-clause-compared : goal.returns-clause-compared
+returns-clause-compared g c = c.answer.ensures.compared
 
-pub returns-in-Err-Failed-clause-after_fault : goal.returns-in-Err-Failed-clause-after_fault
-returns-in-Err-Failed-clause-after_fault g c = λ e. run.stopped (synth_view c.in-Ok-Some-Synth.command) (sym (rw (c.in-Ok-Some-Synth.field-0-is, c.in-Ok-Some-Synth.field-0-0-is) at c.in-Ok-Some-Synth.ensures.value)) c.in-Err-Failed.ensures.stopped c.stop_for_fault.ensures.line
+pub returns-clause-fault : goal.returns-clause-fault
+returns-clause-fault g c = c.answer.ensures.fault
 
-pub returns-in-Err-Memory-clause-after_memory : goal.returns-in-Err-Memory-clause-after_memory
-returns-in-Err-Memory-clause-after_memory g c = λ e. run.stopped (synth_view c.in-Ok-Some-Synth.command) (sym (rw (c.in-Ok-Some-Synth.field-0-is, c.in-Ok-Some-Synth.field-0-0-is) at c.in-Ok-Some-Synth.ensures.value)) c.in-Err-Memory.ensures.stopped c.stop_for_memory.ensures.line
+pub returns-clause-after_fault : goal.returns-clause-after_fault
+returns-clause-after_fault g c = c.answer.ensures.after_fault
 
-pub returns-in-Ok-work_cosim-clause-fault : goal.returns-in-Ok-work_cosim-clause-fault
-returns-in-Ok-work_cosim-clause-fault g c = λ e. inr (inl (c.finish-in-Ok-work_cosim.ensures.fault e))
+pub returns-clause-after_memory : goal.returns-clause-after_memory
+returns-clause-after_memory g c = c.answer.ensures.after_memory
 
-pub returns-in-Ok-work_cosim-clause-after_fault : goal.returns-in-Ok-work_cosim-clause-after_fault
-returns-in-Ok-work_cosim-clause-after_fault g c = λ e.
-    verdict_cut (map string_bytes c.args.words.now) c.as_bytes-in-Ok-work_cosim.result.now fault_line
-    (outside (g.F.Shelf.files c.args.shelf.now) (g.F.Shelf.files c.work_cosim.new.shelf) (g.K.Sink.written c.args.out.now) (g.K.Sink.written c.finish-in-Ok-work_cosim.new.out))
-    (inl (cosim_view c.in-Ok-Some-Cosim.command, sym (rw (c.in-Ok-Some-Cosim.field-0-is, c.in-Ok-Some-Cosim.field-0-0-is) at c.in-Ok-Some-Cosim.ensures.value))) c.in-Ok-work_cosim.ensures.files (c.finish-in-Ok-work_cosim.ensures.after_fault e)
-
-pub returns-in-Ok-work_cosim-clause-after_memory : goal.returns-in-Ok-work_cosim-clause-after_memory
-returns-in-Ok-work_cosim-clause-after_memory g c = λ e.
-    verdict_cut (map string_bytes c.args.words.now) c.as_bytes-in-Ok-work_cosim.result.now memory_line
-    (outside (g.F.Shelf.files c.args.shelf.now) (g.F.Shelf.files c.work_cosim.new.shelf) (g.K.Sink.written c.args.out.now) (g.K.Sink.written c.finish-in-Ok-work_cosim.new.out))
-    (inl (cosim_view c.in-Ok-Some-Cosim.command, sym (rw (c.in-Ok-Some-Cosim.field-0-is, c.in-Ok-Some-Cosim.field-0-0-is) at c.in-Ok-Some-Cosim.ensures.value))) c.in-Ok-work_cosim.ensures.files (c.finish-in-Ok-work_cosim.ensures.after_memory e)
-
-pub returns-in-Err-Failed-work_cosim-clause-fault : goal.returns-in-Err-Failed-work_cosim-clause-fault
-returns-in-Err-Failed-work_cosim-clause-fault g c = λ e.
-    cosim_fault (map string_bytes c.args.words.now) (cosim_view c.in-Ok-Some-Cosim.command) (g.F.Shelf.files c.args.shelf.now) (g.F.Shelf.faults c.args.shelf.now) (g.F.Shelf.faults c.work_cosim.new.shelf) (g.K.Sink.faults c.args.out.now) (g.K.Sink.faults c.stop_for_fault-in-Err-Failed-work_cosim.new.out)
-    (sym (rw (c.in-Ok-Some-Cosim.field-0-is, c.in-Ok-Some-Cosim.field-0-0-is) at c.in-Ok-Some-Cosim.ensures.value)) (c.in-Err-Failed-work_cosim.ensures.failed (cc))
-
-pub returns-in-Err-Failed-work_cosim-clause-after_fault : goal.returns-in-Err-Failed-work_cosim-clause-after_fault
-returns-in-Err-Failed-work_cosim-clause-after_fault g c = λ e.
-    verdict_cut_early (map string_bytes c.args.words.now) fault_line
-    (outside (g.F.Shelf.files c.args.shelf.now) (g.F.Shelf.files c.work_cosim.new.shelf) (g.K.Sink.written c.args.out.now) (g.K.Sink.written c.stop_for_fault-in-Err-Failed-work_cosim.new.out))
-    (inl (cosim_view c.in-Ok-Some-Cosim.command, sym (rw (c.in-Ok-Some-Cosim.field-0-is, c.in-Ok-Some-Cosim.field-0-0-is) at c.in-Ok-Some-Cosim.ensures.value))) c.in-Err-Failed-work_cosim.ensures.files c.stop_for_fault-in-Err-Failed-work_cosim.ensures.line
-
-pub returns-in-Err-Memory-work_cosim-clause-after_memory : goal.returns-in-Err-Memory-work_cosim-clause-after_memory
-returns-in-Err-Memory-work_cosim-clause-after_memory g c = λ e.
-    verdict_cut_early (map string_bytes c.args.words.now) memory_line
-    (outside (g.F.Shelf.files c.args.shelf.now) (g.F.Shelf.files c.work_cosim.new.shelf) (g.K.Sink.written c.args.out.now) (g.K.Sink.written c.stop_for_memory-in-Err-Memory-work_cosim.new.out))
-    (inl (cosim_view c.in-Ok-Some-Cosim.command, sym (rw (c.in-Ok-Some-Cosim.field-0-is, c.in-Ok-Some-Cosim.field-0-0-is) at c.in-Ok-Some-Cosim.ensures.value))) c.in-Err-Memory-work_cosim.ensures.files c.stop_for_memory-in-Err-Memory-work_cosim.ensures.line
-
-pub returns-in-Ok-work_soak-clause-made : goal.returns-in-Ok-work_soak-clause-made
-returns-in-Ok-work_soak-clause-made g c = λ e. inr (record {
-  comparison = inr (c.in-Ok-Some-Soak.number, sym (rw (c.in-Ok-Some-Soak.field-0-is, c.in-Ok-Some-Soak.field-0-0-is) at c.in-Ok-Some-Soak.ensures.value));
-  files = same_files (g.F.Shelf.files c.args.shelf.now) (g.F.Shelf.files c.args.shelf.now) refl;
-  lines = c.as_bytes-in-Ok-work_soak.result.now;
-  bytes = c.finish-in-Ok-work_soak.ensures.done (e ∙ sym c.in-Ok-work_soak.ensures);
-})
-
-pub returns-in-Ok-work_soak-clause-after_fault : goal.returns-in-Ok-work_soak-clause-after_fault
-returns-in-Ok-work_soak-clause-after_fault g c = λ e.
-    verdict_cut (map string_bytes c.args.words.now) c.as_bytes-in-Ok-work_soak.result.now fault_line
-    (outside (g.F.Shelf.files c.args.shelf.now) (g.F.Shelf.files c.args.shelf.now) (g.K.Sink.written c.args.out.now) (g.K.Sink.written c.finish-in-Ok-work_soak.new.out))
-    (inr (c.in-Ok-Some-Soak.number, sym (rw (c.in-Ok-Some-Soak.field-0-is, c.in-Ok-Some-Soak.field-0-0-is) at c.in-Ok-Some-Soak.ensures.value))) refl (c.finish-in-Ok-work_soak.ensures.after_fault e)
-
-pub returns-in-Ok-work_soak-clause-after_memory : goal.returns-in-Ok-work_soak-clause-after_memory
-returns-in-Ok-work_soak-clause-after_memory g c = λ e.
-    verdict_cut (map string_bytes c.args.words.now) c.as_bytes-in-Ok-work_soak.result.now memory_line
-    (outside (g.F.Shelf.files c.args.shelf.now) (g.F.Shelf.files c.args.shelf.now) (g.K.Sink.written c.args.out.now) (g.K.Sink.written c.finish-in-Ok-work_soak.new.out))
-    (inr (c.in-Ok-Some-Soak.number, sym (rw (c.in-Ok-Some-Soak.field-0-is, c.in-Ok-Some-Soak.field-0-0-is) at c.in-Ok-Some-Soak.ensures.value))) refl (c.finish-in-Ok-work_soak.ensures.after_memory e)
-
-pub returns-in-Err-work_soak-clause-after_memory : goal.returns-in-Err-work_soak-clause-after_memory
-returns-in-Err-work_soak-clause-after_memory g c = λ e.
-    verdict_cut_early (map string_bytes c.args.words.now) memory_line
-    (outside (g.F.Shelf.files c.args.shelf.now) (g.F.Shelf.files c.args.shelf.now) (g.K.Sink.written c.args.out.now) (g.K.Sink.written c.stop_for_memory-in-Err-work_soak.new.out))
-    (inr (c.in-Ok-Some-Soak.number, sym (rw (c.in-Ok-Some-Soak.field-0-is, c.in-Ok-Some-Soak.field-0-0-is) at c.in-Ok-Some-Soak.ensures.value))) refl c.stop_for_memory-in-Err-work_soak.ensures.line
-
-pub returns-in-Err-clause-after_memory : goal.returns-in-Err-clause-after_memory
-returns-in-Err-clause-after_memory g c = λ e.
-    run.unread refl (same_files (g.F.Shelf.files c.args.shelf.now) (g.F.Shelf.files c.args.shelf.now) refl) c.stop_for_memory-in-Err.ensures.line
+pub returns-clause-complete : goal.returns-clause-complete
+returns-clause-complete g c = c.answer.ensures.complete

@@ -1,0 +1,14 @@
+use Rattle.std.proofs.Common.{◌≡◌, subst}
+use Rattle.cycle_report.specs.PlainReport.{plain_of}
+use Rattle.pieces.specs.Program.{ExpandedTree}
+use Rattle.ir_lower.specs.Frames.{frame_view}
+use Rattle.compile_flow.specs.Resets.{expanded_frame, AreAddressable, reset_cycles}
+use Rattle.compile_flow.proofs.compile.compile.Goals as goal
+
+pub returns-clause-frame : goal.returns-clause-frame
+returns-clause-frame c =
+    subst (λ (e : ExpandedTree). frame_view c.in_ok-compiled.compiled.timed.frame ≡ expanded_frame e) c.in_ok-expanded.ensures.made c.in_ok-compiled.ensures.frame
+
+pub returns-clause-init : goal.returns-clause-init
+returns-clause-init c =
+    subst (λ (e : ExpandedTree). AreAddressable (expanded_frame e) → (plain_of c.in_ok-compiled.compiled.report).init ≡ reset_cycles (expanded_frame e)) c.in_ok-expanded.ensures.made c.in_ok-compiled.ensures.init

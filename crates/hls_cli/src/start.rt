@@ -1,0 +1,24 @@
+//! The program over the system's words, files and output.
+use crate::run::run;
+use hls_base::real::{RealShelf, RealSink};
+use std::{env, io};
+
+// The words after the program's name.
+fn words_of(rt: &HostRuntime) -> io::Result<Vec<String>> {
+    let mut words = env::args(rt)?;
+    words.next();
+    Ok(words.collect(rt.alloc())?)
+}
+
+/// Does what the program's words say, and answers the status with which it ends.
+pub fn start(rt: &HostRuntime) -> u8 {
+    match words_of(rt) {
+        Ok(words) => {
+            let mut shelf = RealShelf::new(rt);
+            let mut out = RealSink::new(rt);
+            run(rt.alloc(), &words, &mut shelf, &mut out)
+        }
+        Err(e) if e.kind() == io::ErrorKind::OutOfMemory => 4,
+        Err(_) => 3,
+    }
+}

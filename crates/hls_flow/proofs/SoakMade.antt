@@ -1,0 +1,36 @@
+-- The run of a made program, put together from what the steps give.
+use Rattle.std.proofs.Common.{◌≡◌, ℕ, true, [], ◌∷◌, Result, Ok, Err, IfOk, Option, Some, None, codes, refl, sym, subst, ◌∙◌}
+use Rattle.std.specs.Prelude.{is_some, slice_get}
+use Rattle.c_tree.specs.Tree as tree
+use Rattle.c_tree.specs.Tree.{FunctionTree, ProgramTree}
+use Rattle.c_meaning.specs.declared.outcome.Final.{Final}
+use Rattle.rtl_core.specs.Netlist.{Netlist}
+use Rattle.cycle_report.specs.PlainReport.{PlainReport}
+use Rattle.soak_text.specs.SoakProgram.{program_text, elements, argument, count_products}
+use Rattle.hls_flow.specs.declared.soak.Summary.{Summary}
+use Rattle.hls_flow.specs.SoakRun.{IsCompiled, IsAgreedRun, IsSoakRun}
+use Rattle.hls_flow.proofs.VerdictCases.{accepted_at}
+
+pub soak_run : (number : ℕ) (program : ProgramTree) (index : ℕ) (f : FunctionTree) (report : PlainReport) (circuit : Netlist) (final : Final) (count muls : ℕ)
+    → IsCompiled (program_text number) program index report circuit → slice_get program.items index ≡ Some (tree.function f) → is_some f.body ≡ true
+    → IsAgreedRun program index f (argument number ∷ []) (elements number ∷ []) report circuit final count → muls ≡ count_products number 40
+    → (s : Summary) → (s.muls ≡ muls) × (s.cycles ≡ count) → final.ret ≡ Some s.ret → IsSoakRun number s
+soak_run number program index f report circuit final count muls made item body agreed products s counts returned = record {
+  muls = counts.0 ∙ products;
+  accepted = accepted_at (program_text number) (codes "f") program index f made.is made.faultless made.named made.within item body;
+  report = report;
+  circuit = circuit;
+  scheduled = made.scheduled;
+  final = final;
+  agreed = subst (λ n. IsAgreedRun program index f (argument number ∷ []) (elements number ∷ []) report circuit final n) (sym counts.1) agreed;
+  result = returned;
+}
+
+-- what is not there
+pub none_left : {A : Type 0} (o : Option A) → ((x : A) → o ≡ Some x → ⊥) → o ≡ None
+none_left (Some x) none = absurd (none x refl)
+none_left None none = refl
+
+pub both : {A E : Type 0} (r : Result A E) (P Q R : A → Type 0) → IfOk r P → IfOk r Q → ((x : A) → P x → Q x → R x) → IfOk r R
+both (Ok x) P Q R p q f = f x p q
+both (Err e) P Q R p q f = tt

@@ -1,0 +1,58 @@
+use Rattle.std.proofs.Common.{◌≡◌, sym, subst, Some, None}
+use Rattle.c_tree.specs.View.{program_of, function_of}
+use Rattle.c_meaning.specs.declared.outcome.Final.{Final}
+use Rattle.cosim_pins.specs.FunctionPins.{interface_of}
+use Rattle.cosim_levels.specs.Verdicts.{verdict_of}
+use Rattle.cosim_levels.specs.Levels.{IsUnended, IsWaiting}
+use Rattle.hls_flow.specs.declared.files.Read.{Read}
+use Rattle.hls_flow.specs.declared.cosim.Compared.{Compared}
+use Rattle.hls_flow.specs.Verdicts.{IsStoppedAtFiles, IsVerdictOn, run_in_c, at_files, unended, waiting, compared}
+use Rattle.hls_flow.specs.Comparing.{files_of}
+use Rattle.hls_flow.proofs.Stopped.{stopped_on}
+use Rattle.hls_flow.proofs.VerdictCases.{differs, agrees}
+use Rattle.hls_flow.proofs.cosim.compare.Goals as goal
+
+pub returns-in_err-read-clause-stopped : goal.returns-in_err-read-clause-stopped
+returns-in_err-read-clause-stopped c =
+    let given = c.args.given.now in
+    let f = function_of c.args.function.now in
+    let program = program_of c.args.checked.now.program in
+    stopped_on Read _ c.in_err-read.field-0.0 (IsStoppedAtFiles given f) (IsVerdictOn given program c.args.checked.now.top f) c.from_residual.ensures.1 (λ y e. e)
+    (λ v h. at_files h) c.in_err-read.ensures.refused
+
+pub returns-in_err-ended-clause-stopped : goal.returns-in_err-ended-clause-stopped
+returns-in_err-ended-clause-stopped c =
+    let given = c.args.given.now in
+    let f = function_of c.args.function.now in
+    let program = program_of c.args.checked.now.program in
+    let files = files_of c.in_ok-read.read in
+    stopped_on Final _ c.in_err-ended.field-0.0 (IsUnended (run_in_c given program c.args.checked.now.top files) given.points) (IsVerdictOn given program c.args.checked.now.top f) c.from_residual-in_err-ended.ensures.1 (λ y e. e)
+    (λ v h. unended files c.in_ok-read.ensures.files h) c.in_err-ended.ensures.unended
+
+pub returns-in_err-counted-clause-stopped : goal.returns-in_err-counted-clause-stopped
+returns-in_err-counted-clause-stopped c =
+    let given = c.args.given.now in
+    let f = function_of c.args.function.now in
+    let program = program_of c.args.checked.now.program in
+    let files = files_of c.in_ok-read.read in
+    stopped_on Compared _ c.in_err-counted.field-0.0 (IsWaiting files.circuit (interface_of f) files.scalars files.arrays given.cycles) (IsVerdictOn given program c.args.checked.now.top f) c.from_residual-in_err-counted.ensures.1 (λ y e. e)
+    (λ v h. waiting files c.in_ok-ended.ended c.in_ok-read.ensures.files c.in_ok-ended.ensures.ended h) c.in_err-counted.ensures.waiting
+
+pub returns-in-Some-clause-ran : goal.returns-in-Some-clause-ran
+returns-in-Some-clause-ran c =
+    let given = c.args.given.now in
+    let f = function_of c.args.function.now in
+    let files = files_of c.in_ok-read.read in
+    let same : c.in_ok-counted.field-0.difference ≡ Some c.in-Some.difference = cc in
+    subst (IsVerdictOn given (program_of c.args.checked.now.program) c.args.checked.now.top f) (sym c.differing.ensures)
+    (compared files c.in_ok-ended.ended c.in_ok-read.ensures.files c.in_ok-ended.ensures.ended
+    (differs given f files c.in_ok-ended.ended c.in_ok-counted.field-0.counted.cycles c.in_ok-counted.field-0.difference c.in_ok-counted.ensures.compared c.in-Some.difference same))
+
+pub returns-clause-ran : goal.returns-clause-ran
+returns-clause-ran c =
+    let f = function_of c.args.function.now in
+    let files = files_of c.in_ok-read.read in
+    let verdict = verdict_of c.in_ok-agreement-in-None.field-0 in
+    let same : c.in_ok-counted.field-0.difference ≡ None = cc in
+    compared files c.in_ok-ended.ended c.in_ok-read.ensures.files c.in_ok-ended.ensures.ended
+    (agrees c.args.given.now f files c.in_ok-ended.ended c.in_ok-counted.field-0.counted.cycles c.in_ok-counted.field-0.difference c.in_ok-counted.ensures.compared verdict same c.in_ok-agreement-in-None.ensures)

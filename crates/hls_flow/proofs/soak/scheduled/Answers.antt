@@ -1,0 +1,12 @@
+use Rattle.hls_flow.proofs.soak.scheduled.Goals as goal
+
+pub returns : goal.returns
+returns c = record {
+  untimed = c.in_ok-compiled.compiled.untimed;
+  timed = c.in_ok-compiled.compiled.timed;
+  frame = c.in_ok-compiled.ensures.frame;
+  init = c.in_ok-compiled.ensures.init;
+  is_timed = c.in_ok-compiled.ensures.timed;
+  reported = c.in_ok-compiled.ensures.report;
+  longer = c.in_ok-compiled.ensures.longer;
+}
