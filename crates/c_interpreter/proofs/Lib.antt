@@ -1,7 +1,5 @@
 pub mod Blocks
 pub mod RowSizes
-pub mod Runs
-pub mod UnderWay
 pub mod Jumping
 pub mod Binding
 pub mod Functions

@@ -4,6 +4,3 @@ pub mod Machines
 pub mod Labels
 pub mod Calling
 pub mod Chains
-pub mod Runs
-pub mod Progress
-pub mod RunViews

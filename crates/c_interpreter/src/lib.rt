@@ -2,5 +2,3 @@
 #![tactic(auto)]
 
 pub mod machine;
-pub mod outcome;
-pub mod run;

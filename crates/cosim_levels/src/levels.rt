@@ -2,7 +2,7 @@
 ghost use Rattle.std.specs.Prelude.{◌≡◌, length, Some, IfOk};
 ghost use Rattle.c_tree.specs.View.{program_of};
 ghost use Rattle.c_meaning.specs.Run.{c_run, first_contents};
-ghost use Rattle.c_interpreter.specs.Progress.{outcome_of};
+ghost use Rattle.c_execution.specs.Progress.{outcome_of};
 ghost use Rattle.rtl_core.specs.Netlist.{netlist_of};
 ghost use Rattle.rtl_core.specs.Valid.{IsValid};
 ghost use Rattle.rtl_core.specs.Interface.{HasPins};
@@ -14,7 +14,7 @@ ghost use Rattle.cosim_levels.specs.Levels.{EndsWith, IsUnended, IsWaiting};
 
 use crate::verdict::{Level, Stop, Verdict};
 use c_checked::checked::Checked;
-use c_interpreter::run::start;
+use c_execution::run::start;
 use c_meaning::outcome::{Final, Outcome};
 use cosim_pins::drive::{Shown, drive};
 use cosim_pins::interface::Interface;

@@ -6,4 +6,6 @@ mod desk;
 #[cfg(test)]
 mod known;
 #[cfg(test)]
+mod real_files;
+#[cfg(test)]
 mod statuses;

@@ -36,9 +36,18 @@ abbrev pub IsRunOf : Standing → FileScope → List ℕ → List (List ℕ) →
 IsRunOf r kept scalars arrays =
     (trace : List Point) × follows (ran r.program.items (top_function r.program r.top) kept scalars arrays) trace r.machine × (r.machine.meter.counts ≡ tally_of trace)
 
--- what the objects of file scope hold
-abbrev pub left_contents : Standing → FileScope
-left_contents r = contents_of r.file r.machine.objects
+-- what the objects of file scope hold at the end
+abbrev pub at_end : f.Control → FileScope → Option FileScope
+at_end (f.ended number) contents = Some contents
+at_end _ contents = None
+
+abbrev pub left_or : Option FileScope → FileScope → FileScope
+left_or None begun = begun
+left_or (Some contents) begun = contents
+
+-- what it leaves for a next run: what the objects of file scope hold at the end, or what it began with where it has not ended
+abbrev pub left_contents : Standing → FileScope → FileScope
+left_contents r begun = left_or (at_end r.machine.control (contents_of r.file r.machine.objects)) begun
 
 -- ---- what a machine tells, and how it begins
 

@@ -1,8 +1,8 @@
 use Rattle.std.proofs.Common.{◌∙◌, ap, map}
 use Rattle.c_tree.specs.View.{item_of}
 use Rattle.c_checked.specs.Limits.{file_objects}
-use Rattle.c_interpreter.proofs.UnderWay.{begun-under-way}
-use Rattle.c_interpreter.proofs.run.beginning.start.Goals as goal
+use Rattle.c_execution.proofs.UnderWay.{begun-under-way}
+use Rattle.c_execution.proofs.run.beginning.start.Goals as goal
 
 -- src/run/beginning.rt:26:5
 pub invariant_of-result : goal.invariant_of-result

@@ -4,15 +4,15 @@ use Rattle.std.specs.Borrow.{Bor}
 use Rattle.c_tree.specs.declared.object.Object.{Object as Declared}
 use Rattle.c_checked.specs.Limits.{file_objects}
 use Rattle.c_interpreter.specs.declared.machine.Machine.{Machine}
-use Rattle.c_interpreter.specs.declared.run.Run.TheInside.{Inside}
+use Rattle.c_execution.specs.declared.run.Run.TheInside.{Inside}
 use Rattle.c_meaning.specs.Declarations.{objects_of}
 use Rattle.c_interpreter.specs.Machines.{configuration_of}
 use Rattle.c_machine.specs.Sound.{Sound}
 use Rattle.c_machine.specs.Shape.{Shaped}
 use Rattle.c_machine.specs.Following.{keeps_following}
-use Rattle.c_interpreter.specs.Runs.{top_function, is_begun}
-use Rattle.c_interpreter.specs.RunViews.{standing_of, IsUnderWay}
-use Rattle.c_interpreter.proofs.Runs.{begun-sliced, begun-run, begun-sound, begun-shaped, gone-run}
+use Rattle.c_execution.specs.Runs.{top_function, is_begun}
+use Rattle.c_execution.specs.RunViews.{standing_of, IsUnderWay}
+use Rattle.c_execution.proofs.Runs.{begun-sliced, begun-run, begun-sound, begun-shaped, gone-run}
 
 pub begun-under-way : (r : Inside) (ds : List (Bor Declared)) → ds ≡ r.declared.items → objects_of r.declared.items ≡ file_objects (standing_of r).program.items
     → is_begun (standing_of r).program.items (top_function (standing_of r).program (standing_of r).top) (objects_of ds) r.kept r.inputs.scalars r.inputs.arrays (configuration_of r.machine) → IsUnderWay r

@@ -3,15 +3,16 @@ ghost use Rattle.std.specs.Prelude.{◌≡◌, Some, IfOk};
 ghost use Rattle.c_tree.specs.View.{function_of, program_of};
 ghost use Rattle.c_meaning.specs.Declarations.{objects_of};
 ghost use Rattle.c_interpreter.specs.Machines.{configuration_of};
-ghost use Rattle.c_interpreter.specs.Runs.{top_function, is_begun, outcome_by};
+ghost use Rattle.c_execution.specs.Runs.{top_function, is_begun, outcome_by, at_end, left_or};
+ghost use Rattle.c_meaning.specs.Run.{contents_of};
 
 mod beginning;
 
-use crate::machine::Machine;
-use crate::machine::frame::Control;
 use crate::outcome::final_of;
 pub use crate::run::beginning::start;
 use c_checked::checked::Checked;
+use c_interpreter::machine::Machine;
+use c_interpreter::machine::frame::Control;
 use c_meaning::outcome::Outcome;
 use c_state::file_scope::{FileContents, contents, file_names};
 use c_state::inputs::{started_objects, top_arguments};
@@ -33,7 +34,7 @@ pub struct Run<'p> {
 }
 
 impl<'p> Model for Run<'p> {
-    ghost use Rattle.c_interpreter.specs.Progress.{Progress};
+    ghost use Rattle.c_execution.specs.Progress.{Progress};
     ghost use Rattle.c_tree.specs.contracts.expression.Expr as expression;
     ghost use Rattle.c_tree.specs.contracts.object.Init as init;
     ghost use Rattle.c_tree.specs.contracts.statement.Stmt as statement;
@@ -43,7 +44,7 @@ impl<'p> Model for Run<'p> {
 
     ghost coded = { Prim.hlevel (codes, expression.the_row.coded, init.the_row.coded, statement.the_row.coded) };
 
-    ghost use Rattle.c_interpreter.specs.RunViews.{progress_of, IsUnderWay};
+    ghost use Rattle.c_execution.specs.RunViews.{progress_of, IsUnderWay};
 
     ghost view = { progress_of };
 
@@ -86,6 +87,41 @@ fn begin<'p>(
     Machine::start(alloc, items, f, names, objects, given.as_slice())
 }
 
+/// What the objects of file scope hold where the run has ended.
+fn contents_at_end(
+    alloc: Global,
+    declared: &[&Declared],
+    machine: &Machine,
+) -> Result<Option<FileContents>, AllocError>
+    ensures { IfOk result (λ o. o ≡ at_end (configuration_of machine.now).control (contents_of (objects_of declared.now) (configuration_of machine.now).objects)) }
+{
+    match machine.control {
+        Control::Ended(_) => {
+            let left = contents(alloc, declared, machine.objects.as_slice())?;
+            Ok(Some(left))
+        }
+        Control::Going(..) | Control::Undefined(..) | Control::Stuck => Ok(None),
+    }
+}
+
+fn left_or<'a>(ended: &'a Option<FileContents>, begun: &'a FileContents) -> &'a FileContents
+    ensures { result.now ≡ left_or ended.now begun.now }
+{
+    match ended {
+        Some(contents) => contents,
+        None => begun,
+    }
+}
+
+/// Takes the contents in where there are some.
+fn keep(ended: Option<FileContents>, kept: &mut FileContents)
+    ensures { kept.new ≡ left_or ended kept.old }
+{
+    if let Some(contents) = ended {
+        *kept = contents;
+    }
+}
+
 /// Another owner of the same inputs.
 fn copied(alloc: Global, inputs: &Inputs) -> Result<Inputs, AllocError>
     ensures { IfOk result (λ i. i ≡ inputs.now) }
@@ -120,7 +156,7 @@ fn outcome(
 impl<'p> Run<'p> {
     ghost use Rattle.std.specs.Prelude.{◌≡◌, ◌+◌, ◌<◌, ◌≤◌, ◌^◌, [], IfOk, OnOk, OnErr};
     ghost use Rattle.c_meaning.specs.Points.{tally_of};
-    ghost use Rattle.c_interpreter.specs.Progress.{answer_within, points_within, outcome_of, keeps, RunsFor};
+    ghost use Rattle.c_execution.specs.Progress.{answer_within, points_within, outcome_of, left_behind, RunsFor};
 
     #[tactic(auto, using(crate::proofs::Runs::runs))]
     /// Passes at most so many points more. After `Ended` or `Undefined` the same answer comes again; after want of memory the run stands behind some of its points, and goes on from there.
@@ -128,7 +164,7 @@ impl<'p> Run<'p> {
         requires { self.old.passed + points < 2 ^ 64 }
         ensures answer { IfOk result (λ o. o ≡ outcome_of (answer_within self.old.begun (self.old.passed + points))) }
         ensures counts { OnOk result (self.new.counts ≡ tally_of (points_within self.old.begun (self.old.passed + points))) }
-        ensures left { OnOk result (keeps (answer_within self.old.begun (self.old.passed + points)) self.new.left) }
+        ensures left { OnOk result (self.new.left ≡ left_behind (answer_within self.old.begun (self.old.passed + points)) self.old.begun.kept) }
         ensures begun { self.new.begun ≡ self.old.begun }
         ensures passed { self.old.passed ≤ self.new.passed }
         ensures within { self.new.passed ≤ self.old.passed + points }
@@ -140,27 +176,19 @@ impl<'p> Run<'p> {
     }
 
     #[tactic(auto, using(crate::proofs::Runs::runs))]
-    /// Begins a new run from the file-scope contents that are there: after `Ended`, those that the last run left. After want of memory the run stands as before.
+    /// Begins a new run: after `Ended` from the file-scope contents that the last run left, else from those that it began with. After want of memory the run stands as before.
     pub fn again(&mut self, alloc: Global, inputs: &Inputs) -> Result<(), AllocError>
         ensures begun { OnOk result (self.new.begun ≡ record self.old.begun { kept = self.old.left; scalars = inputs.now.scalars; arrays = inputs.now.arrays }) }
         ensures passed { OnOk result (self.new.passed ≡ 0) }
         ensures counts { OnOk result (self.new.counts ≡ []) }
         ensures unchanged { OnErr result (self.new ≡ self.old) }
     {
-        let kept = contents(
-            alloc,
-            self.declared.as_slice(),
-            self.machine.objects.as_slice(),
-        )?;
+        let declared = self.declared.as_slice();
+        let ended = contents_at_end(alloc, declared, &self.machine)?;
+        let kept = left_or(&ended, &self.kept);
         let inputs = copied(alloc, inputs)?;
-        let machine = begin(
-            alloc,
-            self.checked,
-            self.declared.as_slice(),
-            &kept,
-            &inputs,
-        )?;
-        self.kept = kept;
+        let machine = begin(alloc, self.checked, declared, kept, &inputs)?;
+        keep(ended, &mut self.kept);
         self.inputs = inputs;
         self.machine = machine;
         Ok(())

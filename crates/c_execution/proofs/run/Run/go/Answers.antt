@@ -1,13 +1,13 @@
-use Rattle.std.proofs.Common.{◌∙◌, ap, subst, ◌+◌}
+use Rattle.std.proofs.Common.{◌≡◌, ◌∙◌, ap, subst, ◌+◌}
 use Rattle.c_meaning.specs.Declarations.{objects_of}
 use Rattle.c_meaning.specs.Points.{tally_of}
 use Rattle.c_interpreter.specs.Machines.{configuration_of}
-use Rattle.c_interpreter.specs.Progress.{Progress, answer_within, points_within, outcome_of, keeps}
-use Rattle.c_interpreter.specs.RunViews.{standing_of}
-use Rattle.c_interpreter.specs.Runs.{top_function, outcome_by, left_contents}
-use Rattle.c_interpreter.proofs.Runs.{gone-run, gone-answer, gone-kept, gone-counted, allowed-keeps, allowed-sum, told-ok, kept-ok}
-use Rattle.c_interpreter.proofs.UnderWay.{gone-under-way}
-use Rattle.c_interpreter.proofs.run.Run.go.Goals as goal
+use Rattle.c_execution.specs.Progress.{Progress, answer_within, points_within, outcome_of, left_behind}
+use Rattle.c_execution.specs.RunViews.{standing_of}
+use Rattle.c_execution.specs.Runs.{top_function, outcome_by, left_contents}
+use Rattle.c_execution.proofs.Runs.{gone-run, gone-answer, gone-kept, gone-counted, allowed-keeps, allowed-sum, told-ok, kept-ok}
+use Rattle.c_execution.proofs.UnderWay.{gone-under-way}
+use Rattle.c_execution.proofs.run.Run.go.Goals as goal
 
 -- src/run.rt:144:9
 pub invariant_of-self : goal.invariant_of-self
@@ -39,7 +39,7 @@ pub returns-clause-left : goal.returns-clause-left
 returns-clause-left c =
     let r = standing_of (record c.self.inside { machine = c.run.new.self }) in
     kept-ok c.outcome.result _
-    (subst (λ (p : Progress). keeps (answer_within p.begun (p.passed + c.args.points)) (left_contents r)) c.self.view_is
+    (subst (λ (p : Progress). left_contents r c.self.inside.kept ≡ left_behind (answer_within p.begun (p.passed + c.args.points)) p.begun.kept) c.self.view_is
     (gone-kept r (c.self.inside.machine.meter.passed + c.args.points) c.run.new.self.meter.left c.self.invariant.file c.in_ok-run.ensures.done
     (allowed-sum c.self.inside.machine.meter c.allow.new.self c.run.new.self.meter c.args.points c.allow.ensures c.run.ensures.total) c.self.inside.kept c.self.inside.inputs.scalars c.self.inside.inputs.arrays
     (gone-run (standing_of c.self.inside) (configuration_of c.run.new.self)

@@ -23,9 +23,9 @@ use Rattle.c_machine.specs.Moves.{top_begun}
 use Rattle.c_machine.specs.Sound.{Sound}
 use Rattle.c_machine.specs.Shape.{Shaped, control_fits}
 use Rattle.c_machine.specs.Following.{top_ran, behind, follows, keeps_following, is_done}
-use Rattle.c_interpreter.specs.Runs.{Standing, top_function, ran, IsRunOf, left_contents, outcome_by, is_begun}
+use Rattle.c_execution.specs.Runs.{Standing, top_function, ran, IsRunOf, at_end, left_or, left_contents, outcome_by, is_begun}
 use Rattle.c_meaning.specs.PassedPoints.{points_of, points_passed}
-use Rattle.c_interpreter.specs.Progress.{outcome_of, keeps, RunsFor}
+use Rattle.c_execution.specs.Progress.{outcome_of, left_behind, RunsFor}
 use Rattle.c_machine.proofs.Following.{follows-begun}
 
 -- ---- the top function
@@ -119,18 +119,20 @@ told items (Some fn) file kept scalars arrays m f.stuck trace n left same h coun
 -- and the contents of file scope that it leaves are those of the answer
 left-kept : (items : List ItemTree) (top : Option FunctionTree) (file : List ObjectTree) (kept : FileScope) (scalars : List ℕ) (arrays : List (List ℕ)) (m : Configuration) (c : Control) (trace : List Point) (n left : ℕ)
     → file ≡ file_objects items → ran items top kept scalars arrays n ≡ behind trace (rest_of left (record m { control = c })) → is_done c left
-    → keeps (run_of items top kept scalars arrays n) (contents_of file m.objects)
-left-kept items None file kept scalars arrays m c trace n left same h done = tt
+    → left_or (at_end c (contents_of file m.objects)) kept ≡ left_behind (run_of items top kept scalars arrays n) kept
+left-kept items None file kept scalars arrays m (f.next step) trace n left same h done = absurd done
+left-kept items None file kept scalars arrays m (f.before kind at step) trace n left same h done = refl
+left-kept items None file kept scalars arrays m (f.ended number) trace n left same h done = absurd (let e = ap (λ (r : Ran (Option ℤ)). r.outcome) h in cc)
+left-kept items None file kept scalars arrays m (f.undefined rule at) trace n left same h done = refl
+left-kept items None file kept scalars arrays m f.stuck trace n left same h done = refl
 left-kept items (Some fn) file kept scalars arrays m (f.next step) trace n left same h done = absurd done
 left-kept items (Some fn) file kept scalars arrays m (f.before kind at step) trace n left same h done =
     let h0 = subst (λ x. ran items (Some fn) kept scalars arrays n ≡ behind trace (rest_of x (record m { control = f.before kind at step }))) done h in
-    subst (λ (r : Ran (Option ℤ)). keeps (answer (file_objects items) fn r) (contents_of file m.objects)) (sym h0) tt
+    sym (ap (λ (r : Ran (Option ℤ)). left_behind (answer (file_objects items) fn r) kept) h0)
 left-kept items (Some fn) file kept scalars arrays m (f.ended number) trace n left same h done =
-    subst (λ (r : Ran (Option ℤ)). keeps (answer (file_objects items) fn r) (contents_of file m.objects)) (sym h) (ap (λ fl. contents_of fl m.objects) same)
-left-kept items (Some fn) file kept scalars arrays m (f.undefined rule at) trace n left same h done =
-    subst (λ (r : Ran (Option ℤ)). keeps (answer (file_objects items) fn r) (contents_of file m.objects)) (sym h) tt
-left-kept items (Some fn) file kept scalars arrays m f.stuck trace n left same h done =
-    subst (λ (r : Ran (Option ℤ)). keeps (answer (file_objects items) fn r) (contents_of file m.objects)) (sym h) tt
+    ap (λ fl. contents_of fl m.objects) same ∙ sym (ap (λ (r : Ran (Option ℤ)). left_behind (answer (file_objects items) fn r) kept) h)
+left-kept items (Some fn) file kept scalars arrays m (f.undefined rule at) trace n left same h done = sym (ap (λ (r : Ran (Option ℤ)). left_behind (answer (file_objects items) fn r) kept) h)
+left-kept items (Some fn) file kept scalars arrays m f.stuck trace n left same h done = sym (ap (λ (r : Ran (Option ℤ)). left_behind (answer (file_objects items) fn r) kept) h)
 
 -- and it has counted the points that its run passes
 points-ran : (items : List ItemTree) (top : Option FunctionTree) (kept : FileScope) (scalars : List ℕ) (arrays : List (List ℕ)) (n : ℕ) → points_of items top kept scalars arrays n ≡ (ran items top kept scalars arrays n).trace
@@ -163,9 +165,9 @@ gone-answer r n left file done sum kept scalars arrays h =
     ∙ ap (λ k. outcome_of (c_run r.program r.top kept scalars arrays k)) sum
 
 pub gone-kept : (r : Standing) (n left : ℕ) → r.file ≡ file_objects r.program.items → is_done r.machine.control left → r.machine.meter.passed + left ≡ n
-    → (kept : FileScope) (scalars : List ℕ) (arrays : List (List ℕ)) → IsRunOf r kept scalars arrays → keeps (c_run r.program r.top kept scalars arrays n) (left_contents r)
+    → (kept : FileScope) (scalars : List ℕ) (arrays : List (List ℕ)) → IsRunOf r kept scalars arrays → left_contents r kept ≡ left_behind (c_run r.program r.top kept scalars arrays n) kept
 gone-kept r n left file done sum kept scalars arrays h =
-    subst (λ k. keeps (c_run r.program r.top kept scalars arrays k) (left_contents r)) sum
+    subst (λ k. left_contents r kept ≡ left_behind (c_run r.program r.top kept scalars arrays k) kept) sum
     (left-kept r.program.items (top_function r.program r.top) r.file kept scalars arrays r.machine r.machine.control h.0 (r.machine.meter.passed + left) left file (h.1 left) done)
 
 pub gone-counted : (r : Standing) (n left : ℕ) → is_done r.machine.control left → r.machine.meter.passed + left ≡ n

@@ -4,11 +4,11 @@ use Rattle.c_tree.specs.View.{program_of}
 use Rattle.c_checked.specs.Limits.{file_objects}
 use Rattle.c_meaning.specs.Declarations.{objects_of}
 use Rattle.c_interpreter.specs.Machines.{configuration_of}
-use Rattle.c_interpreter.specs.Progress.{Progress}
-use Rattle.c_interpreter.specs.Runs.{Standing, IsRunOf, left_contents}
+use Rattle.c_execution.specs.Progress.{Progress}
+use Rattle.c_execution.specs.Runs.{Standing, IsRunOf, left_contents}
 use Rattle.c_machine.specs.Sound.{Sound}
 use Rattle.c_machine.specs.Shape.{Shaped}
-use Rattle.c_interpreter.specs.declared.run.Run.TheInside.{Inside}
+use Rattle.c_execution.specs.declared.run.Run.TheInside.{Inside}
 
 abbrev pub standing_of : Inside → Standing
 standing_of r = record {
@@ -23,7 +23,7 @@ progress_of r = record {
   begun = record { program = r.checked.now.program; top = r.checked.now.top; kept = r.kept; scalars = r.inputs.scalars; arrays = r.inputs.arrays };
   passed = r.machine.meter.passed;
   counts = r.machine.meter.counts;
-  left = left_contents (standing_of r);
+  left = left_contents (standing_of r) r.kept;
 }
 
 -- The machine stands somewhere in the run.

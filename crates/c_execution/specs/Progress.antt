@@ -18,7 +18,7 @@ pub record Begun : Type 0 where
   pub scalars : List ℕ
   pub arrays : List (List ℕ)
 
--- how many points it has passed since, and how often each, in the order in which they were first passed; and what the objects of file scope hold now
+-- how many points it has passed since, and how often each, in the order in which they were first passed; and the contents of file scope with which a next run begins
 pub record Progress : Type 0 where
   pub begun : Begun
   pub passed : ℕ
@@ -39,10 +39,11 @@ outcome_of (ended result arrays kept trace) = o.Ended (record { ret = result; ar
 outcome_of (undefined rule at) = o.Undefined rule at
 outcome_of running = o.Running
 
--- The file-scope contents of a run that ended are these.
-abbrev pub keeps : Answer → FileScope → Type 0
-keeps (ended result arrays kept trace) contents = contents ≡ kept
-keeps _ contents = Unit {0}
+-- A run that ended leaves its file-scope contents; any other one leaves those that it began with.
+abbrev pub left_behind : Answer → FileScope → FileScope
+left_behind (ended result arrays kept trace) begun = kept
+left_behind (undefined rule at) begun = begun
+left_behind running begun = begun
 
 -- A run that goes on has passed exactly so many points.
 abbrev pub RunsFor : Outcome → ℕ → ℕ → Type 0

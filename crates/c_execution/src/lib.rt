@@ -1,0 +1,5 @@
+//! Runs of a program's top function.
+#![tactic(auto)]
+
+pub mod outcome;
+pub mod run;
