@@ -11,7 +11,7 @@ use Rattle.block_meaning.specs.TreeRuns.{taken, cased, holds, first_case, way_of
 use Rattle.numbering.specs.Constants.{computed}
 use Rattle.numbering.specs.Numbering as n
 use Rattle.numbering.specs.Numbering.{Value, Scope, Kept, Numbered, renamed, renamed_op, renamed_out, renamed_exit, ops_of, earlier, makes_out, with_earlier, numbered_op, numbered_ops, numbered_block, nothing}
-use Rattle.numbering.proofs.Growing.{with_out_stays}
+use Rattle.numbering.proofs.Growing.{with_out_stays, counts}
 use Rattle.number_runs.specs.Ordered.{IsEarly, AreEarly, OutsAreEarly, ExitIsEarly, BlockIsOrdered}
 use Rattle.number_runs.proofs.Lists.{map_more}
 use Rattle.number_runs.proofs.Steps.{Known}
@@ -31,30 +31,15 @@ module _ (s : Numbered) (op : OpTree) (is_out : Bool) where
   word_grows apart (Some w) = sym (append-nil (ops_of s.ops))
   word_grows apart None = earlier_grows (earlier (apart && is_out) op s.ops)
 
-  earlier_counts : (d : Option ℕ) → length (with_earlier s op is_out d).values ≡ length s.values + 1
-  earlier_counts (Some j) = length-append s.values _
-  earlier_counts None = length-append s.values _
-
-  word_counts : (apart : Bool) (c : Option ℕ) → length (n.with_word apart s op is_out c).values ≡ length s.values + 1
-  word_counts apart (Some w) = length-append s.values _
-  word_counts apart None = earlier_counts (earlier (apart && is_out) op s.ops)
-
 module _ (scope : Scope) (outs_ : List Out) where
   op_grows : (s : Numbered) (op : OpTree) → ops_of (numbered_op scope outs_ s op).ops ≡ ops_of s.ops ++ adds scope outs_ s op
   op_grows s op = word_grows s (renamed_op s.values op) (makes_out outs_ (length s.values)) scope.apart (computed (renamed_op s.values op) (n.first_bits scope.widths s.values op.bits op.args))
-
-  op_counts : (s : Numbered) (op : OpTree) → length (numbered_op scope outs_ s op).values ≡ length s.values + 1
-  op_counts s op = word_counts s (renamed_op s.values op) (makes_out outs_ (length s.values)) scope.apart (computed (renamed_op s.values op) (n.first_bits scope.widths s.values op.bits op.args))
 
   grows : (s : Numbered) (ops : List OpTree) → ops_of (numbered_ops scope outs_ s ops).ops ≡ ops_of s.ops ++ added scope outs_ s ops
   grows s [] = sym (append-nil (ops_of s.ops))
   grows s (op ∷ ops) =
       grows (numbered_op scope outs_ s op) ops ∙ ap (λ l. l ++ added scope outs_ (numbered_op scope outs_ s op) ops) (op_grows s op)
       ∙ append_assoc (ops_of s.ops) (adds scope outs_ s op) (added scope outs_ (numbered_op scope outs_ s op) ops)
-
-  counts : (s : Numbered) (ops : List OpTree) → length (numbered_ops scope outs_ s ops).values ≡ length s.values + length ops
-  counts s [] = omega arith
-  counts s (op ∷ ops) = let h = counts (numbered_op scope outs_ s op) ops in let e = op_counts s op in omega (arith, h, e)
 
 -- ---- what a block leaves
 

@@ -1,11 +1,12 @@
 -- What numbering has so far, as it grows.
-use Rattle.std.proofs.Common.{◌≡◌, ◌∙◌, ℕ, zero, suc, ◌+◌, Bool, true, false, ◌&&◌, ◌||◌, not, refl, ap, sym, arith, List, [], ◌∷◌, ◌++◌, map, length, Option, Some, None}
+use Rattle.std.proofs.Common.{◌≡◌, ◌∙◌, ℕ, zero, suc, ◌+◌, Bool, true, false, ◌&&◌, ◌||◌, not, refl, ap, sym, arith, List, [], ◌∷◌, ◌++◌, map, length, length-append, Option, Some, None}
 use Rattle.std.specs.Prelude.{is_some, if◌then◌else◌}
 use Rattle.std.specs.Option.{option_map}
 use Rattle.ir_core.specs.declared.body.Out.{Out}
 use Rattle.block_meaning.specs.Bodies.{OpTree}
+use Rattle.numbering.specs.Constants.{computed}
 use Rattle.numbering.specs.Equal.{is_equal}
-use Rattle.numbering.specs.Numbering.{Scope, Kept, Numbered, First, first_equal, with_out, ops_of, numbered_op, numbered_ops}
+use Rattle.numbering.specs.Numbering.{Scope, Kept, Numbered, First, first_equal, with_out, ops_of, renamed_op, first_bits, earlier, makes_out, with_earlier, with_word, numbered_op, numbered_ops}
 
 pub with_out_stays : (is_out : Bool) (kept : List Kept) (i : ℕ) → ops_of (with_out is_out kept i) ≡ ops_of kept
 with_out_stays is_out [] i = refl
@@ -78,3 +79,22 @@ flags_not_set (k ∷ ks) (suc j) = ap (λ l. k.makes_out ∷ l) (flags_not_set k
 pub numbered_more : (scope : Scope) (outs : List Out) (s : Numbered) (ops : List OpTree) (op : OpTree) → numbered_ops scope outs s (ops ++ op ∷ []) ≡ numbered_op scope outs (numbered_ops scope outs s ops) op
 numbered_more scope outs s [] op = refl
 numbered_more scope outs s (o ∷ ops) op = numbered_more scope outs (numbered_op scope outs s o) ops op
+
+-- ---- a value for each operation
+
+module _ (s : Numbered) (op : OpTree) (is_out : Bool) where
+  earlier_counts : (d : Option ℕ) → length (with_earlier s op is_out d).values ≡ length s.values + 1
+  earlier_counts (Some j) = length-append s.values _
+  earlier_counts None = length-append s.values _
+
+  word_counts : (apart : Bool) (c : Option ℕ) → length (with_word apart s op is_out c).values ≡ length s.values + 1
+  word_counts apart (Some w) = length-append s.values _
+  word_counts apart None = earlier_counts (earlier (apart && is_out) op s.ops)
+
+module _ (scope : Scope) (outs : List Out) where
+  op_counts : (s : Numbered) (op : OpTree) → length (numbered_op scope outs s op).values ≡ length s.values + 1
+  op_counts s op = word_counts s (renamed_op s.values op) (makes_out outs (length s.values)) scope.apart (computed (renamed_op s.values op) (first_bits scope.widths s.values op.bits op.args))
+
+  pub counts : (s : Numbered) (ops : List OpTree) → length (numbered_ops scope outs s ops).values ≡ length s.values + length ops
+  counts s [] = omega arith
+  counts s (op ∷ ops) = let h = counts (numbered_op scope outs s op) ops in let e = op_counts s op in omega (arith, h, e)

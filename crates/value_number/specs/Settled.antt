@@ -1,5 +1,5 @@
 -- Blocks in which nothing is left to be computed.
-use Rattle.std.specs.Prelude.{ℕ, Bool, true, false, not, ◌&&◌, List, [], ◌∷◌, Option, Some, None, is_some}
+use Rattle.std.specs.Prelude.{Bool, true, not, ◌&&◌, List, [], ◌∷◌, Option, Some, None, is_some}
 use Rattle.std.specs.Option.{option_map}
 use Rattle.ir_core.specs.declared.body.Op.{Op}
 use Rattle.ir_core.specs.declared.stamp.Untimed.{Untimed}
@@ -9,11 +9,12 @@ use Rattle.ir_core.specs.declared.tree.Part.{Part}
 use Rattle.ir_core.specs.declared.tree.Shape.{Shape}
 use Rattle.ir_core.specs.declared.tree.Shape.TheOpen.{Sequence-F, Part-F, Shape-F}
 use Rattle.ir_core.specs.declared.tree.Shape.TheFolds.{fold-Sequence, fold-Part, fold-Shape}
-use Rattle.value_number.specs.Constants.{key_of, computed}
+use Rattle.block_meaning.specs.Bodies.{op_of}
+use Rattle.numbering.specs.Constants.{computed}
 
 -- the operation has an operand that is no constant, or no value in C, or is none that is computed
 abbrev pub is_settled : Op Untimed → Bool
-is_settled op = not (is_some (computed (key_of op.kind op.signed op.bits op.args.items) 0))
+is_settled op = not (is_some (computed (op_of op) 0))
 
 abbrev pub all_settled : List (Op Untimed) → Bool
 all_settled [] = true

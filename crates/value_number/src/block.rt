@@ -1,8 +1,12 @@
 //! One basic block.
-ghost use Rattle.std.specs.Prelude.{◌≡◌, IfOk, true};
+ghost use Rattle.std.specs.Prelude.{◌≡◌, ℕ, ◌&&◌, ◌||◌, ◌<◌, IfOk, true, false, map, length, slice_index_or};
+ghost use Rattle.block_meaning.specs.Bodies.{op_of};
+ghost use Rattle.block_meaning.specs.Trees.{block_of, exit_of};
+ghost use Rattle.numbering.specs.Numbering as n;
 ghost use Rattle.value_number.specs.Settled.{all_settled, is_block_settled};
+ghost use Rattle.value_number.specs.Views.{values_of, Shows, Marks, scope_of};
 
-use crate::key::{Key, is_common};
+use crate::key::{Key, computed, is_common};
 use hls_base::number::OpId;
 use hls_base::refusal::impossible;
 use indexmap::IndexMap;
@@ -29,7 +33,9 @@ struct Numbering {
     firsts: IndexMap<Key, usize>,
 }
 
-fn constant(word: u64) -> Operand {
+fn constant(word: u64) -> Operand
+    ensures { result ≡ n.constant word }
+{
     Operand {
         value: Source::Constant(word),
         distance: 0,
@@ -37,11 +43,17 @@ fn constant(word: u64) -> Operand {
 }
 
 impl Numbering {
-    ghost use Rattle.std.specs.Prelude.{◌≡◌, [], OnOk, true};
+    ghost use Rattle.std.specs.Prelude.{◌≡◌, Bool, [], ◌++◌, ◌∷◌, map, length, OnOk, IfOk, true, ◌&&◌};
+    ghost use Rattle.std.specs.Option.{option_map};
+    ghost use Rattle.block_meaning.specs.Bodies.{op_of};
+    ghost use Rattle.numbering.specs.Constants as constants;
+    ghost use Rattle.numbering.specs.Numbering as n;
     ghost use Rattle.value_number.specs.Settled.{is_settled, all_settled};
+    ghost use Rattle.value_number.specs.Views.{values_of, Shows, Notes, HasFirsts, kept_of, scope_of};
 
     fn new(alloc: Global) -> Numbering
-        ensures { result.ops.items ≡ [] }
+        ensures settled { result.ops.items ≡ [] }
+        ensures shows { Shows result n.nothing }
     {
         Numbering {
             ops: Vec::new(alloc),
@@ -52,7 +64,9 @@ impl Numbering {
     }
 
     /// What stands for an operand of the block before.
-    fn operand(&self, operand: Operand) -> Operand {
+    fn operand(&self, operand: Operand) -> Operand
+        ensures { result ≡ n.renamed (values_of self.now) operand }
+    {
         match operand.value {
             Source::Result(op) => {
                 let index = op.0 as usize;
@@ -66,26 +80,30 @@ impl Numbering {
         }
     }
 
-    fn optional(&self, operand: Option<Operand>) -> Option<Operand> {
+    fn optional(&self, operand: Option<Operand>) -> Option<Operand>
+        ensures { result ≡ option_map (n.renamed (values_of self.now)) operand }
+    {
         match operand {
             Some(operand) => Some(self.operand(operand)),
             None => None,
         }
     }
 
-    /// The width of the first argument of an operation of the block before.
-    fn first_bits(&self, variables: &[u8], args: &[Operand]) -> u8 {
+    /// The width of the first operand of an operation of the block before; a constant has that of the operation.
+    fn first_bits(&self, variables: &[u8], bits: u8, args: &[Operand]) -> u8
+        ensures { result ≡ n.first_bits variables.now (values_of self.now) bits args.now }
+    {
         if args.is_empty() {
-            return 0;
+            return bits;
         }
         match args[0].value {
-            Source::Constant(_) => 64,
+            Source::Constant(_) => bits,
             Source::Variable(variable) => {
                 let index = variable.0 as usize;
                 if index < variables.len() {
                     variables[index]
                 } else {
-                    64
+                    bits
                 }
             }
             Source::Result(op) => {
@@ -93,7 +111,7 @@ impl Numbering {
                 if index < self.values.len() {
                     self.values[index].bits
                 } else {
-                    64
+                    bits
                 }
             }
         }
@@ -103,7 +121,9 @@ impl Numbering {
         &self,
         alloc: Global,
         args: &[Operand],
-    ) -> Result<SmallVec<Operand, 4, Global>, AllocError> {
+    ) -> Result<SmallVec<Operand, 4, Global>, AllocError>
+        ensures { IfOk result (λ mapped. mapped.items ≡ map (n.renamed (values_of self.now)) args.now) }
+    {
         let mut mapped = SmallVec::new(alloc);
         for arg in args {
             mapped.push(self.operand(*arg))?;
@@ -111,11 +131,25 @@ impl Numbering {
         Ok(mapped)
     }
 
-    /// The operation that this one becomes, where an equal one stands before it.
-    fn equal(&self, key: &Key, is_out: bool, apart: bool) -> Option<usize> {
-        match self.firsts.get(key) {
+    /// The operation on what stands for its operands.
+    fn renamed(&self, alloc: Global, op: Op<Untimed>) -> Result<Op<Untimed>, AllocError>
+        ensures { IfOk result (λ renamed. op_of renamed ≡ n.renamed_op (values_of self.now) (op_of op)) }
+    {
+        let args = self.mapped(alloc, op.args.as_slice())?;
+        let guard = self.optional(op.guard);
+        Ok(Op { args, guard, ..op })
+    }
+
+    /// The earlier operation that this one becomes, where an equal one stands before it.
+    fn earlier(&self, op: &Op<Untimed>, apart: bool) -> Option<usize>
+        ensures { (s : n.Numbered) → Shows self.now s → result ≡ n.earlier apart (op_of op.now) s.ops }
+    {
+        if op.guard.is_some() || !is_common(op.kind) {
+            return None;
+        }
+        match self.firsts.get(&Key::new(op)) {
             Some(first) if *first < self.makes_out.len() => {
-                if apart && is_out && self.makes_out[*first] {
+                if apart && self.makes_out[*first] {
                     None
                 } else {
                     Some(*first)
@@ -125,8 +159,21 @@ impl Numbering {
         }
     }
 
-    fn note(&mut self, key: Key) -> Result<(), AllocError>
-        ensures { self.new.ops ≡ self.old.ops }
+    /// The operation of this number makes an out too, if it is so.
+    fn mark(&mut self, first: usize, is_out: bool)
+        ensures ops { self.new.ops ≡ self.old.ops }
+        ensures shows { (s : n.Numbered) → Shows self.old s → Shows self.new (record s { ops = n.with_out is_out s.ops first }) }
+    {
+        if is_out && first < self.makes_out.len() {
+            self.makes_out[first] = true;
+        }
+    }
+
+    fn note_key(&mut self, key: Key) -> Result<(), AllocError>
+        ensures ops { self.new.ops ≡ self.old.ops }
+        ensures values { self.new.values ≡ self.old.values }
+        ensures makes_out { self.new.makes_out ≡ self.old.makes_out }
+        ensures noted { OnOk result (Notes self.old.firsts self.new.firsts key (length self.old.ops.items)) }
     {
         if self.firsts.get(&key).is_none() {
             self.firsts.insert(key, self.ops.len())?;
@@ -134,22 +181,60 @@ impl Numbering {
         Ok(())
     }
 
+    /// Notes an operation that is to stay, if it is one to become one with and no equal one stands before it.
+    fn note(&mut self, op: &Op<Untimed>) -> Result<(), AllocError>
+        ensures ops { self.new.ops ≡ self.old.ops }
+        ensures values { self.new.values ≡ self.old.values }
+        ensures makes_out { self.new.makes_out ≡ self.old.makes_out }
+        ensures firsts { (s : n.Numbered) (is_out : Bool) → Shows self.old s → OnOk result (HasFirsts self.new.firsts (s.ops ++ kept_of op.now is_out ∷ [])) }
+    {
+        if op.guard.is_some() {
+            return Ok(());
+        }
+        if !is_common(op.kind) {
+            return Ok(());
+        }
+        self.note_key(Key::new(op))
+    }
+
     fn stand(&mut self, operand: Operand, bits: u8) -> Result<(), AllocError>
-        ensures { self.new.ops ≡ self.old.ops }
+        ensures ops { self.new.ops ≡ self.old.ops }
+        ensures shows { (s : n.Numbered) → Shows self.old s → OnOk result (Shows self.new (record s { values = s.values ++ record { operand = operand; bits = bits } ∷ [] })) }
     {
         self.values.push(Value { operand, bits })?;
         Ok(())
     }
 
     #[tactic(auto, using(crate::proofs::Adding::adding))]
-    fn add(&mut self, op: Op<Untimed>, is_out: bool) -> Result<Operand, AllocError>
+    fn add(&mut self, op: Op<Untimed>, is_out: bool) -> Result<(), AllocError>
         requires { is_settled op ≡ true }
-        ensures { all_settled self.old.ops.items ≡ true → OnOk result (all_settled self.new.ops.items ≡ true) }
+        ensures settled { all_settled self.old.ops.items ≡ true → OnOk result (all_settled self.new.ops.items ≡ true) }
+        ensures shows { (s : n.Numbered) → Shows self.old s → OnOk result (Shows self.new (record s { ops = s.ops ++ kept_of op is_out ∷ [] })) }
     {
-        let operand = result_operand(self.ops.len())?;
+        self.note(&op)?;
         self.ops.push(op)?;
         self.makes_out.push(is_out)?;
-        Ok(operand)
+        Ok(())
+    }
+
+    /// Goes on by an operation on what stands for its operands that is not computed.
+    fn go_on(&mut self, op: Op<Untimed>, is_out: bool, apart: bool) -> Result<(), AllocError>
+        requires { is_settled op ≡ true }
+        ensures settled { all_settled self.old.ops.items ≡ true → OnOk result (all_settled self.new.ops.items ≡ true) }
+        ensures shows { (s : n.Numbered) → Shows self.old s → OnOk result (Shows self.new (n.with_earlier s (op_of op) is_out (n.earlier (apart && is_out) (op_of op) s.ops))) }
+    {
+        let bits = result_bits(&op);
+        match self.earlier(&op, stays_apart(apart, is_out)) {
+            Some(first) => {
+                self.mark(first, is_out);
+                self.stand(result_operand(first)?, bits)
+            }
+            None => {
+                let operand = result_operand(self.ops.len())?;
+                self.add(op, is_out)?;
+                self.stand(operand, bits)
+            }
+        }
     }
 
     /// Goes on by one operation of the block before.
@@ -159,32 +244,28 @@ impl Numbering {
         op: Op<Untimed>,
         is_out: bool,
     ) -> Result<(), AllocError>
-        ensures { all_settled self.old.ops.items ≡ true → OnOk result (all_settled self.new.ops.items ≡ true) }
+        ensures settled { all_settled self.old.ops.items ≡ true → OnOk result (all_settled self.new.ops.items ≡ true) }
+        ensures shows { (s : n.Numbered) → Shows self.old s → OnOk result (Shows self.new (n.numbered_with (scope_of scope.entry) s (op_of op) is_out)) }
     {
-        let bits = result_bits(&op);
-        let from_bits = self.first_bits(scope.variables, op.args.as_slice());
-        let args = self.mapped(scope.alloc, op.args.as_slice())?;
-        let guard = self.optional(op.guard);
-        let op = Op { args, guard, ..op };
-        let key = Key::new(op.kind, op.signed, op.bits, op.args.as_slice());
-        if let Some(word) = key.computed(from_bits) {
-            return self.stand(constant(word), bits);
+        let from_bits = self.first_bits(scope.variables, op.bits, op.args.as_slice());
+        let op = self.renamed(scope.alloc, op)?;
+        match computed(&op, from_bits) {
+            Some(word) => self.stand(constant(word), result_bits(&op)),
+            None => self.go_on(op, is_out, scope.apart),
         }
-        if guard.is_none() && is_common(op.kind) {
-            if let Some(first) = self.equal(&key, is_out, scope.apart) {
-                if is_out && first < self.makes_out.len() {
-                    self.makes_out[first] = true;
-                }
-                return self.stand(result_operand(first)?, bits);
-            }
-            self.note(key)?;
-        }
-        let operand = self.add(op, is_out)?;
-        self.stand(operand, bits)
     }
 }
 
-fn result_operand(index: usize) -> Result<Operand, AllocError> {
+/// Whether an operation stays apart from an equal one that makes an out.
+fn stays_apart(apart: bool, is_out: bool) -> bool
+    ensures { result ≡ (apart && is_out) }
+{
+    apart && is_out
+}
+
+fn result_operand(index: usize) -> Result<Operand, AllocError>
+    ensures { IfOk result (λ operand. operand ≡ n.result_of index) }
+{
     let id = u32::try_from(index).map_err(|_| impossible())?;
     Ok(Operand {
         value: Source::Result(OpId(id)),
@@ -200,45 +281,63 @@ pub struct Scope<'a> {
     pub apart: bool,
 }
 
-/// For each of so many operations whether it makes one of the outs.
-fn outs_made(alloc: Global, count: usize, outs: &[Out]) -> Result<Vec<bool>, AllocError> {
-    let mut made = Vec::new(alloc);
-    for _ in 0..count {
-        made.push(false)?;
-    }
-    mark_outs(&mut made, outs);
-    Ok(made)
+/// Whether the operation of this number is marked.
+fn is_marked(marks: &[bool], index: usize) -> bool
+    ensures { result ≡ slice_index_or marks.now index false }
+{
+    index < marks.len() && marks[index]
 }
 
-fn mark_outs(made: &mut [bool], outs: &[Out]) {
-    for out in outs {
-        if let Source::Result(op) = out.value.value {
-            let index = op.0 as usize;
-            if index < made.len() {
-                made[index] = true;
-            }
+fn mark_result(marks: &mut [bool], source: Source)
+    ensures count { length marks.new ≡ length marks.old }
+    ensures marks { (i : ℕ) → i < length marks.old → slice_index_or marks.new i false ≡ (slice_index_or marks.old i false || n.is_result i source) }
+{
+    if let Source::Result(op) = source {
+        let index = op.0 as usize;
+        if index < marks.len() {
+            marks[index] = true;
         }
     }
+}
+
+fn mark_outs(marks: &mut [bool], outs: &[Out])
+    ensures count { length marks.new ≡ length marks.old }
+    ensures marks { (i : ℕ) → i < length marks.old → slice_index_or marks.new i false ≡ (slice_index_or marks.old i false || n.makes_out outs.now i) }
+{
+    for out in outs {
+        mark_result(marks, out.value.value);
+    }
+}
+
+/// For each of so many operations whether it makes one of the outs.
+fn outs_made(alloc: Global, count: usize, outs: &[Out]) -> Result<Vec<bool>, AllocError>
+    ensures { IfOk result (λ marks. Marks marks.items count outs.now) }
+{
+    let mut marks = vec![in alloc; false; count]?;
+    mark_outs(&mut marks, outs);
+    Ok(marks)
 }
 
 fn number_ops(
     scope: Scope<'_>,
     ops: Vec<Op<Untimed>>,
-    made: &[bool],
+    outs: &[Out],
 ) -> Result<Numbering, AllocError>
-    ensures { IfOk result (λ numbering. all_settled numbering.ops.items ≡ true) }
+    ensures settled { IfOk result (λ numbering. all_settled numbering.ops.items ≡ true) }
+    ensures shows { IfOk result (λ numbering. Shows numbering (n.numbered_ops (scope_of scope.entry) outs.now n.nothing (map op_of ops.items))) }
 {
+    let marks = outs_made(scope.alloc, ops.len(), outs)?;
     let mut numbering = Numbering::new(scope.alloc);
-    let mut index = 0usize;
     for op in ops {
-        let is_out = index < made.len() && made[index];
+        let is_out = is_marked(&marks, numbering.values.len());
         numbering.number_op(scope, op, is_out)?;
-        index = index.saturating_add(1);
     }
     Ok(numbering)
 }
 
-fn number_outs(alloc: Global, numbering: &Numbering, outs: &[Out]) -> Result<Vec<Out>, AllocError> {
+fn number_outs(alloc: Global, numbering: &Numbering, outs: &[Out]) -> Result<Vec<Out>, AllocError>
+    ensures { IfOk result (λ done. done.items ≡ map (n.renamed_out (values_of numbering.now)) outs.now) }
+{
     let mut done = Vec::new(alloc);
     for out in outs {
         let value = numbering.operand(out.value);
@@ -254,7 +353,9 @@ fn number_cases(
     alloc: Global,
     numbering: &Numbering,
     cases: &[Operand],
-) -> Result<Vec<Operand>, AllocError> {
+) -> Result<Vec<Operand>, AllocError>
+    ensures { IfOk result (λ done. done.items ≡ map (n.renamed (values_of numbering.now)) cases.now) }
+{
     let mut done = Vec::new(alloc);
     for case in cases {
         done.push(numbering.operand(*case))?;
@@ -262,7 +363,9 @@ fn number_cases(
     Ok(done)
 }
 
-fn number_exit(alloc: Global, numbering: &Numbering, exit: Exit) -> Result<Exit, AllocError> {
+fn number_exit(alloc: Global, numbering: &Numbering, exit: Exit) -> Result<Exit, AllocError>
+    ensures { IfOk result (λ done. exit_of done ≡ n.renamed_exit (values_of numbering.now) (exit_of exit)) }
+{
     match exit {
         Exit::Branch(test) => Ok(Exit::Branch(numbering.operand(test))),
         Exit::Choose(cases) => Ok(Exit::Choose(number_cases(alloc, numbering, cases.as_slice())?)),
@@ -272,7 +375,7 @@ fn number_exit(alloc: Global, numbering: &Numbering, exit: Exit) -> Result<Exit,
 
 /// The block in which equal operations that are not guarded are one, and what is defined on constants is computed. Nothing else changes.
 pub fn number_block(scope: Scope<'_>, block: BasicBlock) -> Result<BasicBlock, AllocError>
-    ensures point { IfOk result (λ numbered. numbered.point ≡ block.point) }
+    ensures block { IfOk result (λ numbered. block_of numbered ≡ n.numbered_block (scope_of scope.entry) (block_of block)) }
     ensures settled { IfOk result (λ numbered. is_block_settled numbered ≡ true) }
 {
     let BasicBlock {
@@ -281,8 +384,7 @@ pub fn number_block(scope: Scope<'_>, block: BasicBlock) -> Result<BasicBlock, A
         outs,
         exit,
     } = block;
-    let made = outs_made(scope.alloc, ops.len(), outs.as_slice())?;
-    let numbering = number_ops(scope, ops, made.as_slice())?;
+    let numbering = number_ops(scope, ops, outs.as_slice())?;
     let outs = number_outs(scope.alloc, &numbering, outs.as_slice())?;
     let exit = number_exit(scope.alloc, &numbering, exit)?;
     Ok(BasicBlock {

@@ -1,16 +1,20 @@
 //! What makes operations equal, and what they are on constants.
 ghost use Rattle.std.specs.Prelude.{◌≡◌, slice_get};
-ghost use Rattle.value_number.specs.Constants.{word_in, is_computed};
+ghost use Rattle.block_meaning.specs.Bodies.{op_of};
+ghost use Rattle.numbering.specs.Constants.{word_in, is_computed};
+ghost use Rattle.numbering.specs.Constants as spec;
+ghost use Rattle.numbering.specs.Numbering as numbering;
 
-use ir_core::body::{OpKind, Operand, Source};
+use ir_core::body::{Op, OpKind, Operand, Source};
+use ir_core::stamp::Untimed;
 use ir_operation::value::{evaluate, is_defined};
 
 /// What an operation makes of which operands. Operations other than loads and stores have at most three.
 #[derive(Clone, Copy, Debug, PartialEq, Eq, Hash)]
 pub struct Key {
-    pub kind: OpKind,
-    pub signed: bool,
-    pub bits: u8,
+    kind: OpKind,
+    signed: bool,
+    bits: u8,
     first: Option<Operand>,
     second: Option<Operand>,
     third: Option<Operand>,
@@ -28,33 +32,20 @@ fn operand_at(args: &[Operand], index: usize) -> Option<Operand>
 
 impl Key {
     ghost use Rattle.std.specs.Prelude.{◌≡◌};
-    ghost use Rattle.value_number.specs.Constants.{key_of, computed};
+    ghost use Rattle.block_meaning.specs.Bodies.{op_of};
+    ghost use Rattle.value_number.specs.Views.{key_of};
 
-    pub fn new(kind: OpKind, signed: bool, bits: u8, args: &[Operand]) -> Key
-        ensures { result ≡ key_of kind signed bits args.now }
+    pub fn new(op: &Op<Untimed>) -> Key
+        ensures { result ≡ key_of (op_of op.now) }
     {
+        let args = op.args.as_slice();
         Key {
-            kind,
-            signed,
-            bits,
+            kind: op.kind,
+            signed: op.signed,
+            bits: op.bits,
             first: operand_at(args, 0),
             second: operand_at(args, 1),
             third: operand_at(args, 2),
-        }
-    }
-
-    /// What the operation is computed to where its operands are constants and C gives it a value.
-    pub fn computed(&self, from_bits: u8) -> Option<u64>
-        ensures { result ≡ computed self.now from_bits }
-    {
-        let x = constant(self.first)?;
-        let y = constant(self.second)?;
-        let z = constant(self.third)?;
-        let words = [x, y, z];
-        if is_computed(self.kind) && is_defined(self.kind, self.signed, self.bits, &words) {
-            Some(evaluate(self.kind, self.signed, self.bits, from_bits, &words))
-        } else {
-            None
         }
     }
 }
@@ -71,8 +62,26 @@ fn constant(operand: Option<Operand>) -> Option<u64>
     }
 }
 
+/// What the operation is computed to where its operands are constants and C gives it a value.
+pub fn computed(op: &Op<Untimed>, from_bits: u8) -> Option<u64>
+    ensures { result ≡ spec.computed (op_of op.now) from_bits }
+{
+    let args = op.args.as_slice();
+    let x = constant(operand_at(args, 0))?;
+    let y = constant(operand_at(args, 1))?;
+    let z = constant(operand_at(args, 2))?;
+    let words = [x, y, z];
+    if is_computed(op.kind) && is_defined(op.kind, op.signed, op.bits, &words) {
+        Some(evaluate(op.kind, op.signed, op.bits, from_bits, &words))
+    } else {
+        None
+    }
+}
+
 /// Whether equal operations of the kind give equal values whatever stands between them.
-pub fn is_common(kind: OpKind) -> bool {
+pub fn is_common(kind: OpKind) -> bool
+    ensures { result ≡ numbering.is_common kind }
+{
     !matches!(kind, OpKind::Load | OpKind::Store)
 }
 

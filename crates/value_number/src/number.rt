@@ -1,6 +1,9 @@
 //! All blocks of a program.
-ghost use Rattle.std.specs.Prelude.{◌≡◌, IfOk, true, map};
+ghost use Rattle.std.specs.Prelude.{◌≡◌, IfOk, true, false, map};
 ghost use Rattle.std.specs.Option.{option_map};
+ghost use Rattle.block_meaning.specs.Trees.{sequence_of, part_of, shape_of, part_row, side_of, arm_row};
+ghost use Rattle.numbering.specs.Numbering as n;
+ghost use Rattle.value_number.specs.Views.{scope_of};
 ghost use Rattle.value_number.specs.Settled.{is_sequence_settled, is_part_settled, is_shape_settled, all_true, where_there};
 
 use crate::block::{Scope, number_block};
@@ -11,6 +14,7 @@ use std::alloc::{AllocError, Global};
 pub fn number(alloc: Global, tree: BlockTree) -> Result<BlockTree, AllocError>
     ensures frame { IfOk result (λ numbered. numbered.frame ≡ tree.frame) }
     ensures returned { IfOk result (λ numbered. numbered.result ≡ tree.result) }
+    ensures numbered { IfOk result (λ numbered. sequence_of numbered.blocks ≡ n.numbered_sequence (record { widths = tree.frame.variables.items; apart = false }) (sequence_of tree.blocks)) }
     ensures settled { IfOk result (λ numbered. is_sequence_settled numbered.blocks ≡ true) }
 {
     let BlockTree {
@@ -34,7 +38,8 @@ pub fn number(alloc: Global, tree: BlockTree) -> Result<BlockTree, AllocError>
 #[tactic(auto, using(crate::proofs::Adding::adding))]
 #[cycle(sequence)]
 fn number_sequence(scope: Scope<'_>, sequence: Sequence) -> Result<Sequence, AllocError>
-    ensures { IfOk result (λ numbered. is_sequence_settled numbered ≡ true) }
+    ensures numbered { IfOk result (λ numbered. sequence_of numbered ≡ n.numbered_sequence (scope_of scope.entry) (sequence_of sequence)) }
+    ensures settled { IfOk result (λ numbered. is_sequence_settled numbered ≡ true) }
 {
     let Sequence { first, rest } = sequence;
     let first = number_block(scope, first)?;
@@ -45,7 +50,8 @@ fn number_sequence(scope: Scope<'_>, sequence: Sequence) -> Result<Sequence, All
 #[tactic(auto, using(crate::proofs::Adding::adding))]
 #[cycle(sequence)]
 fn number_parts(scope: Scope<'_>, parts: Vec<Part>) -> Result<Vec<Part>, AllocError>
-    ensures { IfOk result (λ numbered. all_true (map is_part_settled numbered.items) ≡ true) }
+    ensures numbered { IfOk result (λ numbered. part_row (map part_of numbered.items) ≡ n.numbered_parts (scope_of scope.entry) (part_row (map part_of parts.items))) }
+    ensures settled { IfOk result (λ numbered. all_true (map is_part_settled numbered.items) ≡ true) }
 {
     let mut done = Vec::new(scope.alloc);
     for part in parts {
@@ -60,7 +66,8 @@ fn number_parts(scope: Scope<'_>, parts: Vec<Part>) -> Result<Vec<Part>, AllocEr
 #[tactic(auto, using(crate::proofs::Adding::adding))]
 #[cycle(sequence)]
 fn number_shape(scope: Scope<'_>, shape: Shape) -> Result<Shape, AllocError>
-    ensures { IfOk result (λ numbered. is_shape_settled numbered ≡ true) }
+    ensures numbered { IfOk result (λ numbered. shape_of numbered ≡ n.numbered_shape (scope_of scope.entry) (shape_of shape)) }
+    ensures settled { IfOk result (λ numbered. is_shape_settled numbered ≡ true) }
 {
     match shape {
         Shape::Fork {
@@ -108,7 +115,8 @@ fn number_shape(scope: Scope<'_>, shape: Shape) -> Result<Shape, AllocError>
 
 #[cycle(sequence)]
 fn number_side(scope: Scope<'_>, side: Option<Sequence>) -> Result<Option<Sequence>, AllocError>
-    ensures { IfOk result (λ numbered. where_there (option_map is_sequence_settled numbered) ≡ true) }
+    ensures numbered { IfOk result (λ numbered. side_of (option_map sequence_of numbered) ≡ n.numbered_side (scope_of scope.entry) (side_of (option_map sequence_of side))) }
+    ensures settled { IfOk result (λ numbered. where_there (option_map is_sequence_settled numbered) ≡ true) }
 {
     match side {
         Some(sequence) => Ok(Some(number_sequence(scope, sequence)?)),
@@ -118,7 +126,8 @@ fn number_side(scope: Scope<'_>, side: Option<Sequence>) -> Result<Option<Sequen
 
 #[cycle(sequence)]
 fn number_boxed(scope: Scope<'_>, sequence: Box<Sequence>) -> Result<Box<Sequence>, AllocError>
-    ensures { IfOk result (λ numbered. is_sequence_settled numbered.value ≡ true) }
+    ensures numbered { IfOk result (λ numbered. sequence_of numbered.value ≡ n.numbered_sequence (scope_of scope.entry) (sequence_of sequence.value)) }
+    ensures settled { IfOk result (λ numbered. is_sequence_settled numbered.value ≡ true) }
 {
     let sequence = number_sequence(scope, Box::into_inner(sequence))?;
     Ok(Box::new(scope.alloc, sequence)?)
@@ -129,7 +138,8 @@ fn number_step(
     scope: Scope<'_>,
     step: Option<Box<Sequence>>,
 ) -> Result<Option<Box<Sequence>>, AllocError>
-    ensures { IfOk result (λ numbered. where_there (option_map (λ step. is_sequence_settled step.value) numbered) ≡ true) }
+    ensures numbered { IfOk result (λ numbered. side_of (option_map (λ part. sequence_of part.value) numbered) ≡ n.numbered_side (scope_of scope.entry) (side_of (option_map (λ part. sequence_of part.value) step))) }
+    ensures settled { IfOk result (λ numbered. where_there (option_map (λ step. is_sequence_settled step.value) numbered) ≡ true) }
 {
     match step {
         Some(sequence) => {
@@ -143,7 +153,8 @@ fn number_step(
 #[tactic(auto, using(crate::proofs::Adding::adding))]
 #[cycle(sequence)]
 fn number_arms(scope: Scope<'_>, arms: Vec<Sequence>) -> Result<Vec<Sequence>, AllocError>
-    ensures { IfOk result (λ numbered. all_true (map is_sequence_settled numbered.items) ≡ true) }
+    ensures numbered { IfOk result (λ numbered. arm_row (map sequence_of numbered.items) ≡ n.numbered_arms (scope_of scope.entry) (arm_row (map sequence_of arms.items))) }
+    ensures settled { IfOk result (λ numbered. all_true (map is_sequence_settled numbered.items) ≡ true) }
 {
     let mut done = Vec::new(scope.alloc);
     for arm in arms {

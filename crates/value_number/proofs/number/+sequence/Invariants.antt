@@ -1,9 +1,18 @@
 use Rattle.std.proofs.Common.{◌≡◌, true, map}
+use Rattle.block_meaning.specs.Trees.{sequence_of, part_of, part_row, arm_row}
+use Rattle.numbering.specs.Numbering as n
 use Rattle.value_number.specs.Settled.{all_true, is_part_settled, is_sequence_settled}
+use Rattle.value_number.specs.Views.{scope_of}
 use Rattle.value_number.proofs.number.+sequence.Given as goal
 
 abbrev pub invariant-number_parts-loop-part : goal.invariant-number_parts-loop-part
-invariant-number_parts-loop-part l = all_true (map is_part_settled l.done.items) ≡ true
+invariant-number_parts-loop-part l = record {
+  settled : all_true (map is_part_settled l.done.items) ≡ true;
+  numbered : part_row (map part_of l.done.items) ≡ n.numbered_parts (scope_of l.scope) (part_row (map part_of l.yielded));
+}
 
 abbrev pub invariant-number_arms-loop-arm : goal.invariant-number_arms-loop-arm
-invariant-number_arms-loop-arm l = all_true (map is_sequence_settled l.done.items) ≡ true
+invariant-number_arms-loop-arm l = record {
+  settled : all_true (map is_sequence_settled l.done.items) ≡ true;
+  numbered : arm_row (map sequence_of l.done.items) ≡ n.numbered_arms (scope_of l.scope) (arm_row (map sequence_of l.yielded));
+}
