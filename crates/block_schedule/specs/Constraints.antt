@@ -1,16 +1,9 @@
 -- The constraints of a block.
-use Rattle.std.specs.Prelude.{ℕ, ◌+◌, List, [], ◌∷◌, ◌++◌, pos, ◌==◌, if◌then◌else◌, Some, None}
-use Rattle.std.specs.List.{filter_map}
+use Rattle.std.specs.Prelude.{ℕ, ◌+◌, List, [], ◌∷◌, ◌++◌, pos}
 use Rattle.dep_graph.specs.declared.edge.Edge.{Edge}
 use Rattle.diff_solve.specs.declared.solve.Constraint.{Constraint}
 use Rattle.unit_binding.specs.declared.binding.UnitOrder.{UnitOrder}
-
-abbrev pub edge_constraint : Edge → Constraint
-edge_constraint e = record { from = e.from; to = e.to; weight = pos e.latency }
-
--- each edge within the block is a constraint
-abbrev pub edge_constraints : List Edge → List Constraint
-edge_constraints edges = filter_map (λ e. if e.distance == 0 then Some (edge_constraint e) else None) edges
+use Rattle.unit_binding.specs.Times.{edge_constraints}
 
 -- operation k is node k + 1
 abbrev pub serves_next : ℕ → ℕ → ℕ → Constraint

@@ -1,7 +1,8 @@
 //! The constraints of a block, each behind those that it builds on.
 ghost use Rattle.std.specs.Prelude.{◌≡◌, ◌+◌, ◌++◌, IfOk, OnOk, Ok};
 ghost use Rattle.std.specs.List.Sorted.{IsPermutation};
-ghost use Rattle.block_schedule.specs.Constraints.{edge_constraints, order_constraints, unit_constraints, block_constraints};
+ghost use Rattle.unit_binding.specs.Times.{edge_constraints};
+ghost use Rattle.block_schedule.specs.Constraints.{order_constraints, unit_constraints, block_constraints};
 
 use dep_graph::edge::Edge;
 use diff_solve::solve::Constraint;

@@ -15,6 +15,7 @@ use Rattle.clock_ir.specs.declared.timed.Timed.{Timed}
 use Rattle.dep_graph.specs.declared.edge.Edge.{Edge}
 use Rattle.dep_graph.specs.Dependences.{edges_of}
 use Rattle.body_times.specs.Copies.{IsTimedBody, IsEndCopy}
+use Rattle.block_meaning.specs.FlatRuns.{shapes_of}
 use Rattle.block_schedule.specs.Schedules.{IsLongEnough}
 use Rattle.modulo_loop.specs.Rules.{known_first, known_rules}
 use Rattle.modulo_loop.specs.Lowest.{CanLeave}
@@ -93,8 +94,8 @@ AreWellTimed memories [] (t ∷ ts) = ⊥
 AreWellTimed memories (n ∷ ns) [] = ⊥
 AreWellTimed memories (n ∷ ns) (t ∷ ts) = IsWellTimedNode memories n t × AreWellTimed memories ns ts
 
--- the program with these times
+-- the program with these times: variables have the same widths, and memories the same lengths
 pub record IsWellTimed (cfg : Cfg Untimed) (timed : Cfg Timed) : Type 0 where
-  pub frame : timed.frame ≡ cfg.frame
+  pub frame : shapes_of timed.frame ≡ shapes_of cfg.frame
   pub first : timed.first ≡ cfg.first
   pub nodes : AreWellTimed cfg.frame.memories.items cfg.nodes.items timed.nodes.items

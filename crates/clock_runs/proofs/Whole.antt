@@ -51,7 +51,7 @@ module _ (cfg : Cfg Untimed) (timed : Cfg Timed) (sound : IsSoundProgram cfg) (w
   p = record { shapes = shapes_of cfg.frame; nodes = map timed_node timed.nodes.items; first = cfg.first.0 }
 
   same_program : timed_program timed ≡ p
-  same_program = (λ i. record { shapes = shapes_of (well.frame i); nodes = map timed_node timed.nodes.items; first = (well.first i).0 })
+  same_program = (λ i. record { shapes = well.frame i; nodes = map timed_node timed.nodes.items; first = (well.first i).0 })
 
   kept_at : (i : ℕ) (it : Node Untimed) → slice_get cfg.nodes.items i ≡ Some it → KeptNode p p.shapes timed.nodes.items i it
   kept_at i it e =

@@ -1,6 +1,5 @@
 //! The times of a program's operations.
-ghost use Rattle.std.specs.Prelude.{◌≡◌, ◌++◌, ◌==◌, [], map, length, IfOk, OnOk, option_to_list};
-ghost use Rattle.std.specs.List.{filter};
+ghost use Rattle.std.specs.Prelude.{◌≡◌, ◌++◌, [], map, length, IfOk, OnOk, option_to_list};
 ghost use Rattle.std.specs.List.Sorted.{IsPermutation, IsSortedBy};
 ghost use Rattle.std.specs.Ordering.{is_lt};
 ghost use Rattle.cycle_report.specs.PlainReport.{loop_of};
@@ -19,25 +18,13 @@ use modulo_loop::pipeline::pipeline;
 use report_rows::points::compare;
 use std::alloc::{AllocError, Global};
 use unit_binding::bind::bind;
+use unit_binding::times::edges_within;
 
 /// Nodes with times, and what the report says of the overlapped loops.
 #[derive(Debug, Drop)]
 pub struct TimedNodes {
     pub nodes: Vec<Node<Timed>>,
     pub loops: Vec<LoopRow>,
-}
-
-/// The edges within one iteration.
-fn within_iteration(alloc: Global, edges: &[Edge]) -> Result<Vec<Edge>, AllocError>
-    ensures { IfOk result (λ v. v.items ≡ filter (λ edge. edge.distance == 0) edges.now) }
-{
-    let mut within = Vec::new(alloc);
-    for edge in edges {
-        if edge.distance == 0 {
-            within.push(*edge)?;
-        }
-    }
-    Ok(within)
 }
 
 fn timed_block(
@@ -49,7 +36,7 @@ fn timed_block(
     ensures { IfOk result (IsTimedBlock memories.now units block.now) }
 {
     let all = edges(alloc, &block.body)?;
-    let within = within_iteration(alloc, all.as_slice())?;
+    let within = edges_within(alloc, all.as_slice())?;
     let constraints = within.as_slice();
     let binding = bind(alloc, &block.body, memories, constraints, units)?;
     let timed = schedule(alloc, block, constraints, &binding)?;

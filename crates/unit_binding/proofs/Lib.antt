@@ -1,1 +1,3 @@
+pub mod Followed
 mod Orders
+pub mod Permuted

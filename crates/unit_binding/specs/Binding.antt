@@ -1,5 +1,5 @@
 -- Which unit serves which operation, and in which order.
-use Rattle.std.specs.Prelude.{◌≡◌, ℕ, zero, suc, ◌+◌, ◌<◌, ◌==◌, nat_lt, Bool, true, false, not, if◌then◌else◌, List, [], ◌∷◌, ◌++◌, map, length, replicate, slice_index, slice_set, Option, Some, None}
+use Rattle.std.specs.Prelude.{◌≡◌, ℕ, zero, suc, ◌+◌, ◌==◌, nat_lt, Bool, false, if◌then◌else◌, List, [], ◌∷◌, ◌++◌, map, length, replicate, slice_index, slice_set, Option, Some, None}
 use Rattle.std.specs.declared.cmp.Ordering.{Ordering}
 use Rattle.std.specs.List.Sorted.{IsPermutation, IsSorted}
 use Rattle.hls_base.specs.declared.settings.Units.{Units}
@@ -15,8 +15,7 @@ use Rattle.unit_binding.specs.declared.binding.Binding.{Binding}
 use Rattle.unit_binding.specs.declared.binding.UnitOrder.{UnitOrder}
 use Rattle.unit_binding.specs.declared.bind.Request.{Request}
 use Rattle.unit_binding.specs.declared.bind.Turn.{Turn}
-use Rattle.unit_binding.specs.declared.times.Link.{Link}
-use Rattle.unit_binding.specs.Times.{links_of, relaxed, AreSorted}
+use Rattle.unit_binding.specs.Times.{AreLeastTimes}
 
 abbrev pub request_of : Option UnitClass → ℕ → ℕ → ℕ → List Request
 request_of None time op held = []
@@ -107,12 +106,11 @@ dealt units d turn (request ∷ requests) =
 abbrev pub none_dealt : ℕ → Dealt
 none_dealt ops = record { unit_of = replicate ops 0; orders = [] }
 
--- The operations that share units, sorted by an order, are dealt out in this order. It is that of their fields: class, time under the edges within an iteration, and number. The edges are gone along in the order of the nodes to which they lead.
+-- The operations that share units, sorted by an order, are dealt out in this order. It is that of their fields: class, least time under the edges within an iteration, and number.
 pub record IsBoundBy (order : Request → Request → Ordering) (body : Body Untimed) (memories : List Memory) (edges : List Edge) (units : Units) (binding : Binding) : Type 0 where
-  pub links : List Link
-  pub links_moved : IsPermutation (links_of edges) links
-  pub links_sorted : AreSorted links
+  pub times : List ℕ
+  pub least : AreLeastTimes (length body.ops.items + 1) edges times
   pub requests : List Request
-  pub requests_moved : IsPermutation (requests_from (relaxed (replicate (length body.ops.items + 1) 0) links) memories 0 body.ops.items) requests
+  pub requests_moved : IsPermutation (requests_from times memories 0 body.ops.items) requests
   pub requests_sorted : IsSorted order requests
   pub is_dealt : binding_view binding ≡ dealt units (none_dealt (length body.ops.items)) first_turn requests

@@ -1,27 +1,27 @@
 -- When operations could start if there were units enough.
-use Rattle.std.specs.Prelude.{ℕ, ◌+◌, ◌==◌, nat_lt, if◌then◌else◌, List, [], ◌∷◌, ◌++◌, slice_index, slice_set}
+use Rattle.std.specs.Prelude.{ℕ, ◌<◌, ◌==◌, pos, if◌then◌else◌, List, Some, None}
+use Rattle.std.specs.List.{filter_map}
 use Rattle.std.specs.List.Sorted.{IsNonDecreasingBy}
 use Rattle.dep_graph.specs.declared.edge.Edge.{Edge}
-use Rattle.unit_binding.specs.declared.times.Link.{Link}
+use Rattle.diff_solve.specs.declared.solve.Constraint.{Constraint}
+use Rattle.diff_solve.specs.Times.{Solves, IsBelowAll}
 
-abbrev pub link_of : Edge → List Link
-link_of edge = if edge.distance == 0 then record { to = edge.to; from = edge.from; latency = edge.latency } ∷ [] else []
+abbrev pub edge_constraint : Edge → Constraint
+edge_constraint e = record { from = e.from; to = e.to; weight = pos e.latency }
 
--- the edges within an iteration
-abbrev pub links_of : List Edge → List Link
-links_of [] = []
-links_of (edge ∷ edges) = link_of edge ++ links_of edges
+-- each edge within an iteration is a constraint
+abbrev pub edge_constraints : List Edge → List Constraint
+edge_constraints edges = filter_map (λ e. if e.distance == 0 then Some (edge_constraint e) else None) edges
 
--- the times where the second node has moved behind the first one
-abbrev pub followed : List ℕ → Link → List ℕ
-followed times link =
-    let time = slice_index times link.from + link.latency in
-    if nat_lt (slice_index times link.to) time then slice_set times link.to time else times
+-- the least times of so many nodes under the edges within an iteration
+pub record AreLeastTimes (nodes : ℕ) (edges : List Edge) (times : List ℕ) : Type 0 where
+  pub solves : Solves nodes (edge_constraints edges) times
+  pub least : IsBelowAll nodes (edge_constraints edges) times
 
-abbrev pub relaxed : List ℕ → List Link → List ℕ
-relaxed times [] = times
-relaxed times (link ∷ links) = relaxed (followed times link) links
+-- each edge leads to no lower node than those before it
+abbrev pub AreSorted : List Edge → Type 0
+AreSorted edges = IsNonDecreasingBy (λ (edge : Edge). edge.to) edges
 
--- each link leads to no lower node than those before it
-abbrev pub AreSorted : List Link → Type 0
-AreSorted links = IsNonDecreasingBy (λ (link : Link). link.to) links
+-- an edge leads to a higher node, which is one of so many
+abbrev pub LeadsOn : ℕ → Edge → Type 0
+LeadsOn nodes edge = (edge.from < edge.to) × (edge.to < nodes)

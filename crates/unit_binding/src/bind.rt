@@ -1,9 +1,9 @@
-ghost use Rattle.std.specs.Prelude.{◌≡◌, ◌+◌, IfOk, OnOk, map, option_to_list, slice_index};
+ghost use Rattle.std.specs.Prelude.{◌≡◌, ◌+◌, ◌<◌, ◌≤◌, ◌^◌, IfOk, OnOk, length, map, option_to_list, slice_index};
 ghost use Rattle.ir_operation.specs.Timing as timing;
 ghost use Rattle.unit_binding.specs.Binding as spec;
 
 use crate::binding::{Binding, UnitOrder};
-use crate::times::{least_times, sorted_links};
+use crate::times::{lead_on, least_times, sorted_within};
 use dep_graph::edge::Edge;
 use hls_base::refusal::impossible;
 use hls_base::settings::Units;
@@ -22,9 +22,13 @@ pub struct Request {
     pub occupancy: u32,
 }
 
+/// There are no more operations than this.
+const MAX_OPS: usize = 4_294_967_295;
+
 /// How many units a class has, at least one.
 fn unit_count(units: Units, class: UnitClass) -> u32
-    ensures { result ≡ spec.unit_count units class }
+    ensures value { result ≡ spec.unit_count units class }
+    ensures few { result < 256 }
 {
     let count = match class {
         UnitClass::Multiplier(_) => units.mul,
@@ -42,27 +46,17 @@ fn time_of(times: &[u64], op: u32) -> u64
     if node < times.len() { times[node] } else { 0 }
 }
 
-/// The request of an operation, if it shares units. There are fewer than 2^32 operations.
-fn request_of(
-    memories: &[Memory],
-    times: &[u64],
-    number: usize,
-    op: &Op<Untimed>,
-) -> Result<Option<Request>, AllocError>
-    ensures { IfOk result (λ request. option_to_list request ≡ spec.request_of (timing.unit_class op.now.kind op.now.bits op.now.array memories.now) (slice_index times.now (number + 1)) number (timing.occupancy op.now.kind op.now.bits)) }
+/// The request of an operation, if it shares units.
+fn request_of(memories: &[Memory], times: &[u64], number: u32, op: &Op<Untimed>) -> Option<Request>
+    ensures { option_to_list result ≡ spec.request_of (timing.unit_class op.now.kind op.now.bits op.now.array memories.now) (slice_index times.now (number + 1)) number (timing.occupancy op.now.kind op.now.bits) }
 {
-    let Some(class) = unit_class(op, memories) else {
-        return Ok(None);
-    };
-    match u32::try_from(number) {
-        Ok(index) => Ok(Some(Request {
-            class,
-            time: time_of(times, index),
-            op: index,
-            occupancy: occupancy(op.kind, op.bits),
-        })),
-        Err(_) => Err(impossible()),
-    }
+    let class = unit_class(op, memories)?;
+    Some(Request {
+        class,
+        time: time_of(times, number),
+        op: number,
+        occupancy: occupancy(op.kind, op.bits),
+    })
 }
 
 /// The operations that share units.
@@ -72,11 +66,12 @@ fn requests_of(
     memories: &[Memory],
     times: &[u64],
 ) -> Result<Vec<Request>, AllocError>
+    requires few { length body.now.ops.items < 2 ^ 32 }
     ensures { IfOk result (λ v. v.items ≡ spec.requests_from times.now memories.now 0 body.now.ops.items) }
 {
     let mut requests = Vec::new(alloc);
     for (number, op) in body.ops.iter().enumerate() {
-        if let Some(request) = request_of(memories, times, number, op)? {
+        if let Some(request) = request_of(memories, times, number as u32, op) {
             requests.push(request)?;
         }
     }
@@ -151,13 +146,16 @@ fn opened(turn: Turn, class: UnitClass, count: usize) -> Turn
     }
 }
 
-fn next_unit(units: Units, class: UnitClass, unit: u32) -> Result<u32, AllocError>
-    ensures { IfOk result (λ next. next ≡ spec.next_unit units class unit) }
+fn next_unit(units: Units, class: UnitClass, unit: u32) -> u32
+    requires small { unit < 256 }
+    ensures value { result ≡ spec.next_unit units class unit }
+    ensures small { result < 256 }
 {
-    match unit.checked_add(1) {
-        Some(next) if next < unit_count(units, class) => Ok(next),
-        Some(_) => Ok(0),
-        None => Err(impossible()),
+    let next = unit + 1;
+    if next < unit_count(units, class) {
+        next
+    } else {
+        0
     }
 }
 
@@ -168,11 +166,11 @@ fn give(
     turn: Turn,
     request: Request,
 ) -> Result<(), AllocError>
+    requires first { turn.first ≤ length binding.old.orders.items }
+    requires small { turn.unit < 256 }
     ensures { OnOk result (spec.binding_view binding.new ≡ spec.given (spec.binding_view binding.old) turn request) }
 {
-    let Some(index) = turn.first.checked_add(turn.unit as usize) else {
-        return Err(impossible());
-    };
+    let index = turn.first + turn.unit as usize;
     let op = request.op as usize;
     if op < binding.unit_of.len() {
         binding.unit_of[op] = turn.unit;
@@ -197,12 +195,12 @@ fn deal(
     for request in requests {
         turn = opened(turn, request.class, binding.orders.len());
         give(alloc, binding, turn, *request)?;
-        turn.unit = next_unit(units, request.class, turn.unit)?;
+        turn.unit = next_unit(units, request.class, turn.unit);
     }
     Ok(())
 }
 
-/// Gives the operations of each class to its units in turn, in the order of the times at which they could start if there were units enough, and of their numbers where these are equal. The orders name operations by their numbers.
+/// Gives the operations of each class to its units in turn, in the order of the times at which they could start if there were units enough, and of their numbers where these are equal. Each edge within an iteration leads to an operation of a higher number. The orders name operations by their numbers.
 pub fn bind(
     alloc: Global,
     body: &Body<Untimed>,
@@ -212,13 +210,16 @@ pub fn bind(
 ) -> Result<Binding, AllocError>
     ensures { IfOk result (λ binding. spec.IsBoundBy ⟦<Request as Ord>⟧.cmp body.now memories.now edges.now units binding) }
 {
-    let nodes = body.ops.len().saturating_add(1);
-    let links = sorted_links(alloc, edges)?;
-    let times = least_times(alloc, nodes, &links)?;
+    let ops = body.ops.len();
+    let within = sorted_within(alloc, edges)?;
+    if ops > MAX_OPS || !lead_on(&within, ops + 1) {
+        return Err(impossible());
+    }
+    let times = least_times(alloc, ops + 1, &within)?;
     let mut requests = requests_of(alloc, body, memories, &times)?;
     requests.sort()?;
     let mut binding = Binding {
-        unit_of: vec![in alloc; 0u32; body.ops.len()]?,
+        unit_of: vec![in alloc; 0u32; ops]?,
         orders: Vec::new(alloc),
     };
     deal(alloc, units, &requests, &mut binding)?;

@@ -1,82 +1,70 @@
 //! When operations could start if there were units enough.
-ghost use Rattle.std.specs.Prelude.{◌≡◌, IfOk, OnOk, replicate, slice_index};
+ghost use Rattle.std.specs.Prelude.{◌≡◌, ◌<◌, ◌==◌, ◌↔◌, IfOk, IsTrue, length, map, replicate};
+ghost use Rattle.std.specs.List.{All, filter};
 ghost use Rattle.std.specs.List.Sorted.{IsPermutation};
+ghost use Rattle.diff_solve.specs.Times.{Solves, IsBelowAll};
 ghost use Rattle.unit_binding.specs.Times as spec;
 
 use dep_graph::edge::Edge;
-use hls_base::refusal::impossible;
 use std::alloc::{AllocError, Global};
 
-/// An edge within an iteration, by the node to which it leads.
-#[derive(Clone, Copy, Debug, PartialEq, Eq)]
-pub struct Link {
-    pub to: u32,
-    pub from: u32,
-    pub latency: u32,
-}
-
-/// The edges of distance 0.
-fn links_within(alloc: Global, edges: &[Edge]) -> Result<Vec<Link>, AllocError>
-    ensures { IfOk result (λ links. links.items ≡ spec.links_of edges.now) }
+/// The edges within an iteration.
+pub fn edges_within(alloc: Global, edges: &[Edge]) -> Result<Vec<Edge>, AllocError>
+    ensures { IfOk result (λ within. within.items ≡ filter (λ edge. edge.distance == 0) edges.now) }
 {
-    let mut links = Vec::new(alloc);
+    let mut within = Vec::new(alloc);
     for edge in edges {
         if edge.distance == 0 {
-            links.push(Link {
-                to: edge.to,
-                from: edge.from,
-                latency: edge.latency,
-            })?;
+            within.push(*edge)?;
         }
     }
-    Ok(links)
+    Ok(within)
 }
 
-/// The edges of distance 0, sorted by the node to which they lead.
-pub fn sorted_links(alloc: Global, edges: &[Edge]) -> Result<Vec<Link>, AllocError>
-    ensures moved { IfOk result (λ links. IsPermutation (spec.links_of edges.now) links.items) }
-    ensures sorted { IfOk result (λ links. spec.AreSorted links.items) }
+/// The edges within an iteration, sorted by the node to which they lead.
+pub fn sorted_within(alloc: Global, edges: &[Edge]) -> Result<Vec<Edge>, AllocError>
+    ensures moved { IfOk result (λ within. IsPermutation (filter (λ edge. edge.distance == 0) edges.now) within.items) }
+    ensures sorted { IfOk result (λ within. spec.AreSorted within.items) }
 {
-    let mut links = links_within(alloc, edges)?;
-    links.sort_by_key(|link| link.to)?;
-    Ok(links)
+    let mut within = edges_within(alloc, edges)?;
+    within.sort_by_key(|edge| edge.to)?;
+    Ok(within)
 }
 
-fn time_at(times: &[u64], node: u32) -> u64
-    ensures { result ≡ slice_index times.now node }
+/// Whether each edge leads to a higher node, which is one of so many.
+pub fn lead_on(edges: &[Edge], nodes: usize) -> bool
+    ensures { IsTrue result ↔ All (spec.LeadsOn nodes) edges.now }
 {
-    let index = node as usize;
-    if index < times.len() { times[index] } else { 0 }
+    edges
+        .iter()
+        .all(|edge| edge.from < edge.to && (edge.to as usize) < nodes)
 }
 
-/// Moves a node behind another one. There are no times beyond 2^64.
-fn follow(times: &mut [u64], link: Link) -> Result<(), AllocError>
-    ensures { OnOk result (times.new ≡ spec.followed times.old link) }
+/// Moves each node behind those from which edges lead to it.
+fn follow_all(times: &mut [u64], edges: &[Edge])
+    requires lead_on { All (spec.LeadsOn (length times.old)) edges.now }
+    requires sorted { spec.AreSorted edges.now }
+    requires zero { times.old ≡ replicate (length times.old) 0 }
+    ensures solves { Solves (length times.old) (map spec.edge_constraint edges.now) times.new }
+    ensures least { IsBelowAll (length times.old) (map spec.edge_constraint edges.now) times.new }
 {
-    let Some(time) = time_at(times, link.from).checked_add(u64::from(link.latency)) else {
-        return Err(impossible());
-    };
-    let to = link.to as usize;
-    if to < times.len() && times[to] < time {
-        times[to] = time;
+    for edge in edges {
+        let time = times[edge.from as usize] + u64::from(edge.latency);
+        let to = edge.to as usize;
+        if times[to] < time {
+            times[to] = time;
+        }
     }
-    Ok(())
 }
 
-fn follow_all(times: &mut [u64], links: &[Link]) -> Result<(), AllocError>
-    ensures { OnOk result (times.new ≡ spec.relaxed times.old links.now) }
-{
-    for link in links {
-        follow(times, *link)?;
-    }
-    Ok(())
-}
-
-/// The least time of each node under links that are sorted.
-pub fn least_times(alloc: Global, nodes: usize, links: &[Link]) -> Result<Vec<u64>, AllocError>
-    ensures { IfOk result (λ times. times.items ≡ spec.relaxed (replicate nodes 0) links.now) }
+/// The least time of each node under edges that are sorted by the node to which they lead.
+pub fn least_times(alloc: Global, nodes: usize, edges: &[Edge]) -> Result<Vec<u64>, AllocError>
+    requires lead_on { All (spec.LeadsOn nodes) edges.now }
+    requires sorted { spec.AreSorted edges.now }
+    ensures solves { IfOk result (λ times. Solves nodes (map spec.edge_constraint edges.now) times.items) }
+    ensures least { IfOk result (λ times. IsBelowAll nodes (map spec.edge_constraint edges.now) times.items) }
 {
     let mut times = vec![in alloc; 0u64; nodes]?;
-    follow_all(&mut times, links)?;
+    follow_all(&mut times, edges);
     Ok(times)
 }

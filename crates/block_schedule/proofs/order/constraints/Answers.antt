@@ -1,7 +1,8 @@
 use Rattle.std.proofs.Common.{◌++◌}
 use Rattle.std.specs.List.Sorted.{IsPermutation}
 use Rattle.std.proofs.lemmas.List.Sorted.{IsPermutation-append_left, IsPermutation-trans}
-use Rattle.block_schedule.specs.Constraints.{edge_constraints, unit_constraints}
+use Rattle.unit_binding.specs.Times.{edge_constraints}
+use Rattle.block_schedule.specs.Constraints.{unit_constraints}
 use Rattle.block_schedule.proofs.order.constraints.Goals as goal
 
 pub returns : goal.returns

@@ -1,5 +1,5 @@
 use Rattle.std.proofs.Common.{◌≡◌, take}
-use Rattle.block_schedule.specs.Constraints.{edge_constraints}
+use Rattle.unit_binding.specs.Times.{edge_constraints}
 use Rattle.block_schedule.proofs.order.edges_within.Given as goal
 
 abbrev pub invariant-loop-edge : goal.invariant-loop-edge

@@ -2,7 +2,7 @@ use Rattle.std.proofs.Common.{◌+◌}
 use Rattle.diff_solve.specs.Times.{Solves, IsBelowAll}
 use Rattle.std.proofs.lemmas.List.Sorted.{IsPermutation-sym}
 use Rattle.block_schedule.specs.Constraints.{block_constraints}
-use Rattle.block_schedule.proofs.Permuted.{solves_permuted, below_permuted}
+use Rattle.unit_binding.proofs.Permuted.{solves_permuted, below_permuted}
 use Rattle.block_schedule.proofs.schedule.least_times.Goals as goal
 
 pub returns-then-are_early-clause-solves : goal.returns-then-are_early-clause-solves

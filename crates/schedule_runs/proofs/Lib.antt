@@ -1,0 +1,9 @@
+mod Classes
+mod Dealing
+mod Nodes
+mod Orders
+mod Programs
+mod Requests
+mod Rules
+mod Serving
+mod Turns

@@ -1,7 +1,0 @@
-use Rattle.std.proofs.Common.{rules}
-use Rattle.std.proofs.lemmas.List.Sorted.{IsNonDecreasingBy-from_sort_by_key}
-use Rattle.unit_binding.specs.declared.times.Link.{Link}
-use Rattle.unit_binding.proofs.times.sorted_links.Goals as goal
-
-pub returns-clause-sorted : goal.returns-clause-sorted
-returns-clause-sorted c = IsNonDecreasingBy-from_sort_by_key (λ (link : Link). link.to) _ c.in_ok-sort_by_key.ensures.sorted (λ a r q k. search rules)
