@@ -1,8 +1,11 @@
 //! A timed program runs, one step for each edge of the clock.
 #![tactic(auto)]
 
+mod acts;
+mod first;
+mod leaving;
 pub mod machine;
 mod program;
 mod reads;
+mod registers;
 mod state;
-pub mod well_timed;

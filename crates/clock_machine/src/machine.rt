@@ -1,5 +1,10 @@
-ghost use Rattle.std.specs.Prelude.{◌≡◌};
+ghost use Rattle.std.specs.Prelude.{◌≡◌, ◌<◌, ◌==◌, length, map, IfOk, false, true};
+ghost use Rattle.hls_base.specs.ArrayAddress.{addresses};
+ghost use Rattle.block_meaning.specs.FirstContents.{first_words};
+ghost use Rattle.machine_laws.specs.Halts.{HasHalted, is_ended};
+ghost use Rattle.machine_memory.specs.Contents.{dims_in, dims_at, element_in};
 ghost use Rattle.clock_machine.specs.Halts.{halt_at};
+ghost use Rattle.clock_machine.specs.Starts.{IsNamed, IsStarting};
 
 use crate::program::Program;
 use crate::reads::program_of;
@@ -19,11 +24,13 @@ pub struct ClockMachine {
 }
 
 impl ClockMachine {
-    pub fn new(
-        alloc: Global,
-        cfg: &Cfg<Timed>,
-        inputs: &Inputs,
-    ) -> Result<ClockMachine, AllocError> {
+    /// The machine before the first edge of the program's run with these inputs.
+    pub fn new(alloc: Global, cfg: &Cfg<Timed>, inputs: &Inputs) -> Result<ClockMachine, AllocError>
+        ensures void { IfOk result (λ m. m.program.is_void ≡ (cfg.now.frame.ret == 0)) }
+        ensures dims { IfOk result (λ m. dims_in m.state.memories ≡ map (λ d. d.dims.items) cfg.now.frame.memories.items) }
+        ensures begins { IfOk result (λ m. IsNamed cfg.now.frame →
+            IsStarting (first_words cfg.now.frame inputs.now) m.state) }
+    {
         let program = program_of(alloc, cfg)?;
         let state = State::new(alloc, cfg, &program, inputs)?;
         Ok(ClockMachine { program, state })
@@ -41,7 +48,9 @@ impl ClockMachine {
     }
 
     /// So many steps, or fewer where the run ends.
-    fn go_on(&mut self, steps: u64) {
+    fn go_on(&mut self, steps: u64)
+        ensures { self.new.program ≡ self.old.program }
+    {
         for _ in 0..steps {
             if self.state.position == Position::Ended {
                 break;
@@ -54,21 +63,35 @@ impl ClockMachine {
 impl Machine<Timed> for ClockMachine {
     ghost halt = { λ m. halt_at m.state.position };
 
-    fn step(&mut self) -> Halt {
+    fn step(&mut self) -> Halt
+        ensures answer { result ≡ halt_at self.new.state.position }
+        ensures stays { HasHalted (halt_at self.old.state.position) → self.new ≡ self.old }
+        ensures program { self.new.program ≡ self.old.program }
+    {
         if self.halt() == Halt::Running {
             self.state.step(&self.program);
         }
         self.halt()
     }
 
-    fn run(&mut self, steps: u64) -> Halt {
+    fn run(&mut self, steps: u64) -> Halt
+        ensures answer { result ≡ halt_at self.new.state.position }
+        ensures stays { HasHalted (halt_at self.old.state.position) → self.new ≡ self.old }
+        ensures none { steps ≡ 0 → self.new ≡ self.old }
+        ensures program { self.new.program ≡ self.old.program }
+    {
         if steps > 0 && self.halt() == Halt::Running {
             self.go_on(steps);
         }
         self.halt()
     }
 
-    fn ret(&self) -> Option<u64> {
+    fn ret(&self) -> Option<u64>
+        ensures ended { is_ended (halt_at self.now.state.position) ≡ false → result ≡ None }
+        ensures void { self.now.program.is_void ≡ true → result ≡ None }
+        ensures result { is_ended (halt_at self.now.state.position) ≡ true →
+            self.now.program.is_void ≡ false → result ≡ self.now.state.returned }
+    {
         if self.program.is_void || self.halt() != Halt::Ended {
             None
         } else {
@@ -76,7 +99,10 @@ impl Machine<Timed> for ClockMachine {
         }
     }
 
-    fn element(&self, array: ArrayId, index: u32) -> u64 {
+    fn element(&self, array: ArrayId, index: u32) -> u64
+        ensures { index < length (addresses (dims_at (dims_in self.now.state.memories) array)) →
+            result ≡ element_in self.now.state.memories array index }
+    {
         self.state.memories.element(array, index)
     }
 }

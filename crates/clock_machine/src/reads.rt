@@ -1,4 +1,6 @@
 //! From a timed program to the form in which it is run.
+ghost use Rattle.std.specs.Prelude.{◌≡◌, ◌==◌, IfOk};
+
 use crate::program::{
     Action, Assignment, Case, Entry, Line, Pace, Program, Read, Stage, Way, Work,
 };
@@ -323,7 +325,9 @@ fn loop_of(alloc: Global, frame: &Frame, region: &Loop<Timed>) -> Result<Stage, 
     })
 }
 
-pub fn program_of(alloc: Global, cfg: &Cfg<Timed>) -> Result<Program, AllocError> {
+pub fn program_of(alloc: Global, cfg: &Cfg<Timed>) -> Result<Program, AllocError>
+    ensures { IfOk result (λ p. p.is_void ≡ (cfg.now.frame.ret == 0)) }
+{
     let mut stages = Vec::new(alloc);
     for node in &cfg.nodes {
         let stage = match node {

@@ -1,13 +1,24 @@
 //! What changes as a timed program runs.
-use crate::program::{
-    Action, Assignment, Case, Entry, Line, Pace, Program, Read, Stage, Way, Work, work_of,
-};
+ghost use Rattle.std.specs.Prelude.{◌≡◌, ◌≤◌, ℕ, List, length, map, take, drop, slice_get, IfOk};
+ghost use Rattle.block_meaning.specs.Bodies.{effect, performed};
+ghost use Rattle.block_meaning.specs.FirstContents.{first_words};
+ghost use Rattle.machine_memory.specs.Contents.{dims_in, words_in};
+ghost use Rattle.clock_machine.specs.Leaving.{AssignmentsAreWithin, AssignmentsAreThere, WayIsWithin, assigned, entered_at, position_behind, result_behind};
+ghost use Rattle.clock_machine.specs.Starts.{held, IsNamed, IsStarting, words_of};
+ghost use Rattle.clock_machine.specs.Acts.{shapes, op_in, IsThere, ReadsAreWithin, ReadIsWithinIf, allows};
+ghost use Rattle.clock_machine.specs.Registers.{word_read};
+ghost use Rattle.clock_machine.specs.Starting.{IsReadyFor, IsReadyForAll, memory_behind, memories_behind};
+
+use crate::acts::{is_allowed, perform, read_all};
+use crate::first::{first_variables, set_word, word_at};
+use crate::leaving::{chosen, read_assigned, result_of, set_assigned};
+use crate::program::{Action, Entry, Line, Pace, Program, Stage, Way, Work, work_of};
+use crate::registers::Registers;
 use clock_ir::timed::Timed;
 use hls_base::inputs::Inputs;
 use hls_base::number::NodeId;
 use ir_core::body::OpKind;
-use ir_core::cfg::{Cfg, Frame};
-use ir_operation::value::evaluate;
+use ir_core::cfg::Cfg;
 use machine_memory::memories::Memories;
 use std::alloc::{AllocError, Global};
 
@@ -22,11 +33,11 @@ pub enum Position {
 
 /// The time within a block or loop, and its place in the schedule. `next` is the first operation of this phase or a later one; `stopped` is how many cycles ago a test was first known to fail.
 #[derive(Clone, Copy, Debug)]
-struct Moment {
-    time: u64,
-    phase: u64,
-    next: usize,
-    stopped: Option<u64>,
+pub struct Moment {
+    pub time: u64,
+    pub phase: u64,
+    pub next: usize,
+    pub stopped: Option<u64>,
 }
 
 const FIRST_MOMENT: Moment = Moment {
@@ -36,42 +47,17 @@ const FIRST_MOMENT: Moment = Moment {
     stopped: None,
 };
 
-/// `words` has the values of all lines, and `heads` the place in each line at which the next one goes. `args` and `fresh` are buffers.
+/// `args` and `fresh` are buffers.
 #[derive(Debug, Drop)]
 pub struct State {
     pub memories: Memories,
     pub position: Position,
     pub returned: Option<u64>,
-    variables: Vec<u64>,
-    words: Vec<u64>,
-    heads: Vec<usize>,
-    args: Vec<u64>,
+    pub registers: Registers,
+    pub args: Vec<u64>,
     fresh: Vec<u64>,
-    moment: Moment,
+    pub moment: Moment,
     first: NodeId,
-}
-
-fn word_at(words: &[u64], index: usize) -> u64 {
-    if index < words.len() { words[index] } else { 0 }
-}
-
-fn set_word(words: &mut [u64], index: usize, word: u64) {
-    if index < words.len() {
-        words[index] = word;
-    }
-}
-
-/// The variables as a run begins: the parameters have the arguments, the scalars that stay have their first values, and the others are 0.
-fn first_variables(alloc: Global, frame: &Frame, inputs: &Inputs) -> Result<Vec<u64>, AllocError> {
-    let mut variables = vec![in alloc; 0u64; frame.variables.len()]?;
-    for kept in &frame.kept {
-        set_word(&mut variables, kept.variable.0 as usize, kept.value);
-    }
-    let scalars = inputs.scalars.items();
-    for (param, value) in frame.params.iter().zip(scalars.iter()) {
-        set_word(&mut variables, param.0 as usize, *value);
-    }
-    Ok(variables)
 }
 
 /// The words that lines take together.
@@ -134,15 +120,21 @@ impl State {
         cfg: &Cfg<Timed>,
         program: &Program,
         inputs: &Inputs,
-    ) -> Result<State, AllocError> {
+    ) -> Result<State, AllocError>
+        ensures dims { IfOk result (λ s. dims_in s.memories ≡ map (λ m. m.dims.items) cfg.now.frame.memories.items) }
+        ensures begins { IfOk result (λ s. IsNamed cfg.now.frame →
+            IsStarting (first_words cfg.now.frame inputs.now) s) }
+    {
         let sizes = sizes_of(program);
         Ok(State {
             memories: Memories::new(alloc, &cfg.frame.memories, inputs)?,
             position: Position::Start,
             returned: None,
-            variables: first_variables(alloc, &cfg.frame, inputs)?,
-            words: vec![in alloc; 0u64; sizes.words]?,
-            heads: vec![in alloc; 0usize; sizes.lines]?,
+            registers: Registers {
+                variables: first_variables(alloc, &cfg.frame, inputs)?,
+                words: vec![in alloc; 0u64; sizes.words]?,
+                heads: vec![in alloc; 0usize; sizes.lines]?,
+            },
             args: vec![in alloc; 0u64; sizes.args]?,
             fresh: vec![in alloc; 0u64; sizes.fresh]?,
             moment: FIRST_MOMENT,
@@ -150,125 +142,56 @@ impl State {
         })
     }
 
-    fn head(&self, line: usize) -> usize {
-        if line < self.heads.len() {
-            self.heads[line]
-        } else {
-            0
-        }
-    }
-
-    fn value(&self, line: Line, head: usize, back: usize) -> u64 {
-        let place = head
-            .saturating_add(line.length)
-            .saturating_sub(back)
-            .saturating_sub(1);
-        let wrapped = if place < line.length {
-            place
-        } else {
-            place.saturating_sub(line.length)
-        };
-        word_at(&self.words, line.first.saturating_add(wrapped))
-    }
-
-    fn read(&self, lines: &[Line], read: Read) -> u64 {
-        match read {
-            Read::Constant(word) => word,
-            Read::Variable(variable) => word_at(&self.variables, variable),
-            Read::Value { line, back } if line < lines.len() => {
-                self.value(lines[line], self.head(line), back)
-            }
-            Read::Value { .. } => 0,
-        }
-    }
-
-    /// Puts a value into the line of an operation.
-    fn push(&mut self, lines: &[Line], line: usize, word: u64) {
-        if line >= lines.len() || line >= self.heads.len() {
-            return;
-        }
-        let head = self.heads[line];
-        set_word(
-            &mut self.words,
-            lines[line].first.saturating_add(head),
-            word,
-        );
-        let next = head.saturating_add(1);
-        self.heads[line] = if next < lines[line].length { next } else { 0 };
-    }
-
-    /// Reads the arguments of an operation into the buffer.
-    fn take_args(&mut self, lines: &[Line], args: &[Read]) {
-        for (index, read) in args.iter().enumerate() {
-            let word = self.read(lines, *read);
-            set_word(&mut self.args, index, word);
-        }
-    }
-
-    /// Whether the guard of an operation lets it act, and for a store also its iteration's gate.
-    fn is_allowed(&self, lines: &[Line], action: &Action) -> bool {
-        let is_open = match self.moment.stopped {
-            Some(ago) if action.kind == OpKind::Store => ago < action.gate,
-            _ => true,
-        };
-        match action.guard {
-            Some(guard) if is_open => self.read(lines, guard) != 0,
-            _ => is_open,
-        }
-    }
-
-    fn load(&self, action: &Action) -> u64 {
-        let args = &self.args[..action.args.len().min(self.args.len())];
-        match action.array {
-            Some(array) => self.memories.load(array, args),
-            None => 0,
-        }
-    }
-
-    fn store(&mut self, action: &Action) {
-        let count = action.args.len().min(self.args.len());
-        if let Some(array) = action.array {
-            if count > 0 {
-                let word = self.args[count - 1];
-                self.memories.store(array, &self.args[..count - 1], word);
-            }
-        }
-    }
-
     /// What an operation gives that starts in this cycle, after what it does.
-    fn act(&mut self, lines: &[Line], action: &Action) -> u64 {
-        self.take_args(lines, &action.args);
-        let allowed = self.is_allowed(lines, action);
-        match action.kind {
-            OpKind::Load if allowed => self.load(action),
-            OpKind::Load => 0,
-            OpKind::Store => {
-                if allowed {
-                    self.store(action);
-                }
-                0
-            }
-            _ => {
-                let args = &self.args[..action.args.len().min(self.args.len())];
-                evaluate(
-                    action.kind,
-                    action.signed,
-                    action.bits,
-                    action.from_bits,
-                    args,
-                )
-            }
+    fn act(&mut self, lines: &[Line], action: &Action) -> u64
+        ensures does { (widths : List ℕ) → length action.now.args.items ≤ length self.old.args.items →
+            ReadsAreWithin self.old.registers lines.now action.now.args.items →
+            ReadIsWithinIf self.old.registers lines.now action.now.guard →
+            IsThere action.now.array (dims_in self.old.memories) →
+            effect (shapes widths (dims_in self.old.memories)) (op_in action.now) action.now.kind
+            (allows self.old.registers lines.now self.old.moment.stopped action.now) action.now.from_bits
+            (map (word_read self.old.registers lines.now) action.now.args.items) (words_of self.old)
+            ≡ performed result (words_of self.new) }
+        ensures dims { dims_in self.new.memories ≡ dims_in self.old.memories }
+        ensures registers { self.new.registers ≡ self.old.registers }
+        ensures moment { self.new.moment ≡ self.old.moment }
+        ensures args { length self.new.args.items ≡ length self.old.args.items }
+    {
+        let count = action.args.len().min(self.args.len());
+        read_all(&self.registers, lines, &action.args, &mut self.args);
+        let allowed = is_allowed(&self.registers, lines, self.moment.stopped, action);
+        perform(&mut self.memories, action, allowed, &self.args[..count])
+    }
+
+    /// Starts an operation, if its first iteration has come to it.
+    fn start(&mut self, lines: &[Line], index: usize, action: &Action)
+        ensures memories { (widths : List ℕ) → IsReadyFor self.old lines.now action.now →
+            words_in self.new.memories ≡ memory_behind (shapes widths (dims_in self.old.memories))
+            self.old.registers lines.now self.old.moment.stopped self.old.moment.time action.now
+            (words_in self.old.memories) }
+        ensures dims { dims_in self.new.memories ≡ dims_in self.old.memories }
+        ensures registers { self.new.registers ≡ self.old.registers }
+        ensures moment { self.new.moment ≡ self.old.moment }
+        ensures args { length self.new.args.items ≡ length self.old.args.items }
+    {
+        if action.start <= self.moment.time {
+            let word = self.act(lines, action);
+            set_word(&mut self.fresh, index, word);
         }
     }
 
     /// Starts the operations of this cycle, which read the values from before it; the stores come last.
-    fn start_actions(&mut self, work: &Work, end: usize) {
+    fn start_actions(&mut self, work: &Work, end: usize)
+        ensures memories { (widths : List ℕ) → IsReadyForAll self.old work.now.lines.items work.now.actions.items →
+            words_in self.new.memories ≡ memories_behind (shapes widths (dims_in self.old.memories))
+            self.old.registers work.now.lines.items self.old.moment.stopped self.old.moment.time
+            (drop self.old.moment.next (take end work.now.actions.items)) (words_in self.old.memories) }
+        ensures dims { dims_in self.new.memories ≡ dims_in self.old.memories }
+        ensures registers { self.new.registers ≡ self.old.registers }
+        ensures moment { self.new.moment ≡ self.old.moment }
+    {
         for index in self.moment.next..end.min(work.actions.len()) {
-            let action = &work.actions[index];
-            if action.start <= self.moment.time {
-                let word = self.act(&work.lines, action);
-                set_word(&mut self.fresh, index, word);
-            }
+            self.start(&work.lines, index, &work.actions[index]);
         }
     }
 
@@ -278,83 +201,84 @@ impl State {
             let action = &work.actions[index];
             if action.start <= self.moment.time && action.kind != OpKind::Store {
                 let word = word_at(&self.fresh, index);
-                self.push(&work.lines, action.line, word);
+                self.registers.push(&work.lines, action.line, word);
             }
         }
     }
 
     /// Gives the variables their values, all from those before.
-    fn assign(&mut self, work: &Work) {
-        for (index, assignment) in work.assignments.iter().enumerate() {
-            let word = self.read(&work.lines, assignment.value);
-            set_word(&mut self.fresh, index, word);
-        }
-        for (index, assignment) in work.assignments.iter().enumerate() {
-            let word = word_at(&self.fresh, index);
-            set_word(&mut self.variables, assignment.variable, word);
-        }
-    }
-
-    fn chosen(&self, lines: &[Line], cases: &[Case], other: NodeId) -> NodeId {
-        for case in cases {
-            if self.read(lines, case.test) != 0 {
-                return case.to;
-            }
-        }
-        other
+    fn assign(&mut self, work: &Work)
+        ensures does { length work.now.assignments.items ≤ length self.old.fresh.items →
+            AssignmentsAreWithin self.old.registers work.now.lines.items work.now.assignments.items →
+            AssignmentsAreThere work.now.assignments.items (length self.old.registers.variables.items) →
+            held self.new.registers.variables.items ≡ assigned (word_read self.old.registers work.now.lines.items)
+            work.now.assignments.items (held self.old.registers.variables.items) }
+        ensures memories { self.new.memories ≡ self.old.memories }
+        ensures position { self.new.position ≡ self.old.position }
+        ensures returned { self.new.returned ≡ self.old.returned }
+    {
+        read_assigned(
+            &self.registers,
+            &work.lines,
+            &work.assignments,
+            &mut self.fresh,
+        );
+        set_assigned(
+            &mut self.registers.variables,
+            &work.assignments,
+            &self.fresh,
+        );
     }
 
     /// Goes to the first cycle of a block, or to the one in which the first values of a loop are loaded.
-    fn enter(&mut self, program: &Program, node: NodeId) {
+    fn enter(&mut self, program: &Program, node: NodeId)
+        ensures position { self.new.position ≡ entered_at node (slice_get program.now.stages.items node.0) }
+        ensures words { words_of self.new ≡ words_of self.old }
+        ensures returned { self.new.returned ≡ self.old.returned }
+    {
         self.moment = FIRST_MOMENT;
         self.position = Position::Inside(node);
         let index = node.0 as usize;
         if index < program.stages.len() {
-            self.reset_heads();
+            self.registers.reset_heads();
             if let Stage::Loop { .. } = &program.stages[index] {
                 self.position = Position::Loading(node);
             }
         }
     }
 
-    fn reset_heads(&mut self) {
-        for head in self.heads.iter_mut() {
-            *head = 0;
-        }
-    }
-
-    /// Fills the line of an operation with what its variable has at entry.
-    fn fill(&mut self, lines: &[Line], entry: Entry) {
-        let word = word_at(&self.variables, entry.variable);
-        if entry.line < lines.len() {
-            let line = lines[entry.line];
-            for place in 0..line.length {
-                set_word(&mut self.words, line.first.saturating_add(place), word);
-            }
-        }
-    }
-
     /// Loads the first values of a loop.
     fn load_entries(&mut self, node: NodeId, work: &Work, entries: &[Entry]) {
-        for word in self.words.iter_mut() {
-            *word = 0;
-        }
+        self.registers.clear();
         for entry in entries {
-            self.fill(&work.lines, *entry);
+            self.registers.fill(&work.lines, *entry);
         }
         self.position = Position::Inside(node);
     }
 
     /// Leaves a block.
-    fn leave_block(&mut self, program: &Program, work: &Work, way: &Way) {
+    fn leave_block(&mut self, program: &Program, work: &Work, way: &Way)
+        ensures position { WayIsWithin self.old.registers work.now.lines.items way.now → self.new.position
+            ≡ position_behind (word_read self.old.registers work.now.lines.items) program.now.stages.items way.now }
+        ensures result { WayIsWithin self.old.registers work.now.lines.items way.now → self.new.returned
+            ≡ result_behind (word_read self.old.registers work.now.lines.items) way.now self.old.returned }
+        ensures words { length work.now.assignments.items ≤ length self.old.fresh.items →
+            AssignmentsAreWithin self.old.registers work.now.lines.items work.now.assignments.items →
+            AssignmentsAreThere work.now.assignments.items (length self.old.registers.variables.items) →
+            words_of self.new ≡ record {
+              variables = assigned (word_read self.old.registers work.now.lines.items)
+                  work.now.assignments.items (held self.old.registers.variables.items);
+              memories = words_in self.old.memories;
+            } }
+    {
         match way {
             Way::Choose { cases, other } => {
-                let next = self.chosen(&work.lines, cases, *other);
+                let next = chosen(&self.registers, &work.lines, cases, *other);
                 self.assign(work);
                 self.enter(program, next);
             }
             Way::Return(value) => {
-                self.returned = value.map(|read| self.read(&work.lines, read));
+                self.returned = result_of(&self.registers, &work.lines, *value);
                 self.assign(work);
                 self.position = Position::Ended;
             }
@@ -388,7 +312,7 @@ impl State {
     fn see_test(&mut self, lines: &[Line], pace: Pace) {
         let is_known = self.moment.phase == pace.phase && self.moment.time >= pace.known;
         if let Some(test) = pace.test {
-            if is_known && self.moment.stopped.is_none() && self.read(lines, test) == 0 {
+            if is_known && self.moment.stopped.is_none() && self.registers.read(lines, test) == 0 {
                 self.moment.stopped = Some(0);
             }
         }

@@ -1,0 +1,4 @@
+pub mod FirstWords
+pub mod Acting
+pub mod Rings
+pub mod TakenWords

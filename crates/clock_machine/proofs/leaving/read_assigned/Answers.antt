@@ -1,0 +1,16 @@
+use Rattle.std.proofs.Common.{◌+◌, ◌<◌, length, take, ap, ◌∙◌, arith}
+use Rattle.clock_machine.specs.declared.program.Assignment.{Assignment}
+use Rattle.clock_machine.specs.Registers.{word_read}
+use Rattle.clock_machine.proofs.Acting.{read_more}
+use Rattle.clock_machine.proofs.TakenWords.{assignment_within}
+use Rattle.clock_machine.proofs.leaving.read_assigned.Goals as goal
+
+pub loop-index-preserved : goal.loop-index-preserved
+loop-index-preserved c = λ long within.
+    let r = c.args.registers.now in
+    let lines = c.args.lines.now in
+    let xs = c.args.assignments.now in
+    let i = c.loop-index.index in
+    let room : i < length c.loop-index.into = omega (arith, long, c.loop-index.auto.into, c.loop-index-test.true) in
+    ap (take (i + 1)) c.set_word.ensures
+    ∙ read_more (λ (x : Assignment). word_read r lines x.value) xs c.loop-index.into i c.read.result _ c.loop-index-test.true room (c.read.ensures (assignment_within r lines xs i _ within c.loop-index-test.true)) (c.loop-index.invariant long within)

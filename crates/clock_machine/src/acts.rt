@@ -1,0 +1,129 @@
+//! What an operation that starts in a cycle does to memories.
+ghost use Rattle.std.specs.Prelude.{◌≡◌, ◌≤◌, ◌<◌, ℕ, List, map, take, length, get_or};
+ghost use Rattle.block_meaning.specs.Bodies as bodies;
+ghost use Rattle.machine_memory.specs.Contents.{dims_in, words_in};
+ghost use Rattle.clock_machine.specs.Acts.{shapes, op_in, IsThere, ReadsAreWithin, ReadIsWithinIf, allows, is_open, guard_holds};
+ghost use Rattle.clock_machine.specs.Registers.{word_read};
+
+use crate::first::{set_word, word_at};
+use crate::program::{Action, Line, Read};
+use crate::registers::Registers;
+use hls_base::number::ArrayId;
+use ir_core::body::OpKind;
+use ir_operation::value::evaluate;
+use machine_memory::memories::Memories;
+
+/// Puts what is read at the front of a buffer.
+pub fn read_all(registers: &Registers, lines: &[Line], reads: &[Read], into: &mut [u64])
+    ensures { length reads.now ≤ length into.old → ReadsAreWithin registers.now lines.now reads.now →
+        take (length reads.now) into.new ≡ map (word_read registers.now lines.now) reads.now }
+{
+    for (index, read) in reads.iter().enumerate() {
+        set_word(into, index, registers.read(lines, *read));
+    }
+}
+
+/// Whether an operation's iteration runs, where a test was first known to fail so many cycles ago. Only of a store does it matter.
+fn is_open_for(stopped: Option<u64>, action: &Action) -> bool
+    ensures { result ≡ is_open stopped action.now }
+{
+    match stopped {
+        Some(ago) => match action.kind {
+            OpKind::Store => ago < action.gate,
+            _ => true,
+        },
+        None => true,
+    }
+}
+
+fn does_guard_hold(registers: &Registers, lines: &[Line], guard: Option<Read>) -> bool
+    ensures { ReadIsWithinIf registers.now lines.now guard → result ≡ guard_holds registers.now lines.now guard }
+{
+    match guard {
+        Some(guard) => registers.read(lines, guard) != 0,
+        None => true,
+    }
+}
+
+/// Whether the guard of an operation lets it act, and for a store also its iteration's gate.
+pub fn is_allowed(
+    registers: &Registers,
+    lines: &[Line],
+    stopped: Option<u64>,
+    action: &Action,
+) -> bool
+    ensures { ReadIsWithinIf registers.now lines.now action.now.guard →
+        result ≡ allows registers.now lines.now stopped action.now }
+{
+    is_open_for(stopped, action) && does_guard_hold(registers, lines, action.guard)
+}
+
+/// The subscripts of a store, which are all its arguments but the last.
+fn subscripts(args: &[u64]) -> &[u64]
+    ensures { result.now ≡ bodies.subscripts args.now }
+{
+    &args[..args.len().saturating_sub(1)]
+}
+
+/// The word that a store writes, which is its last argument.
+fn stored(args: &[u64]) -> u64
+    ensures { result ≡ bodies.stored args.now }
+{
+    word_at(args, args.len().saturating_sub(1))
+}
+
+fn load(memories: &Memories, array: Option<ArrayId>, args: &[u64]) -> u64
+    ensures { (widths : List ℕ) (variables : ℕ → ℕ) → result ≡
+        bodies.loaded (shapes widths (dims_in memories.now)) array args.now
+        (record { variables = variables; memories = words_in memories.now }) }
+{
+    match array {
+        Some(array) => memories.load(array, args),
+        None => 0,
+    }
+}
+
+fn store(memories: &mut Memories, array: Option<ArrayId>, args: &[u64])
+    ensures does { (widths : List ℕ) (variables : ℕ → ℕ) → IsThere array (dims_in memories.old) →
+        bodies.with_stored (shapes widths (dims_in memories.old)) array args.now
+        (record { variables = variables; memories = words_in memories.old })
+        ≡ record { variables = variables; memories = words_in memories.new } }
+    ensures dims { dims_in memories.new ≡ dims_in memories.old }
+{
+    if let Some(array) = array {
+        memories.store(array, subscripts(args), stored(args));
+    }
+}
+
+/// What an operation gives at these arguments, after what it does.
+pub fn perform(memories: &mut Memories, action: &Action, allowed: bool, args: &[u64]) -> u64
+    ensures does { (widths : List ℕ) (variables : ℕ → ℕ) →
+        IsThere action.now.array (dims_in memories.old) →
+        bodies.effect (shapes widths (dims_in memories.old)) (op_in action.now) action.now.kind allowed
+        action.now.from_bits args.now (record { variables = variables; memories = words_in memories.old })
+        ≡ bodies.performed result (record { variables = variables; memories = words_in memories.new }) }
+    ensures dims { dims_in memories.new ≡ dims_in memories.old }
+{
+    match action.kind {
+        OpKind::Load => {
+            if allowed {
+                load(memories, action.array, args)
+            } else {
+                0
+            }
+        }
+        OpKind::Store => {
+            if allowed {
+                store(memories, action.array, args);
+            }
+            0
+        }
+        _ => evaluate(
+            action.kind,
+            action.signed,
+            action.bits,
+            action.from_bits,
+            args,
+        ),
+    }
+}

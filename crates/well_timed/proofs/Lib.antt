@@ -1,0 +1,9 @@
+pub mod Lists
+pub mod Sums
+pub mod Distances
+pub mod Tests
+pub mod Edges
+pub mod OperationKinds
+pub mod Units
+pub mod Bodies
+pub mod Programs

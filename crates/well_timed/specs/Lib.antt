@@ -1,0 +1,4 @@
+pub mod Untimed
+pub mod Sums
+pub mod Checks
+pub mod Nodes
