@@ -1,18 +1,23 @@
 //! All forks and loops of a program.
-ghost use Rattle.std.specs.Prelude.{◌≡◌, IfOk};
+ghost use Rattle.std.specs.Prelude.{◌≡◌, ◌&&◌, IfOk, map};
+ghost use Rattle.std.specs.Option.{option_map};
+ghost use Rattle.block_meaning.specs.Trees.{sequence_of, shape_of, part_of, part_row, side_of, arm_row, break_};
+ghost use Rattle.conversion.specs.Conversion as spec;
+ghost use Rattle.if_convert.specs.Blocks.{scope_of, open_of};
 
-use crate::fork::{Branches, merge, only_block};
-use crate::line::{Line, extend_by, parts_of, sequence_of};
-use crate::open::{Open, Scope};
-use crate::overlap::overlapped;
-use hls_base::refusal::impossible;
-use ir_core::tree::{BasicBlock, BlockTree, Part, Sequence, Shape};
+use crate::line::{Line, close, go_on};
+use crate::merging::{Open, Scope};
+use crate::overlap::{Parts, converted_loop};
+use hls_base::place::{Path, Place};
+use hls_base::point::{Point, PointKind};
+use ir_core::tree::{BasicBlock, BlockTree, Exit, Part, Sequence, Shape};
 use std::alloc::{AllocError, Global};
 
 /// The program in which each convertible fork is merged into the block before it, and, with `loops`, each eligible loop is one whose iterations may overlap.
 pub fn convert(alloc: Global, tree: BlockTree, loops: bool) -> Result<BlockTree, AllocError>
     ensures frame { IfOk result (λ converted. converted.frame ≡ tree.frame) }
     ensures returned { IfOk result (λ converted. converted.result ≡ tree.result) }
+    ensures blocks { IfOk result (λ converted. sequence_of converted.blocks ≡ spec.converted_sequence (record { widths = tree.frame.variables.items; loops = loops }) (sequence_of tree.blocks)) }
 {
     let BlockTree {
         frame,
@@ -33,102 +38,73 @@ pub fn convert(alloc: Global, tree: BlockTree, loops: bool) -> Result<BlockTree,
 }
 
 #[cycle(sequence)]
-fn convert_sequence(scope: Scope<'_>, sequence: Sequence) -> Result<Sequence, AllocError> {
+fn convert_sequence(scope: Scope<'_>, sequence: Sequence) -> Result<Sequence, AllocError>
+    ensures { IfOk result (λ converted. sequence_of converted ≡ spec.converted_sequence (scope_of scope.entry) (sequence_of sequence)) }
+{
     let Sequence { first, rest } = sequence;
-    let line = Line::Single(Open::new(scope.alloc, first)?);
-    let line = convert_parts(scope, line, rest)?;
-    sequence_of(scope.alloc, line)
+    let open = Open::new(scope.alloc, first)?;
+    convert_behind(scope, open, rest)
 }
 
-/// What becomes of a shape: branches for the block before it, or a shape.
-#[derive(Drop)]
-enum Converted {
-    Branches(Branches),
-    Shape(Shape),
-}
-
-/// Goes on by parts.
+/// A block, and the parts behind it.
 #[cycle(sequence)]
-fn convert_parts(scope: Scope<'_>, before: Line, parts: Vec<Part>) -> Result<Line, AllocError> {
-    let mut line = before;
+fn convert_behind(scope: Scope<'_>, first: Open, parts: Vec<Part>) -> Result<Sequence, AllocError>
+    ensures { IfOk result (λ converted. sequence_of converted ≡ spec.converted_behind (scope_of scope.entry) (open_of first) (part_row (map part_of parts.items))) }
+{
+    let mut line = Line::Single(first);
     for part in parts {
         let Part { shape, after } = part;
-        let converted = convert_shape(scope, shape)?;
-        line = extended(scope, line, converted, after)?;
+        let shape = convert_shape(scope, shape)?;
+        line = go_on(scope, line, shape, after)?;
     }
-    Ok(line)
+    close(scope.alloc, line)
 }
 
-/// Goes on by what became of a shape, and the block behind it.
-fn extended(
-    scope: Scope<'_>,
-    line: Line,
-    converted: Converted,
-    after: BasicBlock,
-) -> Result<Line, AllocError> {
-    match converted {
-        Converted::Branches(branches) => merged(scope, line, branches, after),
-        Converted::Shape(shape) => {
-            let last = Open::new(scope.alloc, after)?;
-            extend_by(scope.alloc, line, shape, last)
-        }
-    }
+/// A block that leads to nothing, to stand before parts that nothing leads to.
+fn nowhere(alloc: Global) -> Result<Open, AllocError>
+    ensures { IfOk result (λ opened. (open_of opened).exit ≡ break_) }
+{
+    let point = Point {
+        path: Path::new(Vec::new(alloc)),
+        at: Place {
+            line: 0,
+            column: 0,
+            part: 0,
+        },
+        kind: PointKind::Begin,
+    };
+    Open::new(
+        alloc,
+        BasicBlock {
+            point,
+            ops: Vec::new(alloc),
+            outs: Vec::new(alloc),
+            exit: Exit::Break,
+        },
+    )
 }
 
-/// Merges the branches of a fork and the block behind it into the block before it.
-fn merged(
-    scope: Scope<'_>,
-    line: Line,
-    branches: Branches,
-    after: BasicBlock,
-) -> Result<Line, AllocError> {
-    match line {
-        Line::Nothing => Err(impossible()),
-        Line::Single(last) => {
-            let last = joined_to(scope, last, branches, after)?;
-            Ok(Line::Single(last))
-        }
-        Line::Behind {
-            first,
-            rest,
-            shape,
-            last,
-        } => {
-            let last = joined_to(scope, last, branches, after)?;
-            Ok(Line::Behind {
-                first,
-                rest,
-                shape,
-                last,
-            })
-        }
-    }
-}
-
-fn joined_to(
-    scope: Scope<'_>,
-    before: Open,
-    branches: Branches,
-    after: BasicBlock,
-) -> Result<Open, AllocError> {
-    let mut head = before;
-    merge(scope, &mut head, branches)?;
-    head.join(scope, after)?;
-    Ok(head)
+/// Whether an eligible loop is to be overlapped.
+fn overlaps(scope: Scope<'_>, eligible: bool) -> bool
+    ensures { result ≡ (eligible && scope.entry.loops) }
+{
+    eligible && scope.loops
 }
 
 #[cycle(sequence)]
-fn convert_shape(scope: Scope<'_>, shape: Shape) -> Result<Converted, AllocError> {
+fn convert_shape(scope: Scope<'_>, shape: Shape) -> Result<Shape, AllocError>
+    ensures { IfOk result (λ converted. shape_of converted ≡ spec.converted_shape (scope_of scope.entry) (shape_of shape)) }
+{
     match shape {
         Shape::Fork {
             yes,
             no,
             convertible,
-        } => {
-            let left = convert_side(scope, yes)?;
-            let right = convert_side(scope, no)?;
-            converted_fork(left, right, convertible)
-        }
+        } => Ok(Shape::Fork {
+            yes: convert_side(scope, yes)?,
+            no: convert_side(scope, no)?,
+            convertible,
+        }),
         Shape::Loop {
             post,
             test,
@@ -136,18 +112,13 @@ fn convert_shape(scope: Scope<'_>, shape: Shape) -> Result<Converted, AllocError
             step,
             eligible,
         } => {
-            let test = convert_sequence(scope, Box::into_inner(test))?;
-            let body = convert_sequence(scope, Box::into_inner(body))?;
-            if eligible && scope.loops {
-                return overlapped_loop(scope, test, body);
-            }
-            Ok(Converted::Shape(Shape::Loop {
+            let parts = Parts {
                 post,
-                test: Box::new(scope.alloc, test)?,
-                body: Box::new(scope.alloc, body)?,
+                test: convert_sequence(scope, Box::into_inner(test))?,
+                body: convert_sequence(scope, Box::into_inner(body))?,
                 step: convert_step(scope, step)?,
-                eligible: false,
-            }))
+            };
+            converted_loop(scope, parts, overlaps(scope, eligible))
         }
         Shape::Choose {
             dead,
@@ -155,55 +126,22 @@ fn convert_shape(scope: Scope<'_>, shape: Shape) -> Result<Converted, AllocError
             other,
             arms,
         } => {
-            let dead = convert_parts(scope, Line::Nothing, dead)?;
-            Ok(Converted::Shape(Shape::Choose {
-                dead: parts_of(scope.alloc, dead)?,
+            let Sequence { rest: dead, .. } = convert_behind(scope, nowhere(scope.alloc)?, dead)?;
+            Ok(Shape::Choose {
+                dead,
                 targets,
                 other,
                 arms: convert_arms(scope, arms)?,
-            }))
+            })
         }
-        Shape::Land(_) | Shape::Overlapped { .. } => Ok(Converted::Shape(shape)),
+        Shape::Land(_) | Shape::Overlapped { .. } => Ok(shape),
     }
-}
-
-fn converted_fork(
-    left: Option<Sequence>,
-    right: Option<Sequence>,
-    convertible: bool,
-) -> Result<Converted, AllocError> {
-    if convertible {
-        return Ok(Converted::Branches(Branches {
-            yes: only_block(left)?,
-            no: only_block(right)?,
-        }));
-    }
-    Ok(Converted::Shape(Shape::Fork {
-        yes: left,
-        no: right,
-        convertible,
-    }))
-}
-
-/// A loop whose test and body are one block each.
-fn overlapped_loop(
-    scope: Scope<'_>,
-    test: Sequence,
-    body: Sequence,
-) -> Result<Converted, AllocError> {
-    let Sequence { first: test, rest } = test;
-    if !rest.is_empty() {
-        return Err(impossible());
-    }
-    let Sequence { first: body, rest } = body;
-    if !rest.is_empty() {
-        return Err(impossible());
-    }
-    Ok(Converted::Shape(overlapped(scope, test, body)?))
 }
 
 #[cycle(sequence)]
-fn convert_side(scope: Scope<'_>, side: Option<Sequence>) -> Result<Option<Sequence>, AllocError> {
+fn convert_side(scope: Scope<'_>, side: Option<Sequence>) -> Result<Option<Sequence>, AllocError>
+    ensures { IfOk result (λ converted. side_of (option_map sequence_of converted) ≡ spec.converted_side (scope_of scope.entry) (side_of (option_map sequence_of side))) }
+{
     match side {
         Some(sequence) => Ok(Some(convert_sequence(scope, sequence)?)),
         None => Ok(None),
@@ -214,18 +152,19 @@ fn convert_side(scope: Scope<'_>, side: Option<Sequence>) -> Result<Option<Seque
 fn convert_step(
     scope: Scope<'_>,
     step: Option<Box<Sequence>>,
-) -> Result<Option<Box<Sequence>>, AllocError> {
+) -> Result<Option<Sequence>, AllocError>
+    ensures { IfOk result (λ converted. side_of (option_map sequence_of converted) ≡ spec.converted_side (scope_of scope.entry) (side_of (option_map (λ part. sequence_of part.value) step))) }
+{
     match step {
-        Some(sequence) => {
-            let sequence = convert_sequence(scope, Box::into_inner(sequence))?;
-            Ok(Some(Box::new(scope.alloc, sequence)?))
-        }
+        Some(sequence) => Ok(Some(convert_sequence(scope, Box::into_inner(sequence))?)),
         None => Ok(None),
     }
 }
 
 #[cycle(sequence)]
-fn convert_arms(scope: Scope<'_>, arms: Vec<Sequence>) -> Result<Vec<Sequence>, AllocError> {
+fn convert_arms(scope: Scope<'_>, arms: Vec<Sequence>) -> Result<Vec<Sequence>, AllocError>
+    ensures { IfOk result (λ converted. arm_row (map sequence_of converted.items) ≡ spec.converted_arms (scope_of scope.entry) (arm_row (map sequence_of arms.items))) }
+{
     let mut done = Vec::new(scope.alloc);
     for arm in arms {
         done.push(convert_sequence(scope, arm)?)?;

@@ -1,120 +1,106 @@
-//! A fork of which each branch is one block is merged into the block before it.
-use crate::open::{Open, Scope, Side};
-use hls_base::number::VarId;
-use hls_base::refusal::impossible;
-use indexmap::IndexMap;
-use ir_core::body::{OpKind, Operand, Out};
-use ir_core::tree::{BasicBlock, Sequence};
-use std::alloc::{AllocError, Global};
+//! Which forks are merged into the block before them.
+ghost use Rattle.std.specs.Prelude.{◌≡◌, ◌&&◌};
+ghost use Rattle.std.specs.Option.{option_map};
+ghost use Rattle.block_meaning.specs.Trees.{sequence_of, side_of, shape_of, exit_of, block_of, fork};
+ghost use Rattle.conversion.specs.Merging as spec;
+ghost use Rattle.if_convert.specs.Blocks.{Finds};
 
-/// The branches of a fork without forks in them.
+use crate::merging::Branches;
+use ir_core::body::Operand;
+use ir_core::tree::{BasicBlock, Exit, Sequence, Shape};
+
+/// A fork that is merged, or any other shape.
 #[derive(Drop)]
-pub struct Branches {
-    pub yes: Option<BasicBlock>,
-    pub no: Option<BasicBlock>,
+pub enum Found {
+    Branches(Branches),
+    Shape(Shape),
 }
 
-/// The one block of a branch.
-pub fn only_block(branch: Option<Sequence>) -> Result<Option<BasicBlock>, AllocError> {
-    match branch {
-        Some(Sequence { first, rest }) => {
-            if rest.is_empty() {
-                Ok(Some(first))
-            } else {
-                Err(impossible())
-            }
-        }
-        None => Ok(None),
+/// Whether a sequence has one block alone, which leads on.
+pub fn is_only_block(sequence: &Sequence) -> bool
+    ensures { result ≡ spec.is_only (sequence_of sequence.now) }
+{
+    sequence.rest.is_empty() && matches!(sequence.first.exit, Exit::Next)
+}
+
+fn is_only_side(side: &Option<Sequence>) -> bool
+    ensures { result ≡ spec.is_only_side (side_of (option_map sequence_of side.now)) }
+{
+    match side {
+        Some(sequence) => is_only_block(sequence),
+        None => true,
     }
 }
 
-fn join_side(
-    scope: Scope<'_>,
-    open: &mut Open,
-    side: Side,
-    block: Option<BasicBlock>,
-) -> Result<Vec<Out>, AllocError> {
-    match block {
-        Some(block) => open.join_branch(scope, side, block),
-        None => Ok(Vec::new(scope.alloc)),
+/// The test by which a block ends.
+pub fn test_of(exit: &Exit) -> Option<Operand>
+    ensures { result ≡ spec.test_of (exit_of exit.now) }
+{
+    match exit {
+        Exit::Branch(test) => Some(*test),
+        _ => None,
     }
 }
 
-fn as_map(alloc: Global, outs: &[Out]) -> Result<IndexMap<VarId, Operand>, AllocError> {
-    let mut map = IndexMap::new(alloc);
-    for out in outs {
-        map.insert(out.variable, out.value)?;
-    }
-    Ok(map)
+/// The first block of a sequence.
+pub fn into_first(sequence: Sequence) -> BasicBlock
+    ensures { block_of result ≡ spec.first_of (sequence_of sequence) }
+{
+    let Sequence { first, .. } = sequence;
+    first
 }
 
-fn bits_of(variables: &[u8], variable: VarId) -> u8 {
-    let index = variable.0 as usize;
-    if index < variables.len() {
-        variables[index]
+fn first_block(side: Option<Sequence>) -> Option<BasicBlock>
+    ensures { option_map block_of result ≡ spec.first_block (side_of (option_map sequence_of side)) }
+{
+    match side {
+        Some(Sequence { first, .. }) => Some(first),
+        None => None,
+    }
+}
+
+fn are_only(yes: &Option<Sequence>, no: &Option<Sequence>, convertible: bool) -> bool
+    ensures { result ≡ (convertible && (spec.is_only_side (side_of (option_map sequence_of yes.now)) && spec.is_only_side (side_of (option_map sequence_of no.now)))) }
+{
+    convertible && is_only_side(yes) && is_only_side(no)
+}
+
+fn found_fork(
+    test: Operand,
+    yes: Option<Sequence>,
+    no: Option<Sequence>,
+    convertible: bool,
+) -> Found
+    ensures { Finds result (spec.forked test (side_of (option_map sequence_of yes)) (side_of (option_map sequence_of no)) convertible) (fork (side_of (option_map sequence_of yes)) (side_of (option_map sequence_of no)) convertible) }
+{
+    if are_only(&yes, &no, convertible) {
+        Found::Branches(Branches {
+            test,
+            yes: first_block(yes),
+            no: first_block(no),
+        })
     } else {
-        64
+        Found::Shape(Shape::Fork {
+            yes,
+            no,
+            convertible,
+        })
     }
 }
 
-/// The variable holds one operand where the test is 1 and the other where it is 0.
-fn select(
-    scope: Scope<'_>,
-    open: &mut Open,
-    variable: VarId,
-    args: [Operand; 3],
-) -> Result<Operand, AllocError> {
-    let bits = bits_of(scope.variables, variable);
-    open.operation(scope.alloc, OpKind::Select, bits, &args)
-}
-
-/// The selects of the variables that the branch for 1 sets.
-fn select_yes(
-    scope: Scope<'_>,
-    open: &mut Open,
-    test: Operand,
-    yes: &[Out],
-    no: &[Out],
-) -> Result<(), AllocError> {
-    let others = as_map(scope.alloc, no)?;
-    for out in yes {
-        let other = match others.get(&out.variable) {
-            Some(value) => *value,
-            None => open.read(out.variable),
-        };
-        let value = select(scope, open, out.variable, [test, out.value, other])?;
-        open.set(out.variable, value)?;
+/// What stands behind a block with this exit.
+pub fn found_behind(exit: &Exit, shape: Shape) -> Found
+    ensures { Finds result (spec.branches_of (exit_of exit.now) (shape_of shape)) (shape_of shape) }
+{
+    match test_of(exit) {
+        Some(test) => match shape {
+            Shape::Fork {
+                yes,
+                no,
+                convertible,
+            } => found_fork(test, yes, no, convertible),
+            shape => Found::Shape(shape),
+        },
+        None => Found::Shape(shape),
     }
-    Ok(())
-}
-
-/// The selects of the variables that only the branch for 0 sets.
-fn select_no(
-    scope: Scope<'_>,
-    open: &mut Open,
-    test: Operand,
-    yes: &[Out],
-    no: &[Out],
-) -> Result<(), AllocError> {
-    let others = as_map(scope.alloc, yes)?;
-    for out in no {
-        if others.get(&out.variable).is_none() {
-            let other = open.read(out.variable);
-            let value = select(scope, open, out.variable, [test, other, out.value])?;
-            open.set(out.variable, value)?;
-        }
-    }
-    Ok(())
-}
-
-/// Adds both branches and a select for each variable that one of them sets, in the order in which the branches list them.
-pub fn merge(scope: Scope<'_>, open: &mut Open, branches: Branches) -> Result<(), AllocError> {
-    let Branches { yes, no } = branches;
-    let Some(test) = open.test() else {
-        return Err(impossible());
-    };
-    let yes = join_side(scope, open, Side::new(scope.alloc, test, true), yes)?;
-    let no = join_side(scope, open, Side::new(scope.alloc, test, false), no)?;
-    select_yes(scope, open, test, yes.as_slice(), no.as_slice())?;
-    select_no(scope, open, test, yes.as_slice(), no.as_slice())
 }

@@ -3,6 +3,8 @@
 
 pub mod convert;
 mod fork;
+mod joining;
 mod line;
-mod open;
+mod merging;
+mod outs;
 mod overlap;

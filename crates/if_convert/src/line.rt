@@ -1,39 +1,134 @@
 //! A row of blocks with shapes between them, while it grows.
+ghost use Rattle.std.specs.Prelude.{◌≡◌, IfOk, ◌∷◌, [], map};
+ghost use Rattle.block_meaning.specs.Trees.{sequence_of, shape_of, block_of, SequenceTree, sequence, PartTrees, no_part};
+ghost use Rattle.conversion.specs.Merging.{joined, merged};
+ghost use Rattle.conversion.specs.Conversion.{part_before, converted_behind};
+ghost use Rattle.if_convert.specs.Blocks.{open_of, branches_of, scope_of, last_of, before_last, behind_shape};
 
-use crate::open::Open;
-use hls_base::refusal::impossible;
-use ir_core::tree::{BasicBlock, Part, Sequence, Shape};
+use crate::fork::{Found, found_behind};
+use crate::merging::{Branches, Open, Scope};
+use ir_core::tree::{BasicBlock, Exit, Part, Sequence, Shape};
 use std::alloc::{AllocError, Global};
 
-/// Nothing, one block that is open, or an open block behind others and a shape. The first block is not there before shapes that nothing leads to.
+/// A block that is open, or one behind others and a shape.
 #[derive(Drop)]
 pub enum Line {
-    Nothing,
     Single(Open),
     Behind {
-        first: Option<BasicBlock>,
+        first: BasicBlock,
         rest: Vec<Part>,
         shape: Shape,
         last: Open,
     },
 }
 
-/// A row of which each block is closed.
-#[derive(Drop)]
-pub struct Closed {
-    pub first: Option<BasicBlock>,
-    pub rest: Vec<Part>,
+impl Line {
+    ghost use Rattle.std.specs.Prelude.{◌≡◌};
+    ghost use Rattle.block_meaning.specs.Trees.{exit_of};
+    ghost use Rattle.if_convert.specs.Blocks.{last_of};
+
+    /// How the open block is left.
+    pub fn exit(&self) -> &Exit
+        ensures { exit_of result.now ≡ (last_of self.now).exit }
+    {
+        match self {
+            Line::Single(last) => &last.exit,
+            Line::Behind { last, .. } => &last.exit,
+        }
+    }
+}
+
+/// Goes on by a shape and the block behind it.
+fn extend_by(alloc: Global, line: Line, shape: Shape, last: Open) -> Result<Line, AllocError>
+    ensures last { IfOk result (λ extended. last_of extended ≡ open_of last) }
+    ensures before { (s : SequenceTree) → IfOk result (λ extended. before_last extended s ≡ before_last line (sequence (last_of line) (part_before (shape_of shape) s))) }
+{
+    match line {
+        Line::Single(open) => Ok(Line::Behind {
+            first: open.finish(alloc)?,
+            rest: Vec::new(alloc),
+            shape,
+            last,
+        }),
+        Line::Behind {
+            first,
+            mut rest,
+            shape: before,
+            last: open,
+        } => {
+            let after = open.finish(alloc)?;
+            rest.push(Part {
+                shape: before,
+                after,
+            })?;
+            Ok(Line::Behind {
+                first,
+                rest,
+                shape,
+                last,
+            })
+        }
+    }
+}
+
+/// Merges a fork and the block behind it into the open block.
+fn merged(
+    scope: Scope<'_>,
+    line: Line,
+    branches: Branches,
+    after: BasicBlock,
+) -> Result<Line, AllocError>
+    ensures last { IfOk result (λ gone. last_of gone ≡ joined scope.entry.variables.now (merged scope.entry.variables.now (last_of line) (branches_of branches)) (block_of after)) }
+    ensures before { (s : SequenceTree) → IfOk result (λ gone. before_last gone s ≡ before_last line s) }
+{
+    match line {
+        Line::Single(last) => {
+            let last = last.merge(scope, branches)?;
+            Ok(Line::Single(last.join(scope, after)?))
+        }
+        Line::Behind {
+            first,
+            rest,
+            shape,
+            last,
+        } => {
+            let last = last.merge(scope, branches)?;
+            let last = last.join(scope, after)?;
+            Ok(Line::Behind {
+                first,
+                rest,
+                shape,
+                last,
+            })
+        }
+    }
+}
+
+/// Goes on by a converted shape and the block behind it.
+pub fn go_on(
+    scope: Scope<'_>,
+    line: Line,
+    shape: Shape,
+    after: BasicBlock,
+) -> Result<Line, AllocError>
+    ensures { (more : PartTrees) → IfOk result (λ gone. before_last gone (converted_behind (scope_of scope.entry) (last_of gone) more) ≡ before_last line (behind_shape (scope_of scope.entry) (last_of line) (shape_of shape) (block_of after) more)) }
+{
+    match found_behind(line.exit(), shape) {
+        Found::Branches(branches) => merged(scope, line, branches, after),
+        Found::Shape(shape) => {
+            let last = Open::new(scope.alloc, after)?;
+            extend_by(scope.alloc, line, shape, last)
+        }
+    }
 }
 
 /// Closes the last block.
-pub fn close(alloc: Global, line: Line) -> Result<Closed, AllocError> {
+pub fn close(alloc: Global, line: Line) -> Result<Sequence, AllocError>
+    ensures { IfOk result (λ closed. sequence_of closed ≡ before_last line (sequence (last_of line) no_part)) }
+{
     match line {
-        Line::Nothing => Ok(Closed {
-            first: None,
-            rest: Vec::new(alloc),
-        }),
-        Line::Single(last) => Ok(Closed {
-            first: Some(last.finish(alloc)?),
+        Line::Single(last) => Ok(Sequence {
+            first: last.finish(alloc)?,
             rest: Vec::new(alloc),
         }),
         Line::Behind {
@@ -44,36 +139,7 @@ pub fn close(alloc: Global, line: Line) -> Result<Closed, AllocError> {
         } => {
             let after = last.finish(alloc)?;
             rest.push(Part { shape, after })?;
-            Ok(Closed { first, rest })
+            Ok(Sequence { first, rest })
         }
-    }
-}
-
-/// Goes on by a shape and the block behind it.
-pub fn extend_by(alloc: Global, line: Line, shape: Shape, last: Open) -> Result<Line, AllocError> {
-    let Closed { first, rest } = close(alloc, line)?;
-    Ok(Line::Behind {
-        first,
-        rest,
-        shape,
-        last,
-    })
-}
-
-/// The parts of a row without a first block.
-pub fn parts_of(alloc: Global, line: Line) -> Result<Vec<Part>, AllocError> {
-    let Closed { first, rest } = close(alloc, line)?;
-    match first {
-        None => Ok(rest),
-        Some(_) => Err(impossible()),
-    }
-}
-
-/// The row with its first block.
-pub fn sequence_of(alloc: Global, line: Line) -> Result<Sequence, AllocError> {
-    let Closed { first, rest } = close(alloc, line)?;
-    match first {
-        Some(first) => Ok(Sequence { first, rest }),
-        None => Err(impossible()),
     }
 }

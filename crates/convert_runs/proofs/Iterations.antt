@@ -1,0 +1,189 @@
+-- An iteration of an overlapped loop does what the blocks of test and body do.
+use Rattle.std.proofs.Common.{◌≡◌, ◌∙◌, ℕ, zero, suc, Bool, true, false, ◌&&◌, not, refl, ap, ap₂, sym, arith, List, [], ◌∷◌, ◌++◌, map, length, Option, Some, None}
+use Rattle.std.specs.Prelude.{slice_get, ◌==◌, if◌then◌else◌, take, drop}
+use Rattle.std.specs.Option.{option_map}
+use Rattle.std.proofs.lemmas.Bool.{eqb-true}
+use Rattle.hls_base.specs.declared.point.Point.{Point}
+use Rattle.ir_core.specs.declared.body.Operand.{Operand}
+use Rattle.ir_core.specs.declared.body.Out.{Out}
+use Rattle.ir_core.specs.declared.body.Source.{Source}
+use Rattle.ir_core.specs.declared.body.Source.TheVariants as source
+use Rattle.run_steps.specs.Steps.{Ran, goes, then_, reached}
+use Rattle.run_steps.specs.Valued.{Valued, is, faulty, and_then, valued}
+use Rattle.block_meaning.specs.Bodies as b
+use Rattle.block_meaning.specs.Bodies.{OpTree, Shapes, Words, Ranged, word, operand, bits_in, operand_bits, first_bits, is_allowed, fault, fault_if, effect, perform, operations, with_word}
+use Rattle.block_meaning.specs.Trees.{next, branch, BlockTree, BodyTree}
+use Rattle.block_meaning.specs.TreeRuns.{Way, Turn, again, over, tested_by, tested, goes_round, iterated, iteration, block_left, is_taken, holds, way_of}
+use Rattle.conversion.specs.Outs as o
+use Rattle.conversion.specs.Outs.{is_set}
+use Rattle.conversion.specs.Merging.{opened, joined}
+use Rattle.conversion.specs.Overlapping as v
+use Rattle.conversion.specs.Overlapping.{is_test, carried_from, carried, carried_op, carried_out}
+use Rattle.convert_runs.specs.Typed.{BlockIsTyped, Fits}
+use Rattle.convert_runs.specs.Blocks.{IsOpen, naked, turn_of_blocks}
+use Rattle.convert_runs.proofs.Opening.{opened_open}
+use Rattle.convert_runs.proofs.Behind.{ops_append}
+use Rattle.convert_runs.proofs.Rounds.{first_same, joined_goes, sound}
+
+-- ---- operands of the iteration before hold the same
+
+module _ (os : List Out) where
+  carried_value : (x : Operand) (s : Source) → x.value ≡ s → (carried_from os x s).value ≡ s
+  carried_value x (source.Constant c) e = e
+  carried_value x (source.Result i) e = e
+  carried_value x (source.Variable u) e = by (is_set os u) where
+    by : (c : Bool) → (if c then record x { distance = 1 } else x).value ≡ source.Variable u
+    by true = e
+    by false = e
+
+  pub carried_same : (x : Operand) → (carried os x).value ≡ x.value
+  carried_same x = carried_value x x.value refl
+
+  module _ (shapes : Shapes) where
+    args_same : (t : Words) (results : List ℕ) (xs : List Operand) → map (operand t results) (map (carried os) xs) ≡ map (operand t results) xs
+    args_same t results [] = refl
+    args_same t results (x ∷ xs) = ap₂ (λ a as_. a ∷ as_) (ap (word t results) (carried_same x)) (args_same t results xs)
+
+    guard_same : (t : Words) (results : List ℕ) (g : Option Operand) → is_allowed t results (option_map (carried os) g) ≡ is_allowed t results g
+    guard_same t results None = refl
+    guard_same t results (Some x) = ap (λ s. not (word t results s == 0)) (carried_same x)
+
+    bits_same : (ops : List OpTree) (i d : ℕ) → bits_in (slice_get (map (carried_op os) ops) i) d ≡ bits_in (slice_get ops i) d
+    bits_same [] i d = refl
+    bits_same (op ∷ ops) zero d = refl
+    bits_same (op ∷ ops) (suc i) d = bits_same ops i d
+
+    source_same : (widths : List ℕ) (ops : List OpTree) (d : ℕ) (s : Source) → operand_bits widths (map (carried_op os) ops) d s ≡ operand_bits widths ops d s
+    source_same widths ops d (source.Constant c) = refl
+    source_same widths ops d (source.Variable u) = refl
+    source_same widths ops d (source.Result i) = bits_same ops i.0 d
+
+    first_bits_same : (widths : List ℕ) (ops : List OpTree) (op : OpTree) (xs : List Operand) → first_bits widths (map (carried_op os) ops) (carried_op os op) (map (carried os) xs) ≡ first_bits widths ops op xs
+    first_bits_same widths ops op [] = refl
+    first_bits_same widths ops op (x ∷ xs) = ap (operand_bits widths (map (carried_op os) ops) op.bits) (carried_same x) ∙ source_same widths ops op.bits x.value
+
+    perform_same : (ops : List OpTree) (op : OpTree) (results : List ℕ) (t : Words) → perform shapes (map (carried_op os) ops) (carried_op os op) results t ≡ perform shapes ops op results t
+    perform_same ops op results t =
+        let a = args_same t results op.args in
+        let g = guard_same t results op.guard in
+        let f = first_bits_same shapes.widths ops op op.args in
+        λ i. fault_if (g i) op.flag (fault shapes op (a i)) (effect shapes op op.kind (g i) (f i) (a i) t)
+
+    pub ops_same : (ops xs : List OpTree) (results : List ℕ) (t : Words) → operations shapes (map (carried_op os) ops) (map (carried_op os) xs) results t ≡ operations shapes ops xs results t
+    ops_same ops [] results t = refl
+    ops_same ops (x ∷ xs) results t = λ i. and_then (perform_same ops x results t i) (λ p. ops_same ops xs (results ++ p.result ∷ []) p.words i)
+
+  pub outs_same : (xs : List Out) (t : Words) (results : List ℕ) (f : ℕ → ℕ) → b.outs (map (carried_out os) xs) t results f ≡ b.outs xs t results f
+  outs_same [] t results f = refl
+  outs_same (x ∷ xs) t results f = ap (λ s. b.outs (map (carried_out os) xs) t results (with_word f x.variable.0 (word t results s))) (carried_same x.value) ∙ outs_same xs t results (with_word f x.variable.0 (operand t results x.value))
+
+-- ---- the first operations, and the others
+
+take_first : {A B : Type 0} (f : A → B) (xs ys : List A) → take (length xs) (map f (xs ++ ys)) ≡ map f xs
+take_first f [] ys = refl
+take_first f (x ∷ xs) ys = ap (λ l. f x ∷ l) (take_first f xs ys)
+
+drop_first : {A B : Type 0} (f : A → B) (xs ys : List A) → drop (length xs) (map f (xs ++ ys)) ≡ map f ys
+drop_first f [] ys = refl
+drop_first f (x ∷ xs) ys = drop_first f xs ys
+
+both_true : (x y : Bool) → (x && y) ≡ true → (x ≡ true) × (y ≡ true)
+both_true true y e = (refl, e)
+both_true false y e = absurd cc
+
+no_outs : (xs : List Out) → (length xs == 0) ≡ true → xs ≡ []
+no_outs [] e = refl
+no_outs (x ∷ xs) e = let h = eqb-true (length (x ∷ xs)) 0 e in absurd (omega (arith, h))
+
+module _ (shapes : Shapes) (words : List ℕ) (head body : BlockTree) (test : Operand) (h : BlockIsTyped shapes.widths words head) (k : BlockIsTyped shapes.widths words body) (exit_ : head.exit ≡ branch test) (tests : is_test head test ≡ true) (on_ : body.exit ≡ next)
+    (point : Point) (t : Words) (fits : Fits shapes.widths words t) where
+  abbrev first : BlockTree
+  first = opened head
+
+  abbrev whole : BlockTree
+  whole = joined shapes.widths first body
+
+  abbrev made : BodyTree
+  made = v.iteration test whole
+
+  is_open : IsOpen shapes.widths words first
+  is_open = opened_open shapes.widths words head h
+
+  none : head.outs ≡ []
+  none = no_outs head.outs (both_true (length head.outs == 0) (tested_by test.value == length head.ops) tests).0
+
+  known : tested_by test.value ≡ length head.ops
+  known = eqb-true (tested_by test.value) (length head.ops) (both_true (length head.outs == 0) (tested_by test.value == length head.ops) tests).1
+
+  begins_sound : (more_ : List OpTree) × (whole.ops ≡ first.ops ++ more_)
+  begins_sound = (sound shapes words first body is_open k t fits).begins
+
+  abbrev more : List OpTree
+  more = begins_sound.0
+
+  abbrev begins_ops : whole.ops ≡ first.ops ++ more
+  begins_ops = begins_sound.1
+
+  known_behind : tested (Some (carried whole.outs test)) ≡ length head.ops
+  known_behind = ap tested_by (carried_same whole.outs test) ∙ known
+
+  taken_ops : take (tested (Some (carried whole.outs test))) (map (carried_op whole.outs) whole.ops) ≡ map (carried_op whole.outs) head.ops
+  taken_ops = ap₂ (λ n l. take n (map (carried_op whole.outs) l)) known_behind begins_ops ∙ take_first (carried_op whole.outs) head.ops more
+
+  dropped_ops : drop (tested (Some (carried whole.outs test))) (map (carried_op whole.outs) whole.ops) ≡ map (carried_op whole.outs) more
+  dropped_ops = ap₂ (λ n l. drop n (map (carried_op whole.outs) l)) known_behind begins_ops ∙ drop_first (carried_op whole.outs) head.ops more
+
+  -- the test's operations run as they did
+  first_ran : operations shapes (map (carried_op whole.outs) whole.ops) (take (tested (Some (carried whole.outs test))) (map (carried_op whole.outs) whole.ops)) [] t ≡ operations shapes head.ops head.ops [] t
+  first_ran =
+      ap (λ l. operations shapes (map (carried_op whole.outs) whole.ops) l [] t) taken_ops ∙ ops_same whole.outs shapes whole.ops head.ops [] t
+      ∙ sym (first_same shapes words first body is_open k t fits)
+
+  abbrev behind_ : Ranged → Words → ℕ → Ran Words Turn
+  behind_ r t1 n1 = if goes_round (Some (carried whole.outs test)) r.words r.results then reached point (iterated shapes made r) r.words n1 else goes over r.words n1
+
+  -- what follows the test
+  module _ (r : Ranged) (ran_ : operations shapes head.ops head.ops [] t ≡ is r) where
+    round_test : goes_round (Some (carried whole.outs test)) r.words r.results ≡ holds r.words r.results test
+    round_test = ap (λ s. not (word r.words r.results s == 0)) (carried_same whole.outs test)
+
+    left_same : b.with_outs head.outs r ≡ r.words
+    left_same = ap (λ l. b.with_outs l r) none
+
+    first_left : b.with_outs first.outs r ≡ r.words
+    first_left = ap (λ l. b.with_outs (o.with_outs [] l) r) none
+
+    rest_ran : operations shapes (map (carried_op whole.outs) whole.ops) (drop (tested (Some (carried whole.outs test))) (map (carried_op whole.outs) whole.ops)) r.results r.words ≡ operations shapes whole.ops whole.ops [] t
+    rest_ran =
+        ap (λ l. operations shapes (map (carried_op whole.outs) whole.ops) l r.results r.words) dropped_ops ∙ ops_same whole.outs shapes whole.ops more r.results r.words
+        ∙ sym (ap (λ l. operations shapes whole.ops l [] t) begins_ops ∙ ops_append shapes whole.ops head.ops more [] t
+        ∙ ap (λ (x : Valued Ranged). and_then x (λ q. operations shapes whole.ops more q.results q.words)) (sym (first_same shapes words first body is_open k t fits) ∙ ran_))
+
+    again_same : (x : Valued Ranged) (u : Words) (n : ℕ) → valued x (λ r1 t1 n1. goes again (b.with_outs (map (carried_out whole.outs) whole.outs) r1) n1) u n ≡ then_ (valued x (block_left whole) t n) (λ w t1 n1. goes again t1 n1)
+    again_same (is q) u n = ap (λ f. goes again (record q.words { variables = f }) n) (outs_same whole.outs whole.outs q.words q.results q.words.variables)
+    again_same (faulty rule at) u n = refl
+
+    body_same : (n : ℕ) → then_ (naked shapes body r.words n) (λ w t1 n1. goes again t1 n1) ≡ iterated shapes made r r.words n
+    body_same n =
+        ap (λ (x : Ran Words Way). then_ x (λ w t1 n1. goes again t1 n1)) (ap (λ u. naked shapes body u n) (sym first_left) ∙ joined_goes shapes words first body is_open k t fits r ran_ n)
+        ∙ sym (again_same (operations shapes whole.ops whole.ops [] t) r.words n)
+        ∙ sym (ap (λ (x : Valued Ranged). valued x (λ r1 t1 n1. goes again (b.with_outs (map (carried_out whole.outs) whole.outs) r1) n1) r.words n) rest_ran)
+
+    by_test : (c : Bool) (n : ℕ)
+        → (if c then reached point (λ t2 n2. then_ (naked shapes body t2 n2) (λ w3 t3 n3. goes again t3 n3)) (b.with_outs head.outs r) n else goes over (b.with_outs head.outs r) n)
+        ≡ (if c then reached point (iterated shapes made r) r.words n else goes over r.words n)
+    by_test true zero = refl
+    by_test true (suc n) = ap (λ (x : Ran Words Turn). ran_behind x) (ap (λ u. then_ (naked shapes body u n) (λ w3 t3 n3. goes again t3 n3)) left_same ∙ body_same n) where
+      ran_behind : Ran Words Turn → Ran Words Turn
+      ran_behind x = record { trace = point ∷ x.trace; outcome = x.outcome }
+    by_test false n = ap (λ u. goes over u n) left_same
+
+  pub round_same : (n : ℕ) → turn_of_blocks shapes head body point t n ≡ iteration shapes point made t n
+  round_same n = by (operations shapes head.ops head.ops [] t) refl ∙ sym (ap (λ (x : Valued Ranged). valued x behind_ t n) first_ran) where
+    by : (x : Valued Ranged) → operations shapes head.ops head.ops [] t ≡ x
+        → then_ (valued x (block_left head) t n) (λ w t1 n1. if is_taken w then reached point (λ t2 n2. then_ (naked shapes body t2 n2) (λ w3 t3 n3. goes again t3 n3)) t1 n1 else goes over t1 n1) ≡ valued x behind_ t n
+    by (faulty rule at) e = refl
+    by (is r) e =
+        ap (λ c. if is_taken c then reached point (λ t2 n2. then_ (naked shapes body t2 n2) (λ w3 t3 n3. goes again t3 n3)) (b.with_outs head.outs r) n else goes over (b.with_outs head.outs r) n) (ap (λ x. way_of x r.words r.results) exit_)
+        ∙ by_test r e (holds r.words r.results test) n
+        ∙ ap (λ c. if c then reached point (iterated shapes made r) r.words n else goes over r.words n) (sym (round_test r e))

@@ -1,0 +1,17 @@
+pub mod Following
+pub mod Sims
+pub mod Looping
+pub mod Lists
+pub mod Opening
+pub mod Fitting
+pub mod Joining
+pub mod Merged
+pub mod Behind
+pub mod Rounds
+pub mod Iterations
+pub mod Naked
+pub mod Finding
+pub mod Single
+pub mod Trees
+pub mod Whole
+pub mod Forks
