@@ -1,0 +1,17 @@
+pub mod Growing
+pub mod Adding
+pub mod Converting
+pub mod Guarding
+pub mod Operating
+pub mod Joining
+pub mod Showing
+pub mod Emitting
+pub mod Values
+pub mod Straight
+pub mod Storing
+pub mod Writing
+pub mod Whole
+pub mod Remainders
+pub mod Conversions
+pub mod Resizing
+pub mod Operators
