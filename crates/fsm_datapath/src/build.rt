@@ -4,9 +4,11 @@ ghost use Rattle.rtl_core.specs.Netlist.{netlist_of};
 ghost use Rattle.rtl_core.specs.Valid.{IsValid};
 ghost use Rattle.host_pins.specs.FramePins.{interface_of, module_name};
 
-use crate::circuit::Circuit;
-use crate::control::{Control, set_control};
+use crate::host::shown;
+use crate::memories::add_memories;
 use clock_ir::timed::Timed;
+use fsm_control::control::{Control, set_control};
+use fsm_values::circuit::Circuit;
 use hls_base::refusal::impossible;
 use hls_base::settings::Units;
 use host_pins::pins::{Shown, inputs_of, name_of_module, outputs_of};
@@ -66,7 +68,7 @@ fn add_datapath(
     let origins = circuit.collect()?;
     circuit.set_exits()?;
     circuit.units.add_units(circuit.alloc, &mut circuit.logic)?;
-    circuit.add_memories()?;
+    add_memories(circuit)?;
     circuit.write_beginnings()?;
     circuit.write_places(registers, &origins)?;
     circuit.write_nodes(ret, &origins)?;
@@ -89,7 +91,7 @@ fn add_outputs(circuit: &mut Circuit<'_>, ret: Option<Atom>) -> Result<(), Alloc
     let shown = Shown {
         ready: circuit.control.ready,
         done: circuit.control.done,
-        element: circuit.shown()?,
+        element: shown(circuit)?,
         result: ret.unwrap_or(constant(1, 0)),
     };
     let outputs = outputs_of(circuit.alloc, &circuit.cfg.frame, shown)?;

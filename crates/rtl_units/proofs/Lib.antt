@@ -1,1 +1,4 @@
+mod Divisions
+mod Edge
+mod Products
 mod WiresFrom

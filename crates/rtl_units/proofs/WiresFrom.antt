@@ -1,6 +1,6 @@
 -- The words at a memory's ports, one after another.
 use Rattle.std.proofs.Common.{◌≡◌, ◌<◌, ℕ, zero, suc, ◌+◌, List, [], ◌∷◌, ◌++◌, length, take, get_or, refl, sym, ap, ◌∙◌, arith}
-use Rattle.std.proofs.lemmas.List.{take_more, map-append, length-map, length-take-le}
+use Rattle.std.proofs.lemmas.List.{take_more, map-append}
 use Rattle.rtl_core.specs.declared.design.Atom.{Atom}
 use Rattle.rtl_core.specs.declared.design.Atom.TheVariants as atom
 use Rattle.rtl_core.specs.declared.design.Wire.{Wire}
@@ -18,10 +18,10 @@ more_ports m bits ports d i old new h e f =
     f ∙ (ap (λ l. l ++ (port_wire m bits (get_or ports i d) ∷ [])) e
     ∙ (sym (map-append (port_wire m bits) (take i ports) (get_or ports i d ∷ [])) ∙ ap (port_wires m bits) (sym (take_more ports i d h))))
 
-pub more_words : (m bits w : ℕ) (ports : List Port) (i : ℕ) (a : Atom) (first : ℕ) (wires : List Wire) (old new : List Atom) → i < length ports → first ≡ w
-    → wires ≡ port_wires m bits (take i ports) → a ≡ atom.Wire (first + length wires) → old ≡ wires_from w i → new ≡ old ++ (a ∷ []) → new ≡ wires_from w (i + 1)
-more_words m bits w ports i a first wires old new h same e is f g =
-    let count : length wires ≡ i = ap length e ∙ (length-map (take i ports) (port_wire m bits) ∙ length-take-le i ports (omega (arith, h))) in
-    let place : first + length wires ≡ w + i = omega (arith, same, count) in
-    let next : suc i ≡ i + 1 = omega arith in
-    g ∙ (ap (λ l. l ++ (a ∷ [])) f ∙ (ap (λ x. wires_from w i ++ (x ∷ [])) (is ∙ ap (λ k. atom.Wire k) place) ∙ (sym (one_more w i) ∙ ap (wires_from w) next)))
+pub more_words : (w i next : ℕ) (a : Atom) (old new : List Atom) → next ≡ w + i → a ≡ atom.Wire next → old ≡ wires_from w i → new ≡ old ++ (a ∷ []) → new ≡ wires_from w (i + 1)
+more_words w i next a old new place is f g =
+    let up : suc i ≡ i + 1 = omega arith in
+    g ∙ (ap (λ l. l ++ (a ∷ [])) f ∙ (ap (λ x. wires_from w i ++ (x ∷ [])) (is ∙ ap (λ k. atom.Wire k) place) ∙ (sym (one_more w i) ∙ ap (wires_from w) up)))
+
+pub next_up : (w i next after : ℕ) → next ≡ w + i → after ≡ next + 1 → after ≡ w + (i + 1)
+next_up w i next after e f = omega (arith, e, f)

@@ -9,8 +9,6 @@ use Rattle.rtl_core.specs.declared.design.Wire.{Wire}
 use Rattle.rtl_core.specs.declared.design.Reg.{Reg}
 use Rattle.rtl_core.specs.declared.design.Port.{Port}
 use Rattle.rtl_core.specs.Netlist.{Netlist, Memory}
-use Rattle.rtl_units.specs.declared.builder.Fragment.{Fragment}
-use Rattle.rtl_units.specs.declared.builder.Fragment.TheVariants as fragment
 
 -- a circuit to which registers, memories and wires are appended
 abbrev pub grown : Netlist → List Reg → List Memory → List Wire → Netlist
@@ -52,16 +50,10 @@ abbrev pub wires_from : ℕ → ℕ → List Atom
 wires_from w zero = []
 wires_from w (suc n) = atom.Wire w ∷ wires_from (suc w) n
 
--- The circuit after a fragment was added. What stands before stays as it is, and only a store appends a memory.
-abbrev pub Grows : Netlist → Fragment → Netlist → Type 0
-Grows d (fragment.Store bits depth_log ports) e = e ≡ grown d [] (memory_with bits depth_log ports.items ∷ []) (port_wires (length d.mems) bits ports.items)
-Grows d (fragment.Table bits words addr) e = (wires : List Wire) × (e ≡ grown d [] [] wires)
-Grows d (fragment.Multiplier bits left right) e = e ≡ grown d (multiplier_registers (length d.wires) bits left right) [] (multiplier_wires (length d.regs) bits)
-Grows d (fragment.Divider bits signed start left right) e = (regs : List Reg) × (wires : List Wire) × (e ≡ grown d regs [] wires)
+abbrev pub zero_of : ℕ → Atom
+zero_of bits = atom.Constant bits 0
 
--- the atoms that show what a fragment gives, where they are registers and wires that it appends in any case
-abbrev pub Shows : Netlist → Fragment → List Atom → Type 0
-Shows d (fragment.Store bits depth_log ports) atoms = atoms ≡ wires_from (length d.wires) (length ports.items)
-Shows d (fragment.Table bits words addr) atoms = length atoms ≡ 1
-Shows d (fragment.Multiplier bits left right) atoms = atoms ≡ atom.Reg (length d.regs + 2) ∷ []
-Shows d (fragment.Divider bits signed start left right) atoms = length atoms ≡ 2
+-- the number so many places further, counted one by one
+abbrev pub up : ℕ → ℕ → ℕ
+up zero n = n
+up (suc k) n = up k (n + 1)

@@ -1,1 +1,4 @@
 pub mod Fragments
+pub mod Division
+pub mod Growing
+pub mod Products

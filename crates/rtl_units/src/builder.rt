@@ -1,8 +1,9 @@
 ghost use Rattle.std.specs.Prelude.{◌≡◌, ◌+◌, List, IfOk, OnOk, OnErr, [], ◌∷◌, ◌++◌, length};
-ghost use Rattle.rtl_core.specs.declared.design.Reg.{Reg};
 ghost use Rattle.rtl_core.specs.declared.design.Wire.{Wire};
 ghost use Rattle.rtl_core.specs.Netlist.{netlist_of, memory_of};
-ghost use Rattle.rtl_units.specs.Fragments.{grown, empty, port_wire, port_wires, wires_from, multiplier_registers, multiplier_wires, Grows, Shows};
+ghost use Rattle.rtl_units.specs.Fragments.{grown, empty, port_wire, port_wires, wires_from, multiplier_registers, multiplier_wires};
+ghost use Rattle.rtl_units.specs.Growing.{Grows, Shows};
+ghost use Rattle.rtl_units.specs.Division.{divider_registers, divider_wires, quotient_atom, remainder_atom};
 
 use crate::divider::{Division, divider};
 use crate::draft::Draft;
@@ -145,15 +146,18 @@ impl Builder {
     }
 
     fn add_divider(&mut self, alloc: Global, division: Division) -> Result<Pins, AllocError>
-        ensures grown { OnOk result ((regs : List Reg) × (wires : List Wire) × (netlist_of self.new.design ≡ grown (netlist_of self.old.design) regs [] wires)) }
-        ensures atoms { IfOk result (λ p. length p.atoms.items ≡ 2) }
+        ensures grown { let r = length self.old.design.regs.items in let n = length self.old.design.wires.items in
+            OnOk result (netlist_of self.new.design ≡ grown (netlist_of self.old.design) (divider_registers n division) [] (divider_wires r n division)) }
+        ensures atoms { let r = length self.old.design.regs.items in let n = length self.old.design.wires.items in
+            IfOk result (λ p. p.atoms.items ≡ quotient_atom r n division ∷ remainder_atom r n division ∷ []) }
         ensures unchanged { OnErr result (netlist_of self.new.design ≡ netlist_of self.old.design) }
     {
         let mut draft = Draft::new(alloc, &self.design);
         let (quotient, remainder) = divider(&mut draft, division)?;
         let mut pins = pins_of_one(alloc, quotient)?;
         pins.atoms.push(remainder)?;
-        self.append(draft, pins)
+        let shown = self.append(draft, pins)?;
+        Ok(shown)
     }
 
     /// Appends what was drafted, or leaves the design as it is.
@@ -202,11 +206,11 @@ fn pins_of_one(alloc: Global, atom: Atom) -> Result<Pins, AllocError>
 
 /// The word at a port's address.
 fn word_at(draft: &mut Draft, number: u32, bits: u8, port: Port) -> Result<Atom, AllocError>
-    ensures atom { IfOk result (λ a. a ≡ Atom.Wire (draft.old.first_wire + length draft.old.wires.items)) }
+    ensures atom { IfOk result (λ a. a ≡ Atom.Wire draft.old.next_wire) }
     ensures wires { OnOk result (draft.new.wires.items ≡ draft.old.wires.items ++ port_wire number bits port ∷ []) }
     ensures regs { draft.new.regs.items ≡ draft.old.regs.items }
     ensures first_reg { draft.new.first_reg ≡ draft.old.first_reg }
-    ensures first_wire { draft.new.first_wire ≡ draft.old.first_wire }
+    ensures next_wire { OnOk result (draft.new.next_wire ≡ draft.old.next_wire + 1) }
 {
     let addr = port.addr;
     draft.wire(bits, Net::Word { mem: number, addr })
@@ -223,7 +227,7 @@ fn words_at_ports(
     requires no_wires { draft.old.wires.items ≡ [] }
     ensures regs { draft.new.regs.items ≡ draft.old.regs.items }
     ensures wires { OnOk result (draft.new.wires.items ≡ port_wires number bits ports.now) }
-    ensures atoms { IfOk result (λ p. p.atoms.items ≡ wires_from draft.old.first_wire (length ports.now)) }
+    ensures atoms { IfOk result (λ p. p.atoms.items ≡ wires_from draft.old.next_wire (length ports.now)) }
 {
     let mut atoms = Vec::with_capacity(alloc, ports.len())?;
     for port in ports {

@@ -1,4 +1,8 @@
 //! A restoring divider: in the cycle of its start it takes the absolute values of its operands, and then one bit of the quotient in each cycle.
+ghost use Rattle.std.specs.Prelude.{◌≡◌, ◌+◌, [], ◌++◌, IfOk, OnOk};
+ghost use Rattle.rtl_units.specs.Fragments.{up};
+ghost use Rattle.rtl_units.specs.Division as spec;
+
 use crate::draft::{Draft, zero};
 use rtl_core::design::{Atom, Net, Pair};
 use std::alloc::AllocError;
@@ -33,6 +37,14 @@ struct State {
     remainder_negative: Atom,
 }
 
+/// The remainder with the next bit of the dividend, this less the divisor, and whether that leaves a borrow.
+#[derive(Clone, Copy, Debug, PartialEq, Eq)]
+struct Subtraction {
+    trial: Atom,
+    difference: Atom,
+    borrow: Atom,
+}
+
 /// The values after one step.
 #[derive(Clone, Copy, Debug, PartialEq, Eq)]
 struct Step {
@@ -41,22 +53,52 @@ struct Step {
 }
 
 /// The quotient and the remainder. They stay as they are from the cycle after the last step on.
-pub fn divider(draft: &mut Draft, division: Division) -> Result<(Atom, Atom), AllocError> {
-    let state = State {
-        steps: draft.reg(0),
-        dividend: draft.reg(1),
-        remainder: draft.reg(2),
-        divisor: draft.reg(3),
-        quotient_negative: draft.reg(4),
-        remainder_negative: draft.reg(5),
+pub fn divider(draft: &mut Draft, division: Division) -> Result<(Atom, Atom), AllocError>
+    requires no_regs { draft.old.regs.items ≡ [] }
+    requires no_wires { draft.old.wires.items ≡ [] }
+    ensures atoms { IfOk result (λ a. (a.0 ≡ spec.quotient_atom draft.old.first_reg draft.old.next_wire division) × (a.1 ≡ spec.remainder_atom draft.old.first_reg draft.old.next_wire division)) }
+    ensures wires { OnOk result (draft.new.wires.items ≡ spec.divider_wires draft.old.first_reg draft.old.next_wire division) }
+    ensures regs { OnOk result (draft.new.regs.items ≡ spec.divider_registers draft.old.next_wire division) }
+{
+    if is_zero(division.signed) {
+        unsigned_divider(draft, division)
+    } else {
+        signed_divider(draft, division)
+    }
+}
+
+fn unsigned_divider(draft: &mut Draft, division: Division) -> Result<(Atom, Atom), AllocError>
+    requires no_regs { draft.old.regs.items ≡ [] }
+    requires no_wires { draft.old.wires.items ≡ [] }
+    ensures atoms { IfOk result (λ a. (a.0 ≡ Atom.Reg (draft.old.first_reg + 1)) × (a.1 ≡ Atom.Reg (draft.old.first_reg + 2))) }
+    ensures wires { OnOk result (draft.new.wires.items ≡ spec.unsigned_wires draft.old.first_reg draft.old.next_wire division) }
+    ensures regs { OnOk result (draft.new.regs.items ≡ spec.unsigned_registers draft.old.next_wire division) }
+{
+    let state = state_of(draft);
+    let taken = Taken {
+        left: division.left,
+        right: division.right,
+        quotient_negative: zero(1),
+        remainder_negative: zero(1),
     };
+    let step = take_step(draft, division.bits, state)?;
+    set_work(draft, division, state, taken, step)?;
+    draft.register(division.bits, division.start, division.right)?;
+    Ok((state.dividend, state.remainder))
+}
+
+fn signed_divider(draft: &mut Draft, division: Division) -> Result<(Atom, Atom), AllocError>
+    requires no_regs { draft.old.regs.items ≡ [] }
+    requires no_wires { draft.old.wires.items ≡ [] }
+    ensures atoms { IfOk result (λ a. (a.0 ≡ Atom.Wire (up 30 draft.old.next_wire)) × (a.1 ≡ Atom.Wire (up 32 draft.old.next_wire))) }
+    ensures wires { OnOk result (draft.new.wires.items ≡ spec.signed_wires draft.old.first_reg draft.old.next_wire division) }
+    ensures regs { OnOk result (draft.new.regs.items ≡ spec.signed_registers draft.old.next_wire division) }
+{
+    let state = state_of(draft);
     let taken = take(draft, division)?;
     let step = take_step(draft, division.bits, state)?;
     set_work(draft, division, state, taken, step)?;
     draft.register(division.bits, division.start, taken.right)?;
-    if is_zero(division.signed) {
-        return Ok((state.dividend, state.remainder));
-    }
     draft.register(1, division.start, taken.quotient_negative)?;
     draft.register(1, division.start, taken.remainder_negative)?;
     let quotient = negated(
@@ -74,58 +116,122 @@ pub fn divider(draft: &mut Draft, division: Division) -> Result<(Atom, Atom), Al
     Ok((quotient, remainder))
 }
 
-fn is_zero(atom: Atom) -> bool {
+fn state_of(draft: &Draft) -> State
+    ensures { result ≡ spec.state_at draft.now.first_reg }
+{
+    State {
+        steps: draft.reg(0),
+        dividend: draft.reg(1),
+        remainder: draft.reg(2),
+        divisor: draft.reg(3),
+        quotient_negative: draft.reg(4),
+        remainder_negative: draft.reg(5),
+    }
+}
+
+fn is_zero(atom: Atom) -> bool
+    ensures { result ≡ spec.is_unsigned atom }
+{
     matches!(atom, Atom::Constant { value: 0, .. })
 }
 
 /// The value, or its negative where the test is 1.
-fn negated(draft: &mut Draft, bits: u8, test: Atom, value: Atom) -> Result<Atom, AllocError> {
+fn negated(draft: &mut Draft, bits: u8, test: Atom, value: Atom) -> Result<Atom, AllocError>
+    ensures value { IfOk result (λ v. v ≡ Atom.Wire (up 1 draft.old.next_wire)) }
+    ensures wires { OnOk result (draft.new.wires.items ≡ draft.old.wires.items ++ spec.negated_wires draft.old.next_wire bits test value) }
+    ensures next_wire { OnOk result (draft.new.next_wire ≡ up 2 draft.old.next_wire) }
+    ensures regs { draft.new.regs.items ≡ draft.old.regs.items }
+    ensures first_reg { draft.new.first_reg ≡ draft.old.first_reg }
+{
     let negative = draft.wire(bits, Net::Two(Pair::Sub, zero(bits), value))?;
     draft.wire(bits, Net::Pick(test, negative, value))
 }
 
-/// The top bit of an atom. The atom gets a wire of its own, since no part is taken of a constant.
-fn top_bit(draft: &mut Draft, bits: u8, atom: Atom) -> Result<Atom, AllocError> {
-    let of = draft.wire(bits, Net::Copy(atom))?;
-    let top = bits.saturating_sub(1);
-    draft.wire(
+/// Whether the operand counts as negative. It gets a wire of its own, since no part is taken of a constant.
+fn sign(draft: &mut Draft, division: Division, operand: Atom) -> Result<Atom, AllocError>
+    ensures value { IfOk result (λ v. v ≡ Atom.Wire (up 2 draft.old.next_wire)) }
+    ensures wires { OnOk result (draft.new.wires.items ≡ draft.old.wires.items ++ spec.sign_wires draft.old.next_wire division.bits division.signed operand) }
+    ensures next_wire { OnOk result (draft.new.next_wire ≡ up 3 draft.old.next_wire) }
+    ensures regs { draft.new.regs.items ≡ draft.old.regs.items }
+    ensures first_reg { draft.new.first_reg ≡ draft.old.first_reg }
+{
+    let of = draft.wire(division.bits, Net::Copy(operand))?;
+    let high = division.bits.saturating_sub(1);
+    let top = draft.wire(
         1,
         Net::Part {
             of,
-            high: top,
-            low: top,
+            high,
+            low: high,
         },
-    )
-}
-
-/// Whether the operand counts as negative.
-fn sign(draft: &mut Draft, division: Division, operand: Atom) -> Result<Atom, AllocError> {
-    let top = top_bit(draft, division.bits, operand)?;
+    )?;
     draft.wire(1, Net::Two(Pair::And, division.signed, top))
 }
 
-fn take(draft: &mut Draft, division: Division) -> Result<Taken, AllocError> {
-    if is_zero(division.signed) {
-        return Ok(Taken {
-            left: division.left,
-            right: division.right,
-            quotient_negative: zero(1),
-            remainder_negative: zero(1),
-        });
-    }
-    let left_sign = sign(draft, division, division.left)?;
-    let right_sign = sign(draft, division, division.right)?;
+/// Whether the left and the right operand count as negative.
+fn signs(draft: &mut Draft, division: Division) -> Result<(Atom, Atom), AllocError>
+    ensures value { IfOk result (λ v. (v.0 ≡ Atom.Wire (up 2 draft.old.next_wire)) × (v.1 ≡ Atom.Wire (up 5 draft.old.next_wire))) }
+    ensures wires { OnOk result (draft.new.wires.items ≡ draft.old.wires.items ++ spec.signs_wires draft.old.next_wire division) }
+    ensures next_wire { OnOk result (draft.new.next_wire ≡ up 6 draft.old.next_wire) }
+    ensures regs { draft.new.regs.items ≡ draft.old.regs.items }
+    ensures first_reg { draft.new.first_reg ≡ draft.old.first_reg }
+{
+    let left = sign(draft, division, division.left)?;
+    let right = sign(draft, division, division.right)?;
+    Ok((left, right))
+}
+
+/// The absolute values of the operands.
+fn absolute(
+    draft: &mut Draft,
+    division: Division,
+    left_sign: Atom,
+    right_sign: Atom,
+) -> Result<(Atom, Atom), AllocError>
+    ensures value { IfOk result (λ v. (v.0 ≡ Atom.Wire (up 1 draft.old.next_wire)) × (v.1 ≡ Atom.Wire (up 3 draft.old.next_wire))) }
+    ensures wires { OnOk result (draft.new.wires.items ≡ draft.old.wires.items ++ spec.absolute_wires draft.old.next_wire division left_sign right_sign) }
+    ensures next_wire { OnOk result (draft.new.next_wire ≡ up 4 draft.old.next_wire) }
+    ensures regs { draft.new.regs.items ≡ draft.old.regs.items }
+    ensures first_reg { draft.new.first_reg ≡ draft.old.first_reg }
+{
+    let left = negated(draft, division.bits, left_sign, division.left)?;
+    let right = negated(draft, division.bits, right_sign, division.right)?;
+    Ok((left, right))
+}
+
+fn take(draft: &mut Draft, division: Division) -> Result<Taken, AllocError>
+    ensures value { IfOk result (λ v. v ≡ spec.taken_at draft.old.next_wire) }
+    ensures wires { OnOk result (draft.new.wires.items ≡ draft.old.wires.items ++ spec.take_wires draft.old.next_wire division) }
+    ensures next_wire { OnOk result (draft.new.next_wire ≡ up 11 draft.old.next_wire) }
+    ensures regs { draft.new.regs.items ≡ draft.old.regs.items }
+    ensures first_reg { draft.new.first_reg ≡ draft.old.first_reg }
+{
+    let (left_sign, right_sign) = signs(draft, division)?;
+    let (left, right) = absolute(draft, division, left_sign, right_sign)?;
+    let quotient_negative = draft.wire(1, Net::Two(Pair::Xor, left_sign, right_sign))?;
     Ok(Taken {
-        left: negated(draft, division.bits, left_sign, division.left)?,
-        right: negated(draft, division.bits, right_sign, division.right)?,
-        quotient_negative: draft.wire(1, Net::Two(Pair::Xor, left_sign, right_sign))?,
+        left,
+        right,
+        quotient_negative,
         remainder_negative: left_sign,
     })
 }
 
-/// The remainder with the next bit of the dividend, less the divisor if that leaves no borrow.
-fn take_step(draft: &mut Draft, bits: u8, state: State) -> Result<Step, AllocError> {
-    let (wide, top) = (bits.saturating_add(1), bits.saturating_sub(1));
+fn wider(bits: u8) -> u8
+    ensures { result ≡ spec.wider bits }
+{
+    bits.saturating_add(1)
+}
+
+/// The remainder with the next bit of the dividend, this less the divisor, and whether that leaves a borrow.
+fn subtract(draft: &mut Draft, bits: u8, state: State) -> Result<Subtraction, AllocError>
+    ensures value { IfOk result (λ v. v ≡ spec.subtraction_at draft.old.next_wire) }
+    ensures wires { OnOk result (draft.new.wires.items ≡ draft.old.wires.items ++ spec.subtract_wires draft.old.next_wire bits state) }
+    ensures next_wire { OnOk result (draft.new.next_wire ≡ up 5 draft.old.next_wire) }
+    ensures regs { draft.new.regs.items ≡ draft.old.regs.items }
+    ensures first_reg { draft.new.first_reg ≡ draft.old.first_reg }
+{
+    let (wide, top) = (wider(bits), bits.saturating_sub(1));
     let next_bit = draft.wire(
         1,
         Net::Part {
@@ -145,10 +251,26 @@ fn take_step(draft: &mut Draft, bits: u8, state: State) -> Result<Step, AllocErr
             low: bits,
         },
     )?;
+    Ok(Subtraction {
+        trial,
+        difference,
+        borrow,
+    })
+}
+
+/// The values after a step: the subtraction counts if it leaves no borrow, and the dividend takes a bit of the quotient.
+fn choose(draft: &mut Draft, bits: u8, dividend: Atom, of: Subtraction) -> Result<Step, AllocError>
+    ensures value { IfOk result (λ v. v ≡ spec.chosen_at draft.old.next_wire) }
+    ensures wires { OnOk result (draft.new.wires.items ≡ draft.old.wires.items ++ spec.choose_wires draft.old.next_wire bits dividend of) }
+    ensures next_wire { OnOk result (draft.new.next_wire ≡ up 6 draft.old.next_wire) }
+    ensures regs { draft.new.regs.items ≡ draft.old.regs.items }
+    ensures first_reg { draft.new.first_reg ≡ draft.old.first_reg }
+{
+    let top = bits.saturating_sub(1);
     let kept = draft.wire(
         bits,
         Net::Part {
-            of: trial,
+            of: of.trial,
             high: top,
             low: 0,
         },
@@ -156,29 +278,50 @@ fn take_step(draft: &mut Draft, bits: u8, state: State) -> Result<Step, AllocErr
     let reduced = draft.wire(
         bits,
         Net::Part {
-            of: difference,
+            of: of.difference,
             high: top,
             low: 0,
         },
     )?;
-    let quotient_bit = draft.wire(1, Net::Not(borrow))?;
+    let quotient_bit = draft.wire(1, Net::Not(of.borrow))?;
     let rest = draft.wire(
         top,
         Net::Part {
-            of: state.dividend,
+            of: dividend,
             high: top.saturating_sub(1),
             low: 0,
         },
     )?;
     Ok(Step {
         dividend: draft.wire(bits, Net::Join(rest, quotient_bit))?,
-        remainder: draft.wire(bits, Net::Pick(borrow, kept, reduced))?,
+        remainder: draft.wire(bits, Net::Pick(of.borrow, kept, reduced))?,
     })
 }
 
+/// One step of the division.
+fn take_step(draft: &mut Draft, bits: u8, state: State) -> Result<Step, AllocError>
+    ensures value { IfOk result (λ v. v ≡ spec.step_at draft.old.next_wire) }
+    ensures wires { OnOk result (draft.new.wires.items ≡ draft.old.wires.items ++ spec.step_wires draft.old.next_wire bits state) }
+    ensures next_wire { OnOk result (draft.new.next_wire ≡ up 11 draft.old.next_wire) }
+    ensures regs { draft.new.regs.items ≡ draft.old.regs.items }
+    ensures first_reg { draft.new.first_reg ≡ draft.old.first_reg }
+{
+    let subtraction = subtract(draft, bits, state)?;
+    let step = choose(draft, bits, state.dividend, subtraction)?;
+    Ok(step)
+}
+
 /// The bits of a number of steps.
-fn step_bits(bits: u8) -> u8 {
+fn step_bits(bits: u8) -> u8
+    ensures { result ≡ spec.step_bits bits }
+{
     if bits < 64 { 6 } else { 7 }
+}
+
+fn all_ones(width: u8) -> u128
+    ensures { result ≡ spec.all_ones width }
+{
+    if width < 7 { 63 } else { 127 }
 }
 
 /// The registers that change with each step: how many steps are left, the dividend and the remainder.
@@ -188,7 +331,12 @@ fn set_work(
     state: State,
     taken: Taken,
     step: Step,
-) -> Result<(), AllocError> {
+) -> Result<(), AllocError>
+    ensures wires { OnOk result (draft.new.wires.items ≡ draft.old.wires.items ++ spec.work_wires draft.old.next_wire division state taken step) }
+    ensures next_wire { OnOk result (draft.new.next_wire ≡ up 7 draft.old.next_wire) }
+    ensures regs { OnOk result (draft.new.regs.items ≡ draft.old.regs.items ++ spec.work_registers draft.old.next_wire division) }
+    ensures first_reg { draft.new.first_reg ≡ draft.old.first_reg }
+{
     let (bits, start) = (division.bits, division.start);
     let width = step_bits(bits);
     let ended = draft.wire(1, Net::Two(Pair::Equal, state.steps, zero(width)))?;
@@ -196,7 +344,7 @@ fn set_work(
     let enable = draft.wire(1, Net::Two(Pair::Or, start, under_way))?;
     let minus_one = Atom::Constant {
         bits: width,
-        value: if width < 7 { 63 } else { 127 },
+        value: all_ones(width),
     };
     let fewer = draft.wire(width, Net::Two(Pair::Add, state.steps, minus_one))?;
     let all = Atom::Constant {

@@ -8,22 +8,22 @@ use std::alloc::{AllocError, Global};
 #[derive(Debug, Drop)]
 pub struct Draft {
     first_reg: u64,
-    first_wire: u64,
+    next_wire: u64,
     pub regs: Vec<Reg>,
     pub wires: Vec<Wire>,
-    ghost small: { (first_reg < 2 ^ 63) × (first_wire < 2 ^ 63) },
+    ghost small: { first_reg < 2 ^ 63 },
 }
 
 impl Draft {
     pub fn new(alloc: Global, design: &Design) -> Draft
         ensures first_reg { result.first_reg ≡ length design.now.regs.items }
-        ensures first_wire { result.first_wire ≡ length design.now.wires.items }
+        ensures next_wire { result.next_wire ≡ length design.now.wires.items }
         ensures regs { result.regs.items ≡ [] }
         ensures wires { result.wires.items ≡ [] }
     {
         Draft {
             first_reg: design.regs.len() as u64,
-            first_wire: design.wires.len() as u64,
+            next_wire: design.wires.len() as u64,
             regs: Vec::new(alloc),
             wires: Vec::new(alloc),
         }
@@ -37,14 +37,16 @@ impl Draft {
     }
 
     pub fn wire(&mut self, bits: u8, net: Net) -> Result<Atom, AllocError>
-        ensures atom { IfOk result (λ a. a ≡ Atom.Wire (self.old.first_wire + length self.old.wires.items)) }
+        ensures atom { IfOk result (λ a. a ≡ Atom.Wire self.old.next_wire) }
         ensures wires { OnOk result (self.new.wires.items ≡ self.old.wires.items ++ wire_of bits net ∷ []) }
         ensures regs { self.new.regs.items ≡ self.old.regs.items }
         ensures first_reg { self.new.first_reg ≡ self.old.first_reg }
-        ensures first_wire { self.new.first_wire ≡ self.old.first_wire }
+        ensures next_wire { OnOk result (self.new.next_wire ≡ self.old.next_wire + 1) }
     {
-        let number = self.first_wire + self.wires.len() as u64;
+        let number = self.next_wire;
+        let next = number.checked_add(1).ok_or(AllocError)?;
         self.wires.push(Wire { bits, net })?;
+        self.next_wire = next;
         Ok(Atom::Wire(number))
     }
 
@@ -52,7 +54,7 @@ impl Draft {
         ensures regs { OnOk result (self.new.regs.items ≡ self.old.regs.items ++ register_of bits enable next ∷ []) }
         ensures wires { self.new.wires.items ≡ self.old.wires.items }
         ensures first_reg { self.new.first_reg ≡ self.old.first_reg }
-        ensures first_wire { self.new.first_wire ≡ self.old.first_wire }
+        ensures next_wire { self.new.next_wire ≡ self.old.next_wire }
     {
         self.regs.push(Reg { bits, enable, next })?;
         Ok(())

@@ -4,5 +4,6 @@
 pub mod builder;
 mod divider;
 mod draft;
+pub mod laws;
 mod multiplier;
 mod table;

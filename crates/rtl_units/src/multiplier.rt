@@ -10,7 +10,7 @@ pub fn multiplier(draft: &mut Draft, bits: u8, left: Atom, right: Atom) -> Resul
     requires no_regs { draft.old.regs.items ≡ [] }
     requires no_wires { draft.old.wires.items ≡ [] }
     ensures atom { IfOk result (λ a. a ≡ Atom.Reg (draft.old.first_reg + 2)) }
-    ensures regs { OnOk result (draft.new.regs.items ≡ multiplier_registers draft.old.first_wire bits left right) }
+    ensures regs { OnOk result (draft.new.regs.items ≡ multiplier_registers draft.old.next_wire bits left right) }
     ensures wires { OnOk result (draft.new.wires.items ≡ multiplier_wires draft.old.first_reg bits) }
 {
     let net = Net::Two(Pair::Mul, draft.reg(0), draft.reg(1));

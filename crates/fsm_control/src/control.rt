@@ -1,5 +1,5 @@
 //! The registers of the controller, and the bits that say where a run is.
-use crate::circuit::{RESET, START};
+use crate::pins::{RESET, START};
 use crate::sizes::{bits_of, greatest_time, greatest_wait, initial_cycles, span};
 use clock_ir::timed::Timed;
 use hls_base::number::NodeId;

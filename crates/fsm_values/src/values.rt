@@ -1,9 +1,10 @@
 //! Which registers take results, variables and the function's result, and when.
-use crate::circuit::{Circuit, FIRST_ARGUMENT, Place};
+use crate::circuit::{Circuit, Place};
 use crate::collect::Origin;
 use crate::operands::Reading;
-use crate::sizes::{body_of, maker, node_id, span};
 use clock_ir::timed::Timed;
+use fsm_control::pins::FIRST_ARGUMENT;
+use fsm_control::sizes::{body_of, maker, node_id, span};
 use hls_base::number::{NodeId, OpId, VarId};
 use hls_base::refusal::impossible;
 use ir_core::body::{Body, OpKind, Operand, Out, Source};

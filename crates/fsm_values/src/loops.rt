@@ -1,9 +1,9 @@
 //! When the iterations of a loop are under way, which of them exist, and when the loop is left.
 use crate::circuit::Circuit;
-use crate::control::is_count;
 use crate::operands::Reading;
-use crate::sizes::{at_least_one, cycles_after_test, node_id, span, test_known};
 use clock_ir::timed::Timed;
+use fsm_control::control::is_count;
+use fsm_control::sizes::{at_least_one, cycles_after_test, node_id, span, test_known};
 use hls_base::number::NodeId;
 use ir_core::body::{Body, Operand, Source};
 use ir_core::cfg::{Loop, Node};

@@ -1,6 +1,4 @@
 //! The wires of operations that have a unit of their own.
-use crate::circuit::Circuit;
-use crate::operands::Reading;
 use clock_ir::timed::Timed;
 use ir_core::body::{Op, OpKind, Operand, Pairing, Simple, Source};
 use rtl_core::design::{Atom, Pair};
@@ -16,7 +14,8 @@ pub struct Arguments {
     pub third: Atom,
 }
 
-fn argument(op: &Op<Timed>, number: usize) -> Operand {
+/// The argument with this number, 0 where there is none.
+pub fn argument(op: &Op<Timed>, number: usize) -> Operand {
     let missing = Operand {
         value: Source::Constant(0),
         distance: 0,
@@ -25,7 +24,7 @@ fn argument(op: &Op<Timed>, number: usize) -> Operand {
 }
 
 /// The widths that the arguments have where they are constants.
-fn constant_widths(op: &Op<Timed>) -> (u8, u8, u8) {
+pub fn constant_widths(op: &Op<Timed>) -> (u8, u8, u8) {
     match op.kind {
         OpKind::Select => (1, op.bits, op.bits),
         OpKind::Widen | OpKind::Narrow => (64, 1, 1),
@@ -172,7 +171,8 @@ fn of_one(logic: &mut Logic, op: &Op<Timed>, value: Atom) -> Result<Atom, AllocE
     }
 }
 
-fn value_of(logic: &mut Logic, op: &Op<Timed>, of: Arguments) -> Result<Atom, AllocError> {
+/// The wire of an operation's result.
+pub fn value_of(logic: &mut Logic, op: &Op<Timed>, of: Arguments) -> Result<Atom, AllocError> {
     let bits = op.bits;
     match op.kind {
         OpKind::Add => logic.two(Pair::Add, bits, of.first, of.second),
@@ -187,23 +187,5 @@ fn value_of(logic: &mut Logic, op: &Op<Timed>, of: Arguments) -> Result<Atom, Al
         OpKind::Select => logic.pick(of.first, of.second, of.third),
         OpKind::Fused(pairing) => fused(logic, pairing, bits, of),
         _ => of_one(logic, op, of.first),
-    }
-}
-
-impl<'a> Circuit<'a> {
-    /// The values of an operation's first arguments in the cycle in which it starts.
-    pub fn arguments(&mut self, at: Reading, op: &Op<Timed>) -> Result<Arguments, AllocError> {
-        let (first, second, third) = constant_widths(op);
-        Ok(Arguments {
-            first: self.operand(at, argument(op, 0), first)?,
-            second: self.operand(at, argument(op, 1), second)?,
-            third: self.operand(at, argument(op, 2), third)?,
-        })
-    }
-
-    /// The wire of an operation's result.
-    pub fn operation(&mut self, at: Reading, op: &Op<Timed>) -> Result<Atom, AllocError> {
-        let of = self.arguments(at, op)?;
-        value_of(&mut self.logic, op, of)
     }
 }

@@ -1,9 +1,9 @@
 //! What each operation computes, or gives to which unit.
 use crate::circuit::Circuit;
 use crate::operands::Reading;
-use crate::sizes::{at_least_one, body_of, node_id, span};
-use crate::units::Given;
 use clock_ir::timed::Timed;
+use fsm_control::sizes::{at_least_one, body_of, node_id, span};
+use fsm_control::units::Given;
 use hls_base::number::{ArrayId, NodeId};
 use ir_core::body::{Op, OpKind, Operand};
 use ir_operation::timing::{UnitClass, is_table};

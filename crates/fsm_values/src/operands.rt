@@ -1,7 +1,7 @@
 //! Where operands stand when they are read.
 use crate::circuit::Circuit;
-use crate::sizes::{at_least_one, available, body_of, chain_of};
 use clock_ir::timed::Timed;
+use fsm_control::sizes::{at_least_one, available, body_of, chain_of};
 use hls_base::number::{NodeId, OpId, VarId};
 use hls_base::refusal::impossible;
 use ir_core::body::{Body, Operand, Source};

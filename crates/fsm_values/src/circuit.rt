@@ -1,7 +1,7 @@
-use crate::control::Control;
-use crate::sizes::body_of;
-use crate::units::UnitTable;
 use clock_ir::timed::Timed;
+use fsm_control::control::Control;
+use fsm_control::sizes::body_of;
+use fsm_control::units::UnitTable;
 use hls_base::number::{NodeId, OpId, VarId};
 use hls_base::refusal::impossible;
 use ir_core::body::{Body, Op, Operand, Source};
@@ -14,24 +14,6 @@ use rtl_logic::logic::Logic;
 use rtl_logic::select::Choice;
 use std::alloc::{AllocError, Global};
 use std::collections::BTreeMap;
-
-/// The inputs, in the order of the pins.
-pub const RESET: Atom = Atom::Input(0);
-
-pub const START: Atom = Atom::Input(1);
-
-pub const HOST_ENABLE: Atom = Atom::Input(2);
-
-pub const HOST_WRITE: Atom = Atom::Input(3);
-
-pub const HOST_SELECT: Atom = Atom::Input(4);
-
-pub const HOST_ADDRESS: Atom = Atom::Input(5);
-
-pub const HOST_DATA: Atom = Atom::Input(6);
-
-/// The number of the first argument among the inputs.
-pub const FIRST_ARGUMENT: u64 = 7;
 
 /// The place of a chain of results.
 pub type Place = (NodeId, OpId, u32);

@@ -1,38 +1,8 @@
-//! The address of an element: the low bits of its subscripts side by side.
-use crate::circuit::Circuit;
-use crate::operands::Reading;
-use crate::sizes::{at_least_one, dimension_bits, memory_at};
-use hls_base::number::ArrayId;
+//! The words of a memory by their addresses.
+use crate::sizes::{at_least_one, dimension_bits};
 use hls_base::words::Words;
-use ir_core::body::Operand;
 use ir_core::cfg::Memory;
-use rtl_core::design::Atom;
-use rtl_logic::select::constant;
 use std::alloc::{AllocError, Global};
-
-impl<'a> Circuit<'a> {
-    pub fn address(
-        &mut self,
-        at: Reading,
-        array: ArrayId,
-        subscripts: &[Operand],
-    ) -> Result<Atom, AllocError> {
-        let Some(memory) = memory_at(self.cfg, array) else {
-            return Ok(constant(1, 0));
-        };
-        let mut address: Option<Atom> = None;
-        for k in 0..memory.dims.len().min(subscripts.len()) {
-            let bits = dimension_bits(memory.dims[k]);
-            let subscript = self.operand(at, subscripts[k], bits)?;
-            let low = self.logic.resized(subscript, bits)?;
-            address = Some(match address {
-                Some(high) => self.logic.join(high, low)?,
-                None => low,
-            });
-        }
-        Ok(address.unwrap_or(constant(1, 0)))
-    }
-}
 
 /// The address of the element with this number, row by row.
 fn address_of(dims: &[u32], number: usize) -> u64 {

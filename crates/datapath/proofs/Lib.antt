@@ -1,0 +1,13 @@
+mod Evaluating
+mod Examples
+mod Nodes
+mod Counters
+mod Controller
+mod Writes
+mod Simple
+mod BlockSteps
+mod LeavingBlocks
+mod Reducing
+mod LastCycles
+mod Loops
+mod Sequence

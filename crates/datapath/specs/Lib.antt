@@ -1,0 +1,14 @@
+pub mod Plans
+pub mod Cycles
+pub mod Reading
+pub mod Control
+pub mod Units
+pub mod Ports
+pub mod Values
+pub mod Circuits
+pub mod Netlists
+pub mod Standing
+pub mod Laws
+pub mod Blocks
+pub mod Answers
+pub mod Savings
