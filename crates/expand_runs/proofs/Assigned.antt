@@ -21,7 +21,7 @@ use Rattle.piece_meaning.specs.Values.{Store, value, with_variable}
 use Rattle.piece_meaning.specs.Pieces.{Frame, on, type_of}
 use Rattle.expand_runs.specs.Reading.{IsNumber, IsTyped, variable_type, UnaryFits, BinaryFits}
 use Rattle.expand_runs.specs.Growing.{IsWithin}
-use Rattle.expand_runs.specs.Showing.{IsShown}
+use Rattle.expand_runs.specs.Showing.{Known, IsShown}
 use Rattle.expand_runs.specs.Sound.{Objects, Reads}
 use Rattle.expand_runs.specs.Worlds.{IsWorld}
 use Rattle.expand_runs.proofs.Sames.{same_more}
@@ -40,7 +40,7 @@ pub stored_converted : (i : Option ℕ) (x : Spot) (kd : CType) (r : ℤ) (place
 stored_converted None x kd r place s n = refl
 stored_converted (Some i) x kd r place s n = ap (λ z. goes z (ce.written x i z s) n) (converted_number kd r)
 
-module _ (unary_fits : UnaryFits) (binary_fits : BinaryFits) (f : Frame) (k : ℕ) (here : Here) (c : Call) (o : Objects) (Homes : Spot → Home → Type 0) (Lives : Spot → Type 0) (kinds : Spot → CType) (base : ℕ)
+module _ (unary_fits : UnaryFits) (binary_fits : BinaryFits) (f : Frame) (k : ℕ) (here : Here) (c : Call) (o : Objects) (Homes : Spot → Home → Type 0) (Lives : Spot → Type 0) (kinds : Known) (base : ℕ)
     (world : IsWorld f here c o Homes Lives kinds base) where
   -- The value is set first, and is there still behind the assignment.
   pub own_stored : (used : Bool) (e : CoreTree) (kd : CType) (y : PureTree) (low : ℕ) (st : State) (s : Cells) (t : Store) (r : ℤ) (n : ℕ) (q : Ran Cells ℤ) (ys : List PieceTree) → kind_of e ≡ kd → base ≤ low → low ≤ length st.variables → IsWithin (fresh kd st).state f

@@ -31,10 +31,10 @@ use Rattle.piece_meaning.specs.Values.{Store, lengths_in, computed, joined, elem
 use Rattle.piece_meaning.specs.Pieces.{Frame, Way, on}
 use Rattle.expand_runs.specs.Reading.{IsTyped, UnaryFits, BinaryFits}
 use Rattle.expand_runs.specs.Growing.{IsWithin}
-use Rattle.expand_runs.specs.Showing.{IsShown}
+use Rattle.expand_runs.specs.Showing.{Known, IsShown}
 use Rattle.expand_runs.specs.Sound.{Objects, IsSound, Reads, AnyReads}
 use Rattle.expand_runs.specs.Evaluating.{IsValue, AreValues, Matters, Evaluated}
-use Rattle.expand_runs.specs.Worlds.{IsWorld}
+use Rattle.expand_runs.specs.Worlds.{IsWorld, AreNoted}
 use Rattle.expand_runs.proofs.Sames.{goes_same, ended_same}
 use Rattle.expand_runs.proofs.Rows.{run_of}
 use Rattle.expand_runs.proofs.Holding.{pieces_hold}
@@ -66,14 +66,14 @@ core_plain b.Or kl x kr fork at here second s n e = refl
 core_plain b.LogAnd kl x kr fork at here second s n e = absurd (true≢false e)
 core_plain b.LogOr kl x kr fork at here second s n e = absurd (true≢false e)
 
-module _ (unary_fits : UnaryFits) (binary_fits : BinaryFits) (f : Frame) (k : ℕ) (here : Here) (c : Call) (o : Objects) (Homes : Spot → Home → Type 0) (Lives : Spot → Type 0) (kinds : Spot → CType) (base : ℕ)
+module _ (unary_fits : UnaryFits) (binary_fits : BinaryFits) (f : Frame) (k : ℕ) (here : Here) (c : Call) (o : Objects) (Homes : Spot → Home → Type 0) (Lives : Spot → Type 0) (kinds : Known) (base : ℕ)
     (world : IsWorld f here c o Homes Lives kinds base) where
   -- Control goes on, and the value is that of the expression where it matters.
   pub record Result (used : Bool) (e : CoreTree) (low high : ℕ) (x : PureTree) (v : ℤ) (s : Cells) (w : Way) (t : Store) : Type 0 where
     pub done : Evaluated f Homes Lives kinds s w t
     pub value : Matters used e → IsValue f c (λ y. Reads y e) low high x (kind_of e) v t
 
-  still : (s : Cells) (w : Way) (t : Store) → Evaluated f Homes Lives kinds s w t → Evaluated f Homes Lives kinds s on t
+  pub still : (s : Cells) (w : Way) (t : Store) → Evaluated f Homes Lives kinds s w t → Evaluated f Homes Lives kinds s on t
   still s w t h = record { on_ = refl; shown = h.shown; typed = h.typed }
 
   -- ---- numbers and objects
@@ -95,11 +95,11 @@ module _ (unary_fits : UnaryFits) (binary_fits : BinaryFits) (f : Frame) (k : �
       })
 
   -- an element, behind its subscripts
-  pub element_same : (used : Bool) (cell : Cell) (subscripts : CoreTrees) (kind : CType) (at : Place) (low high : ℕ) (given : List PureTree) (st : State) (is_ : List ℤ) (s : Cells) (t : Store) (n : ℕ) → n ≤ k → o.Array cell kind
+  pub element_same : (used : Bool) (cell : Cell) (subscripts : CoreTrees) (kind : CType) (at : Place) (low high : ℕ) (given : List PureTree) (st : State) (is_ : List ℤ) (s : Cells) (t : Store) (n : ℕ) → n ≤ k → AreNoted c world.seen st → o.Array cell kind
       → IsShown f Homes Lives kinds s t → IsTyped f t → AreValues f c (λ y. AnyReads y subscripts) low high (row given) is_ t
       → Same false k (Result used (core.element cell subscripts kind at) low high (tree.element (array c cell st) (row given) kind at)) (ce.read (ce.unset_rule is_) (spot_of here cell) is_ at s n) (run_of f [] t n)
-  element_same used cell subscripts kind at low high given st is_ s t n le is_array shown typed h =
-      let a = array_there f here c o Homes Lives kinds base world cell kind st s t is_array shown in
+  element_same used cell subscripts kind at low high given st is_ s t n le noted is_array shown typed h =
+      let a = array_there f here c o Homes Lives kinds base world cell kind st s t noted is_array shown in
       read_same k (Result used (core.element cell subscripts kind at) low high (tree.element (array c cell st) (row given) kind at)) (ce.unset_rule is_) (spot_of here cell) is_ (lengths_in (slice_get f.arrays a.number.0)) at s t n le a.lengths
       (λ j v e is_there. record {
         done = record { on_ = refl; shown = shown; typed = typed };

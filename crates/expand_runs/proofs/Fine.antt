@@ -15,8 +15,28 @@ use Rattle.piece_making.specs.Saving.{saved, all_saved, saved_if, may_skip_eleme
 use Rattle.piece_meaning.specs.Values.{Store, with_variable, with_element}
 use Rattle.piece_meaning.specs.Pieces.{Frame}
 use Rattle.expand_runs.specs.Keeping.{Allows, AllAllow}
-use Rattle.expand_runs.specs.Growing.{IsLater}
+use Rattle.expand_runs.specs.Growing.{IsLater, LandFrom, LandsFrom}
 use Rattle.expand_runs.proofs.Growing.{later_same, later_fresh, later_emit, later_own, later_both}
+
+lands_one : (a b : ℕ) (x : PieceTree) → a ≤ b → LandFrom b x → LandFrom a x
+lands_one a b (tree.set name value) le h = tt
+lands_one a b (tree.put array subscripts value at) le h = tt
+lands_one a b (tree.fork test first second end) le h = tt
+lands_one a b (tree.repeat_ id post before test body step end) le h = tt
+lands_one a b (tree.pick test labels body end) le h = tt
+lands_one a b tree.break_ le h = tt
+lands_one a b tree.next_ le h = tt
+lands_one a b (tree.leave call) le h = tt
+lands_one a b (tree.land call end) le h = le_trans le h
+lands_one a b (tree.mark point) le h = tt
+
+pub lands_less : (a b : ℕ) → a ≤ b → (xs : List PieceTree) → LandsFrom b xs → LandsFrom a xs
+lands_less a b le [] h = tt
+lands_less a b le (x ∷ xs) h = (lands_one a b x le h.0, lands_less a b le xs h.1)
+
+pub lands_behind : (m : ℕ) (xs ys : List PieceTree) → LandsFrom m xs → LandsFrom m ys → LandsFrom m (xs ++ ys)
+lands_behind m [] ys h g = g
+lands_behind m (x ∷ xs) ys h g = (h.0, lands_behind m xs ys h.1 g)
 
 module _ (f : Frame) (I : Store → Type 0) where
   -- any setting of this variable keeps it
@@ -37,54 +57,58 @@ module _ (f : Frame) (I : Store → Type 0) where
   pub record IsFine {A : Type 0} (s : State) (part : Part A) : Type 0 where
     pub later : IsLater s part.state
     pub allowed : AreAllowed part.pieces
+    pub lands : LandsFrom s.calls part.pieces
 
   pub fine_gives : {A : Type 0} (x : A) (s : State) → IsFine s (gives x s)
-  fine_gives x s = record { later = later_same s; allowed = tt }
+  fine_gives x s = record { later = later_same s; allowed = tt; lands = tt }
 
   pub fine_then : {A B : Type 0} (s : State) (first : Part A) (next : A → State → Part B) → IsFine s first → IsFine first.state (next first.value first.state) → IsFine s (then_ first next)
   unfolding then_
   fine_then s first next h g = record {
     later = later_both s first.state (next first.value first.state).state h.later g.later;
     allowed = allowed_behind first.pieces (next first.value first.state).pieces h.allowed g.allowed;
+    lands = lands_behind s.calls first.pieces (next first.value first.state).pieces h.lands (lands_less s.calls first.state.calls h.later.calls (next first.value first.state).pieces g.lands);
   }
 
-  pub fine_emit : (p : PieceTree) (s : State) → Allows f I p → IsFine s (emit p s)
+  pub fine_emit : (p : PieceTree) (s : State) → Allows f I p → LandFrom s.calls p → IsFine s (emit p s)
   unfolding emit
-  fine_emit p s h = record { later = later_emit p s; allowed = (h, tt) }
+  fine_emit p s h l = record { later = later_emit p s; allowed = (h, tt); lands = (l, tt) }
 
   pub fine_set : (name : VarId) (v : PureTree) (s : State) → Sets name.0 → IsFine s (emit (tree.set name v) s)
-  fine_set name v s h = fine_emit (tree.set name v) s (λ t x i. h t _ i)
+  fine_set name v s h = fine_emit (tree.set name v) s (λ t x i. h t _ i) tt
 
   pub fine_put : (array : ArrayId) (subscripts : PureTrees) (v : PureTree) (at : Place) (s : State) → Puts → IsFine s (emit (tree.put array subscripts v at) s)
-  fine_put array subscripts v at s h = fine_emit (tree.put array subscripts v at) s (λ t i x j. h t array.0 i _ j)
+  fine_put array subscripts v at s h = fine_emit (tree.put array subscripts v at) s (λ t i x j. h t array.0 i _ j) tt
 
   pub fine_fresh : (k : CType) (s : State) → IsFine s (fresh k s)
   unfolding fresh
-  fine_fresh k s = record { later = later_fresh k s; allowed = tt }
+  fine_fresh k s = record { later = later_fresh k s; allowed = tt; lands = tt }
 
   -- pieces in a list of their own
   pub record IsFineWithin {A : Type 0} (s : State) (part : Part (Inner A)) : Type 0 where
     pub later : IsLater s part.state
     pub allowed : AreAllowed part.pieces
     pub inner : AreAllowed part.value.pieces
+    pub lands : LandsFrom s.calls part.pieces
 
   pub fine_inside : {A : Type 0} (part : State → Part A) (s : State) → ((s1 : State) → s1.variables ≡ s.variables → IsFine s1 (part s1)) → IsFineWithin s (inside part s)
   unfolding inside
   fine_inside part s h =
       let q = h (record s { made = 0 }) refl in
       record {
-        later = record { variables = q.later.variables; more = q.later.more; arrays = q.later.arrays; calls = q.later.calls };
+        later = record { variables = q.later.variables; more = q.later.more; arrays = q.later.arrays; more_arrays = q.later.more_arrays; slots = q.later.slots; more_slots = q.later.more_slots; calls = q.later.calls };
         allowed = tt;
+        lands = tt;
         inner = q.allowed;
       }
 
   pub within_fine : {A : Type 0} (s : State) (part : Part (Inner A)) → IsFineWithin s part → IsFine s part
-  within_fine s part h = record { later = h.later; allowed = h.allowed }
+  within_fine s part h = record { later = h.later; allowed = h.allowed; lands = h.lands }
 
   module _ (low : ℕ) (own : (i : ℕ) → low ≤ i → Sets i) where
     pub fine_own : (k : CType) (x : PureTree) (s : State) → low ≤ length s.variables → IsFine s (set_own k x s)
     unfolding then_ emit fresh set_own
-    fine_own k x s le = record { later = later_own k x s; allowed = ((λ t y i. own (length s.variables) le t _ i), tt) }
+    fine_own k x s le = record { later = later_own k x s; allowed = ((λ t y i. own (length s.variables) le t _ i), tt); lands = (tt, tt) }
 
     fine_if : (whole : Bool) (x : PureTree) (parts : State → Part PureTree) (s : State) → low ≤ length s.variables → IsFine s (parts s) → IsFine s (saved_if whole x parts s)
     fine_if true x parts s le h = fine_own (kind x) x s le

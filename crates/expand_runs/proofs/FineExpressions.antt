@@ -1,7 +1,7 @@
 -- What the pieces of an expression keep.
 use Rattle.std.proofs.lemmas.Bool.{false≢true}
-use Rattle.std.proofs.Common.{◌≡◌, ℕ, ◌≤◌, ◌<◌, Bool, true, false, ◌||◌, ◌&&◌, ◌⊎◌, inl, inr, List, [], ◌∷◌, ◌++◌, length, refl, ap, subst, le_refl, le_trans, arith, Option, if◌then◌else◌}
-use Rattle.std.proofs.lemmas.List.{length-append}
+use Rattle.std.proofs.Common.{◌≡◌, ℕ, ◌≤◌, ◌<◌, Bool, true, false, ◌||◌, ◌&&◌, ◌⊎◌, inl, inr, List, [], ◌∷◌, ◌++◌, length, ◌∙◌, sym, refl, ap, subst, le_refl, le_trans, arith, Option, if◌then◌else◌}
+use Rattle.std.proofs.lemmas.List.{length-append, append-nil, append_assoc}
 use Rattle.hls_base.specs.declared.number.VarId.{VarId}
 use Rattle.hls_base.specs.declared.place.Place.{Place}
 use Rattle.c_token.specs.declared.ctype.CType.{CType}
@@ -21,7 +21,8 @@ use Rattle.piece_making.specs.Assigning.{Change, change, store_at, store, assign
 use Rattle.piece_meaning.specs.Values.{Store}
 use Rattle.piece_meaning.specs.Pieces.{Frame}
 use Rattle.c_expand.specs.Expressions.{Given, Callee, value_given, may_be_unused, set_unused, discarded, value_or_zero, arm, decided, to_bool, same, fork_of, is_or, forked, operated, chosen, expression, operands, targeted, argument, arguments}
-use Rattle.expand_runs.specs.Sound.{Changes, AnyChanges, ArgumentChanges, ArgumentsChange}
+use Rattle.expand_runs.specs.Sound.{Objects, IsSound, AreSound, ArgumentSound, ArgumentsSound, Changes, AnyChanges, ArgumentChanges, ArgumentsChange}
+use Rattle.expand_runs.specs.Fitting.{HaveShape, CallsFit, AllFit, ArgumentFits, ArgumentsFit, Taken, Anything}
 use Rattle.expand_runs.proofs.Reading.{or_left, or_right}
 use Rattle.expand_runs.proofs.Fine.{Sets, Puts, AreAllowed, IsFine, IsFineWithin, fine_gives, fine_then, fine_emit, fine_set, fine_put, fine_fresh, fine_inside, within_fine, fine_own, fine_save}
 
@@ -54,20 +55,20 @@ module _ (f : Frame) (I : Store → Type 0) (low : ℕ) (own : (i : ℕ) → low
   permits_right c C D a b h p = record { cells = λ x d. p.cells x (h x d); calls = λ e. p.calls (or_right a.calls b.calls e); puts = λ e. p.puts (spoils_or2 b.calls b.changes a.calls a.changes e) }
 
   -- calls of functions keep it
-  abbrev pub CalleesFine : Callee → Type 0
-  CalleesFine g = (callee : ℕ) (given : List Given) (c : Call) (at : Place) (s : State) → low ≤ length s.variables → ((i : ℕ) → i < c.file_variables → Sets f I i) → Puts f I → IsFine f I s (g callee given c at s)
+  abbrev pub CalleesFine : Callee → Call → (ℕ → ArgumentTrees → Type 0) → Type 0
+  CalleesFine g c F = (callee : ℕ) (args : ArgumentTrees) (given : List Given) (at : Place) (s : State) → F callee args → HaveShape args given → low ≤ length s.variables → ((i : ℕ) → i < c.file_variables → Sets f I i) → Puts f I → IsFine f I s (g callee given c at s)
 
   abbrev IsFineThere : {A : Type 0} → (State → Part A) → Type 0
   IsFineThere part = (s : State) → low ≤ length s.variables → IsFine f I s (part s)
 
-  further : {A : Type 0} (s : State) (part : Part A) → IsFine f I s part → low ≤ length s.variables → low ≤ length part.state.variables
+  pub further : {A : Type 0} (s : State) (part : Part A) → IsFine f I s part → low ≤ length s.variables → low ≤ length part.state.variables
   further s part h le = le_trans le h.later.more
 
-  if_fine : {A : Type 0} (b : Bool) (x y : Part A) (s : State) → IsFine f I s x → IsFine f I s y → IsFine f I s (if b then x else y)
+  pub if_fine : {A : Type 0} (b : Bool) (x y : Part A) (s : State) → IsFine f I s x → IsFine f I s y → IsFine f I s (if b then x else y)
   if_fine true x y s h g = h
   if_fine false x y s h g = g
 
-  set_fresh : (k : CType) (x : PureTree) (s : State) → low ≤ length s.variables → IsFine f I (fresh k s).state (emit (tree.set (fresh k s).value x) (fresh k s).state)
+  pub set_fresh : (k : CType) (x : PureTree) (s : State) → low ≤ length s.variables → IsFine f I (fresh k s).state (emit (tree.set (fresh k s).value x) (fresh k s).state)
   unfolding fresh
   set_fresh k x s le = fine_set f I (fresh k s).value x (fresh k s).state (own (length s.variables) le)
 
@@ -78,7 +79,7 @@ module _ (f : Frame) (I : Store → Type 0) (low : ℕ) (own : (i : ℕ) → low
   arm_fine c at operand converted name s le set_ h =
       fine_inside f I (λ s0. then_ (emit (tree.mark _) s0) (λ u s1. then_ (operand s1) (λ value s2. emit (tree.set name (converted value)) s2))) s
       (λ s0 e.
-      let marked = fine_emit f I (tree.mark _) s0 tt in
+      let marked = fine_emit f I (tree.mark _) s0 tt tt in
       let s1 = (emit (tree.mark _) s0).state in
       let le1 = further s0 (emit (tree.mark _) s0) marked (subst_le s0 e) in
       let g = h s1 le1 in
@@ -93,7 +94,7 @@ module _ (f : Frame) (I : Store → Type 0) (low : ℕ) (own : (i : ℕ) → low
 
   fork_fine : (c : Call) (at : Place) (test : PureTree) (left right : List PieceTree) (name : VarId) (k : CType) (s : State) → AreAllowed f I left → AreAllowed f I right → IsFine f I s (fork_of c at test left right name k s)
   fork_fine c at test left right name k s h g =
-      fine_then f I s (emit (tree.fork test (piece_row left) (piece_row right) _) s) (λ u s1. gives (tree.variable name k) s1) (fine_emit f I (tree.fork test (piece_row left) (piece_row right) _) s (h, g)) (fine_gives f I _ _)
+      fine_then f I s (emit (tree.fork test (piece_row left) (piece_row right) _) s) (λ u s1. gives (tree.variable name k) s1) (fine_emit f I (tree.fork test (piece_row left) (piece_row right) _) s (h, g) tt) (fine_gives f I _ _)
 
   fresh_set : (k : CType) (s : State) → low ≤ length s.variables → Sets f I (fresh k s).value.0
   unfolding fresh
@@ -160,7 +161,7 @@ module _ (f : Frame) (I : Store → Type 0) (low : ℕ) (own : (i : ℕ) → low
   store_fine c cell at tree.none v s set_ puts = fine_set f I (variable c cell) v s (set_ refl)
   store_fine c cell at (tree.more first rest) v s set_ puts = fine_put f I _ (tree.more first rest) v at s puts
 
-  assigned_fine : (c : Call) (t : Change) (by : PureTree) (s : State) → low ≤ length s.variables → (t.subscripts ≡ tree.none → Sets f I (variable c t.cell).0) → Puts f I → IsFine f I s (assigned c t by s)
+  pub assigned_fine : (c : Call) (t : Change) (by : PureTree) (s : State) → low ≤ length s.variables → (t.subscripts ≡ tree.none → Sets f I (variable c t.cell).0) → Puts f I → IsFine f I s (assigned c t by s)
   assigned_fine c t by s le set_ puts =
       let x = new_value t (target_read c t s) by in
       let o = fresh t.kind s in
@@ -169,7 +170,7 @@ module _ (f : Frame) (I : Store → Type 0) (low : ℕ) (own : (i : ℕ) → low
       (fine_then f I o.state e (λ u s2. then_ (store c t (tree.variable o.value t.kind) s2) (λ v s3. gives (tree.variable o.value t.kind) s3)) (set_fresh t.kind x s le)
       (fine_then f I e.state (store c t (tree.variable o.value t.kind) e.state) (λ v s3. gives (tree.variable o.value t.kind) s3) (store_fine c t.cell t.target_at t.subscripts (tree.variable o.value t.kind) e.state set_ puts) (fine_gives f I _ _)))
 
-  behind_fine : (c : Call) (t : Change) (s : State) → low ≤ length s.variables → (t.subscripts ≡ tree.none → Sets f I (variable c t.cell).0) → Puts f I → IsFine f I s (bumped_behind c t s)
+  pub behind_fine : (c : Call) (t : Change) (s : State) → low ≤ length s.variables → (t.subscripts ≡ tree.none → Sets f I (variable c t.cell).0) → Puts f I → IsFine f I s (bumped_behind c t s)
   behind_fine c t s le set_ puts =
       let x = target_read c t s in
       let o = fresh t.kind s in
@@ -179,18 +180,18 @@ module _ (f : Frame) (I : Store → Type 0) (low : ℕ) (own : (i : ℕ) → low
       (fine_then f I o.state e (λ u s2. then_ (store c t y s2) (λ v s3. gives (tree.variable o.value t.kind) s3)) (set_fresh t.kind x s le)
       (fine_then f I e.state (store c t y e.state) (λ v s3. gives (tree.variable o.value t.kind) s3) (store_fine c t.cell t.target_at t.subscripts y e.state set_ puts) (fine_gives f I _ _)))
 
-  bumped_fine : (c : Call) (t : Change) (post : Bool) (s : State) → low ≤ length s.variables → (t.subscripts ≡ tree.none → Sets f I (variable c t.cell).0) → Puts f I → IsFine f I s (bumped c t post s)
+  pub bumped_fine : (c : Call) (t : Change) (post : Bool) (s : State) → low ≤ length s.variables → (t.subscripts ≡ tree.none → Sets f I (variable c t.cell).0) → Puts f I → IsFine f I s (bumped c t post s)
   bumped_fine c t post s le set_ puts = if_fine post (bumped_behind c t s) (assigned c t one s) s (behind_fine c t s le set_ puts) (assigned_fine c t one s le set_ puts)
 
   pub unused_fine : (x : PureTree) (s : State) → low ≤ length s.variables → IsFine f I s (set_unused x s)
   unused_fine x s le = fine_then f I s (set_own (kind x) x s) (λ own s1. gives tt s1) (fine_own f I low own (kind x) x s le) (fine_gives f I _ _)
 
-  discarded_fine : (b : Bool) (x : PureTree) (s : State) → low ≤ length s.variables → IsFine f I s (discarded b x s)
+  pub discarded_fine : (b : Bool) (x : PureTree) (s : State) → low ≤ length s.variables → IsFine f I s (discarded b x s)
   discarded_fine b x s le = if_fine b (gives tt s) (set_unused x s) s (fine_gives f I tt s) (unused_fine x s le)
 
   -- ---- expressions
 
-  module _ (g : Callee) (callees : CalleesFine g) (c : Call) where
+  module _ (g : Callee) (c : Call) (F : ℕ → ArgumentTrees → Type 0) (callees : CalleesFine g c F) where
     pub target_fine : (cell : Cell) (subscripts : CoreTrees) (k : CType) (place : Place) (later : Effects) (op : Option Binary) (at : Place) (s : State) → IsFine f I s (operands g c subscripts later [] s)
         → IsFine f I s (targeted g c (core.target cell subscripts k place) later op at s)
     target_fine cell subscripts k place later op at s h = fine_then f I s (operands g c subscripts later [] s) (λ given s1. gives (change cell k place (row given) op at) s1) h (fine_gives f I _ _)
@@ -217,97 +218,172 @@ module _ (f : Frame) (I : Store → Type 0) (low : ℕ) (own : (i : ℕ) → low
         none_given [] le e = absurd (omega (arith, le))
         none_given (y ∷ ys) le e = subst IsMore e tt
 
+    -- There is a number for each number and an array for each array.
+    shaped : (args : ArgumentTrees) (before : List Given) (s : State) → (given : List Given) × ((arguments g c args before s).value ≡ before ++ given) × HaveShape args given
+    unfolding then_
+    shaped core.no_argument before s = ([], sym (append-nil before), tt)
+    shaped (core.more_arguments (core.given v) rest) before s =
+        let x = argument g c (core.given v) (effects_of_arguments rest) s in
+        let q = shaped rest (before ++ x.value ∷ []) x.state in
+        (x.value ∷ q.0, q.1 ∙ append_assoc before (x.value ∷ []) q.0, q.2)
+    shaped (core.more_arguments (core.array cell) rest) before s =
+        let x = argument g c (core.array cell) (effects_of_arguments rest) s in
+        let q = shaped rest (before ++ x.value ∷ []) x.state in
+        (x.value ∷ q.0, q.1 ∙ append_assoc before (x.value ∷ []) q.0, q.2)
+
+    pub given_shaped : (args : ArgumentTrees) (s : State) → HaveShape args (arguments g c args [] s).value
+    given_shaped args s = let q = shaped args [] s in subst (HaveShape args) (sym q.1) q.2
+
     mutual
       unfolding then_
 
-      pub expression_fine : (e : CoreTree) (s : State) → low ≤ length s.variables → Permits c (λ x. Changes x e) (effects e) → IsFine f I s (expression g c e s)
-      expression_fine (core.number v k) s le p = fine_gives f I _ s
-      expression_fine (core.scalar cell k at) s le p = fine_gives f I _ s
-      expression_fine (core.element name subscripts k at) s le p =
+      pub expression_fine : (e : CoreTree) (s : State) → low ≤ length s.variables → CallsFit F e → Permits c (λ x. Changes x e) (effects e) → IsFine f I s (expression g c e s)
+      expression_fine (core.number v k) s le fit p = fine_gives f I _ s
+      expression_fine (core.scalar cell k at) s le fit p = fine_gives f I _ s
+      expression_fine (core.element name subscripts k at) s le fit p =
           let all = operands g c subscripts no_effects [] s in
-          fine_then f I s all (λ given s1. gives (tree.element (array c name s1) (row given) k at) s1) (operands_fine subscripts no_effects [] s le p) (fine_gives f I _ _)
-      expression_fine (core.call callee args k at) s le p =
+          fine_then f I s all (λ given s1. gives (tree.element (array c name s1) (row given) k at) s1) (operands_fine subscripts no_effects [] s le fit p) (fine_gives f I _ _)
+      expression_fine (core.call callee args k at) s le fit p =
           let all = arguments g c args [] s in
-          let h = arguments_fine args [] s le (record { cells = p.cells; calls = λ e. p.calls refl; puts = λ e. p.puts refl }) in
+          let h = arguments_fine args [] s le fit.1 (record { cells = p.cells; calls = λ e. p.calls refl; puts = λ e. p.puts refl }) in
           fine_then f I s (then_ all (λ given s1. g callee given c at s1)) (λ v s2. gives (value_or_zero v) s2)
-          (fine_then f I s all (λ given s1. g callee given c at s1) h (callees callee all.value c at all.state (further s all h le) (p.calls refl) (p.puts refl))) (fine_gives f I _ _)
-      expression_fine (core.unary op arg k at) s le p = fine_then f I s (expression g c arg s) (λ x s1. gives (tree.unary op x k at) s1) (expression_fine arg s le p) (fine_gives f I _ _)
-      expression_fine (core.binary op left right k at) s le p =
+          (fine_then f I s all (λ given s1. g callee given c at s1) h (callees callee args all.value at all.state fit.0 (given_shaped args s) (further s all h le) (p.calls refl) (p.puts refl))) (fine_gives f I _ _)
+      expression_fine (core.unary op arg k at) s le fit p = fine_then f I s (expression g c arg s) (λ x s1. gives (tree.unary op x k at) s1) (expression_fine arg s le fit p) (fine_gives f I _ _)
+      expression_fine (core.binary op left right k at) s le fit p =
           let x = expression g c left s in
-          let h = expression_fine left s le (permits_left c _ (λ y. Changes y left) (effects left) (effects right) (λ y d. inl d) p) in
+          let h = expression_fine left s le fit.0 (permits_left c _ (λ y. Changes y left) (effects left) (effects right) (λ y d. inl d) p) in
           fine_then f I s x (λ x s1. operated c op k at x (effects right) (expression g c right) s1) h
           (operated_fine c op k at x.value (effects right) (expression g c right) x.state (further s x h le)
-          (λ s1 le1. expression_fine right s1 le1 (permits_right c _ (λ y. Changes y right) (effects left) (effects right) (λ y d. inr d) p)))
-      expression_fine (core.choice test left right k at colon) s le p =
+          (λ s1 le1. expression_fine right s1 le1 fit.1 (permits_right c _ (λ y. Changes y right) (effects left) (effects right) (λ y d. inr d) p)))
+      expression_fine (core.choice test left right k at colon) s le fit p =
           let t = expression g c test s in
           let both = either (either (effects test) (effects left)) (effects right) in
           let p1 : Permits c (λ y. Changes y test ⊎ Changes y left) (either (effects test) (effects left)) = permits_left c _ (λ y. Changes y test ⊎ Changes y left) (either (effects test) (effects left)) (effects right) (λ y d. elim d [ inl a ↦ inl a | inr b ↦ inr (inl b) ]) p in
-          let h = expression_fine test s le (permits_left c _ (λ y. Changes y test) (effects test) (effects left) (λ y d. inl d) p1) in
+          let h = expression_fine test s le fit.0 (permits_left c _ (λ y. Changes y test) (effects test) (effects left) (λ y d. inl d) p1) in
           fine_then f I s t (λ t s1. chosen c k at colon t (either (effects left) (effects right)) (expression g c left) (expression g c right) s1) h
           (chosen_fine c k at colon t.value (either (effects left) (effects right)) (expression g c left) (expression g c right) t.state (further s t h le)
-          (λ s1 le1. expression_fine left s1 le1 (permits_right c _ (λ y. Changes y left) (effects test) (effects left) (λ y d. inr d) p1))
-          (λ s1 le1. expression_fine right s1 le1 (permits_right c _ (λ y. Changes y right) (either (effects test) (effects left)) (effects right) (λ y d. inr (inr d)) p)))
-      expression_fine (core.cast to arg) s le p = fine_then f I s (expression g c arg s) (λ x s1. gives (tree.cast to x) s1) (expression_fine arg s le p) (fine_gives f I _ _)
-      expression_fine (core.assign (core.target cell core.none k place) op v at) s le p =
+          (λ s1 le1. expression_fine left s1 le1 fit.1 (permits_right c _ (λ y. Changes y left) (effects test) (effects left) (λ y d. inr d) p1))
+          (λ s1 le1. expression_fine right s1 le1 fit.2 (permits_right c _ (λ y. Changes y right) (either (effects test) (effects left)) (effects right) (λ y d. inr (inr d)) p)))
+      expression_fine (core.cast to arg) s le fit p = fine_then f I s (expression g c arg s) (λ x s1. gives (tree.cast to x) s1) (expression_fine arg s le fit p) (fine_gives f I _ _)
+      expression_fine (core.assign (core.target cell core.none k place) op v at) s le fit p =
           let by = expression g c v s in
-          let q = expression_fine v s le (record { cells = λ x d. p.cells x (inr d); calls = p.calls; puts = λ e. p.puts (or_right _ true refl) }) in
+          let q = expression_fine v s le fit.1 (record { cells = λ x d. p.cells x (inr d); calls = p.calls; puts = λ e. p.puts (or_right _ true refl) }) in
           fine_then f I s (targeted g c (core.target cell core.none k place) (effects v) op at s) (λ t s1. then_ (expression g c v s1) (λ by s2. assigned c t by s2)) (target_fine cell core.none k place (effects v) op at s (fine_gives f I [] s))
           (fine_then f I s by (λ by s2. assigned c (change cell k place tree.none op at) by s2) q
           (assigned_fine c (change cell k place tree.none op at) by.value by.state (further s by q le) (λ e. p.cells cell (inl refl)) (p.puts (or_right _ true refl))))
-      expression_fine (core.assign (core.target cell (core.more first rest) k place) op v at) s le p =
+      expression_fine (core.assign (core.target cell (core.more first rest) k place) op v at) s le fit p =
           let subscripts = core.more first rest in
           let t = targeted g c (core.target cell subscripts k place) (effects v) op at s in
           let permits : Permits c (λ x. (Changes x first ⊎ AnyChanges x rest) ⊎ Changes x v) (either (effects_of_all subscripts) (effects v)) = record { cells = p.cells; calls = p.calls; puts = λ e. p.puts (or_right _ true refl) } in
-          let h = target_fine cell subscripts k place (effects v) op at s (operands_fine (core.more first rest) (effects v) [] s le (permits_left c _ (λ x. Changes x first ⊎ AnyChanges x rest) (effects_of_all subscripts) (effects v) (λ x d. inl d) permits)) in
+          let h = target_fine cell subscripts k place (effects v) op at s (operands_fine (core.more first rest) (effects v) [] s le fit.0 (permits_left c _ (λ x. Changes x first ⊎ AnyChanges x rest) (effects_of_all subscripts) (effects v) (λ x d. inl d) permits)) in
           let le1 = further s t h le in
           let by = expression g c v t.state in
-          let q = expression_fine v t.state le1 (permits_right c _ (λ x. Changes x v) (effects_of_all subscripts) (effects v) (λ x d. inr d) permits) in
+          let q = expression_fine v t.state le1 fit.1 (permits_right c _ (λ x. Changes x v) (effects_of_all subscripts) (effects v) (λ x d. inr d) permits) in
           fine_then f I s t (λ t s1. then_ (expression g c v s1) (λ by s2. assigned c t by s2)) h
           (fine_then f I t.state by (λ by s2. assigned c t.value by s2) q
           (assigned_fine c t.value by.value by.state (further t.state by q le1) (λ e. absurd (some_given first rest (effects v) s e)) (p.puts (or_right _ true refl))))
-      expression_fine (core.bump (core.target cell core.none k place) up post at) s le p =
+      expression_fine (core.bump (core.target cell core.none k place) up post at) s le fit p =
           fine_then f I s (targeted g c (core.target cell core.none k place) no_effects (step up) at s) (λ t s1. bumped c t post s1) (target_fine cell core.none k place no_effects (step up) at s (fine_gives f I [] s))
           (bumped_fine c (change cell k place tree.none (step up) at) post s le (λ e. p.cells cell refl) (p.puts refl))
-      expression_fine (core.bump (core.target cell (core.more first rest) k place) up post at) s le p =
+      expression_fine (core.bump (core.target cell (core.more first rest) k place) up post at) s le fit p =
           let subscripts = core.more first rest in
           let t = targeted g c (core.target cell subscripts k place) no_effects (step up) at s in
-          let h = target_fine cell subscripts k place no_effects (step up) at s (operands_fine (core.more first rest) no_effects [] s le (record { cells = p.cells; calls = p.calls; puts = λ e. p.puts (or_right _ true refl) })) in
+          let h = target_fine cell subscripts k place no_effects (step up) at s (operands_fine (core.more first rest) no_effects [] s le fit (record { cells = p.cells; calls = p.calls; puts = λ e. p.puts (or_right _ true refl) })) in
           fine_then f I s t (λ t s1. bumped c t post s1) h (bumped_fine c t.value post t.state (further s t h le) (λ e. absurd (some_given first rest no_effects s e)) (p.puts (or_right _ true refl)))
-      expression_fine (core.comma left right) s le p =
+      expression_fine (core.comma left right) s le fit p =
           let x = expression g c left s in
           let q : Permits c (λ y. Changes y left ⊎ Changes y right) (either (effects left) (effects right)) = record { cells = p.cells; calls = p.calls; puts = p.puts } in
-          let h = expression_fine left s le (permits_left c _ (λ y. Changes y left) (effects left) (effects right) (λ y d. inl d) q) in
+          let h = expression_fine left s le fit.0 (permits_left c _ (λ y. Changes y left) (effects left) (effects right) (λ y d. inl d) q) in
           let le1 = further s x h le in
           let u = discarded (may_be_unused left) x.value x.state in
           let d = discarded_fine (may_be_unused left) x.value x.state le1 in
           fine_then f I s x (λ x s1. then_ (discarded (may_be_unused left) x s1) (λ u s2. expression g c right s2)) h
           (fine_then f I x.state u (λ u s2. expression g c right s2) d
-          (expression_fine right u.state (further x.state u d le1) (permits_right c _ (λ y. Changes y right) (effects left) (effects right) (λ y d. inr d) q)))
+          (expression_fine right u.state (further x.state u d le1) fit.1 (permits_right c _ (λ y. Changes y right) (effects left) (effects right) (λ y d. inr d) q)))
 
-      pub operands_fine : (xs : CoreTrees) (later : Effects) (before : List PureTree) (s : State) → low ≤ length s.variables → Permits c (λ x. AnyChanges x xs) (effects_of_all xs) → IsFine f I s (operands g c xs later before s)
-      operands_fine core.none later before s le p = fine_gives f I before s
-      operands_fine (core.more first rest) later before s le p =
+      pub operands_fine : (xs : CoreTrees) (later : Effects) (before : List PureTree) (s : State) → low ≤ length s.variables → AllFit F xs → Permits c (λ x. AnyChanges x xs) (effects_of_all xs) → IsFine f I s (operands g c xs later before s)
+      operands_fine core.none later before s le fit p = fine_gives f I before s
+      operands_fine (core.more first rest) later before s le fit p =
           let x = expression g c first s in
-          let h = expression_fine first s le (permits_left c _ (λ y. Changes y first) (effects first) (effects_of_all rest) (λ y d. inl d) p) in
+          let h = expression_fine first s le fit.0 (permits_left c _ (λ y. Changes y first) (effects first) (effects_of_all rest) (λ y d. inl d) p) in
           let le1 = further s x h le in
           let y = save c.file_variables x.value (either (effects_of_all rest) later) x.state in
           let q = fine_save f I low own c.file_variables x.value (either (effects_of_all rest) later) x.state le1 in
           fine_then f I s x (λ x s1. then_ (save c.file_variables x (either (effects_of_all rest) later) s1) (λ y s2. operands g c rest later (before ++ y ∷ []) s2)) h
           (fine_then f I x.state y (λ y s2. operands g c rest later (before ++ y ∷ []) s2) q
-          (operands_fine rest later (before ++ y.value ∷ []) y.state (further x.state y q le1) (permits_right c _ (λ y. AnyChanges y rest) (effects first) (effects_of_all rest) (λ y d. inr d) p)))
+          (operands_fine rest later (before ++ y.value ∷ []) y.state (further x.state y q le1) fit.1 (permits_right c _ (λ y. AnyChanges y rest) (effects first) (effects_of_all rest) (λ y d. inr d) p)))
 
-      argument_fine : (a : ArgumentTree) (later : Effects) (s : State) → low ≤ length s.variables → Permits c (λ x. ArgumentChanges x a) (effects_of_argument a) → IsFine f I s (argument g c a later s)
-      argument_fine (core.given e) later s le p =
+      argument_fine : (a : ArgumentTree) (later : Effects) (s : State) → low ≤ length s.variables → ArgumentFits F a → Permits c (λ x. ArgumentChanges x a) (effects_of_argument a) → IsFine f I s (argument g c a later s)
+      argument_fine (core.given e) later s le fit p =
           let x = expression g c e s in
-          let h = expression_fine e s le p in
+          let h = expression_fine e s le fit p in
           fine_then f I s x (λ x s1. then_ (save c.file_variables x later s1) (λ y s2. gives (value_given y) s2)) h
           (fine_then f I x.state (save c.file_variables x.value later x.state) (λ y s2. gives (value_given y) s2) (fine_save f I low own c.file_variables x.value later x.state (further s x h le)) (fine_gives f I _ _))
-      argument_fine (core.array cell) later s le p = fine_gives f I _ s
+      argument_fine (core.array cell) later s le fit p = fine_gives f I _ s
 
-      pub arguments_fine : (args : ArgumentTrees) (before : List Given) (s : State) → low ≤ length s.variables → Permits c (λ x. ArgumentsChange x args) (effects_of_arguments args) → IsFine f I s (arguments g c args before s)
-      arguments_fine core.no_argument before s le p = fine_gives f I before s
-      arguments_fine (core.more_arguments first rest) before s le p =
+      pub arguments_fine : (args : ArgumentTrees) (before : List Given) (s : State) → low ≤ length s.variables → ArgumentsFit F args → Permits c (λ x. ArgumentsChange x args) (effects_of_arguments args) → IsFine f I s (arguments g c args before s)
+      arguments_fine core.no_argument before s le fit p = fine_gives f I before s
+      arguments_fine (core.more_arguments first rest) before s le fit p =
           let x = argument g c first (effects_of_arguments rest) s in
-          let h = argument_fine first (effects_of_arguments rest) s le (permits_left c _ (λ y. ArgumentChanges y first) (effects_of_argument first) (effects_of_arguments rest) (λ y d. inl d) p) in
+          let h = argument_fine first (effects_of_arguments rest) s le fit.0 (permits_left c _ (λ y. ArgumentChanges y first) (effects_of_argument first) (effects_of_arguments rest) (λ y d. inl d) p) in
           fine_then f I s x (λ a s1. arguments g c rest (before ++ a ∷ []) s1) h
-          (arguments_fine rest (before ++ x.value ∷ []) x.state (further s x h le) (permits_right c _ (λ y. ArgumentsChange y rest) (effects_of_argument first) (effects_of_arguments rest) (λ y d. inr d) p))
+          (arguments_fine rest (before ++ x.value ∷ []) x.state (further s x h le) fit.1 (permits_right c _ (λ y. ArgumentsChange y rest) (effects_of_argument first) (effects_of_arguments rest) (λ y d. inr d) p))
+
+-- What calls keep: those that are in the text, whatever the variables of file scope and elements are allowed to hold.
+pub record CalleesKeep (f : Frame) (o : Objects) (g : Callee) (c : Call) : Type 1 where
+  pub any : CalleesFine f (λ t. Unit {0}) 0 (λ i le t x u. tt) g c Anything
+  pub fine : (I : Store → Type 0) (low : ℕ) (own : (i : ℕ) → low ≤ i → Sets f I i) → CalleesFine f I low own g c (Taken o)
+
+-- ---- which calls there are
+
+mutual
+  pub any_fit : (e : CoreTree) → CallsFit Anything e
+  any_fit (core.number value k) = tt
+  any_fit (core.scalar cell k at) = tt
+  any_fit (core.element array subscripts k at) = all_fit subscripts
+  any_fit (core.call callee args k at) = (tt, arguments_fit args)
+  any_fit (core.unary op arg k at) = any_fit arg
+  any_fit (core.binary op left right k at) = (any_fit left, any_fit right)
+  any_fit (core.choice test left right k at colon) = (any_fit test, any_fit left, any_fit right)
+  any_fit (core.cast to arg) = any_fit arg
+  any_fit (core.assign (core.target cell subscripts k place) op v at) = (all_fit subscripts, any_fit v)
+  any_fit (core.bump (core.target cell subscripts k place) up post at) = all_fit subscripts
+  any_fit (core.comma left right) = (any_fit left, any_fit right)
+
+  pub all_fit : (xs : CoreTrees) → AllFit Anything xs
+  all_fit core.none = tt
+  all_fit (core.more first rest) = (any_fit first, all_fit rest)
+
+  argument_fits : (a : ArgumentTree) → ArgumentFits Anything a
+  argument_fits (core.given v) = any_fit v
+  argument_fits (core.array cell) = tt
+
+  pub arguments_fit : (args : ArgumentTrees) → ArgumentsFit Anything args
+  arguments_fit core.no_argument = tt
+  arguments_fit (core.more_arguments first rest) = (argument_fits first, arguments_fit rest)
+
+mutual
+  pub sound_fits : (o : Objects) (e : CoreTree) → IsSound o e → CallsFit (Taken o) e
+  sound_fits o (core.number value k) h = tt
+  sound_fits o (core.scalar cell k at) h = tt
+  sound_fits o (core.element array subscripts k at) h = sounds_fit o subscripts h.1
+  sound_fits o (core.call callee args k at) h = ((k, h.0), sound_arguments o args h.1)
+  sound_fits o (core.unary op arg k at) h = sound_fits o arg h.1
+  sound_fits o (core.binary op left right k at) h = (sound_fits o left h.1, sound_fits o right h.2)
+  sound_fits o (core.choice test left right k at colon) h = (sound_fits o test h.0, sound_fits o left h.1, sound_fits o right h.2)
+  sound_fits o (core.cast to arg) h = sound_fits o arg h
+  sound_fits o (core.assign (core.target cell subscripts k place) op v at) h = (sounds_fit o subscripts h.1, sound_fits o v h.2)
+  sound_fits o (core.bump (core.target cell subscripts k place) up post at) h = sounds_fit o subscripts h.1
+  sound_fits o (core.comma left right) h = (sound_fits o left h.0, sound_fits o right h.1)
+
+  pub sounds_fit : (o : Objects) (xs : CoreTrees) → AreSound o xs → AllFit (Taken o) xs
+  sounds_fit o core.none h = tt
+  sounds_fit o (core.more first rest) h = (sound_fits o first h.0, sounds_fit o rest h.1)
+
+  sound_argument : (o : Objects) (a : ArgumentTree) → ArgumentSound o a → ArgumentFits (Taken o) a
+  sound_argument o (core.given v) h = sound_fits o v h
+  sound_argument o (core.array cell) h = tt
+
+  pub sound_arguments : (o : Objects) (args : ArgumentTrees) → ArgumentsSound o args → ArgumentsFit (Taken o) args
+  sound_arguments o core.no_argument h = tt
+  sound_arguments o (core.more_arguments first rest) h = (sound_argument o first h.0, sound_arguments o rest h.1)

@@ -19,7 +19,7 @@ use Rattle.core_meaning.specs.Expressions as ce
 use Rattle.piece_meaning.specs.Values.{Store, value}
 use Rattle.piece_meaning.specs.Pieces.{Frame, Way, behind_fork}
 use Rattle.expand_runs.specs.Reading.{IsTyped, variable_type, UnaryFits, BinaryFits}
-use Rattle.expand_runs.specs.Showing.{IsShown}
+use Rattle.expand_runs.specs.Showing.{Known, IsShown}
 use Rattle.expand_runs.specs.Sound.{Objects}
 use Rattle.expand_runs.specs.Worlds.{IsWorld}
 use Rattle.expand_runs.proofs.Sames.{same_as, same_more}
@@ -35,7 +35,7 @@ pub either_same : {A C : Type 0} (k : ℕ) (Q : A → Cells → C → Store → 
 either_same k Q true q q' r r' g h h' = h
 either_same k Q false q q' r r' g h h' = h'
 
-module _ (unary_fits : UnaryFits) (binary_fits : BinaryFits) (f : Frame) (k : ℕ) (here : Here) (c : Call) (o : Objects) (Homes : Spot → Home → Type 0) (Lives : Spot → Type 0) (kinds : Spot → CType) (base : ℕ)
+module _ (unary_fits : UnaryFits) (binary_fits : BinaryFits) (f : Frame) (k : ℕ) (here : Here) (c : Call) (o : Objects) (Homes : Spot → Home → Type 0) (Lives : Spot → Type 0) (kinds : Known) (base : ℕ)
     (world : IsWorld f here c o Homes Lives kinds base) where
   abbrev pub Gives : Bool → CoreTree → ℕ → ℕ → PureTree → ℤ → Cells → Way → Store → Type 0
   Gives = Result unary_fits binary_fits f k here c o Homes Lives kinds base world

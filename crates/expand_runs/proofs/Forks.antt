@@ -20,7 +20,7 @@ use Rattle.core_meaning.specs.Expressions as ce
 use Rattle.piece_meaning.specs.Values.{Store, value, with_variable}
 use Rattle.piece_meaning.specs.Pieces.{Frame, Way, on, behind, behind_fork, pieces_run}
 use Rattle.expand_runs.specs.Reading.{IsNumber, IsTyped, variable_type, UnaryFits, BinaryFits}
-use Rattle.expand_runs.specs.Showing.{IsShown}
+use Rattle.expand_runs.specs.Showing.{Known, IsShown}
 use Rattle.expand_runs.specs.Sound.{Objects}
 use Rattle.expand_runs.specs.Evaluating.{Evaluated}
 use Rattle.expand_runs.specs.Worlds.{IsWorld}
@@ -30,7 +30,7 @@ use Rattle.expand_runs.proofs.Going.{Goes, goes_set}
 use Rattle.expand_runs.proofs.Typing.{number_here, number_other, typed_set, converted_number}
 use Rattle.expand_runs.proofs.Showing.{shown_apart}
 use Rattle.expand_runs.proofs.Evaluating.{on_same}
-use Rattle.expand_runs.proofs.Controls.{one_piece}
+use Rattle.expand_runs.proofs.Rows.{one_piece}
 use Rattle.expand_runs.proofs.ExpressionParts.{Result}
 
 -- ---- pieces behind a part, without a point
@@ -58,7 +58,7 @@ fork_run f test first second end t n x e =
     one_piece f (tree.fork test (piece_row first) (piece_row second) end) t n
     ∙ ap (λ z. valued z (λ x t1 n1. then_ (if is_true x then pieces_run f (piece_row first) t1 n1 else pieces_run f (piece_row second) t1 n1) (λ w t2 n2. behind_fork w end t2 n2)) t n) e
 
-module _ (f : Frame) (k : ℕ) (Homes : Spot → Home → Type 0) (Lives : Spot → Type 0) (kinds : Spot → CType) where
+module _ (f : Frame) (k : ℕ) (Homes : Spot → Home → Type 0) (Lives : Spot → Type 0) (kinds : Known) where
   -- Control goes on, and the variable of the operator has this number.
   pub record Decided (own : ℕ) (h : ℤ → ℤ) (v : ℤ) (s : Cells) (w : Way) (t : Store) : Type 0 where
     pub done : Evaluated f Homes Lives kinds s w t
@@ -84,7 +84,7 @@ module _ (f : Frame) (k : ℕ) (Homes : Spot → Home → Type 0) (Lives : Spot 
       (pass_same k (λ u s2 z t2. Decided own h v s2 on t2) end s1 t1 n1 le (record { done = record { on_ = refl; shown = a.done.shown; typed = a.done.typed }; number = a.number }))
       (λ u s2 z t2 n2 le2 b. goes_same k (Decided own (λ v. v)) (h v) s2 on t2 n2 le2 (record { done = b.done; number = b.number }))))
 
-module _ (unary_fits : UnaryFits) (binary_fits : BinaryFits) (f : Frame) (k : ℕ) (here : Here) (c : Call) (o : Objects) (Homes : Spot → Home → Type 0) (Lives : Spot → Type 0) (kinds : Spot → CType) (base : ℕ)
+module _ (unary_fits : UnaryFits) (binary_fits : BinaryFits) (f : Frame) (k : ℕ) (here : Here) (c : Call) (o : Objects) (Homes : Spot → Home → Type 0) (Lives : Spot → Type 0) (kinds : Known) (base : ℕ)
     (world : IsWorld f here c o Homes Lives kinds base) where
   -- An arm: its point, the operand, and the setting of the operator's variable.
   pub arm_same : (e : CoreTree) (kd : CType) (own low high : ℕ) (p : Point) (y z : PureTree) (h : ℤ → ℤ) (ys : List PieceTree) (q : Cells → ℕ → Ran Cells ℤ) (s : Cells) (t : Store) (n : ℕ) → n ≤ k → base ≤ own → variable_type f own ≡ kd

@@ -24,7 +24,7 @@ use Rattle.core_meaning.specs.Expressions as ce
 use Rattle.piece_meaning.specs.Values.{Store, value, with_variable}
 use Rattle.piece_meaning.specs.Pieces.{Frame, Way, on, behind_fork}
 use Rattle.expand_runs.specs.Reading.{IsNumber, IsTyped, variable_type, UnaryFits, BinaryFits}
-use Rattle.expand_runs.specs.Showing.{IsShown}
+use Rattle.expand_runs.specs.Showing.{Known, IsShown}
 use Rattle.expand_runs.specs.Sound.{Objects}
 use Rattle.expand_runs.specs.Worlds.{IsWorld}
 use Rattle.expand_runs.proofs.Sames.{goes_same, same_as, same_more, then_then}
@@ -43,7 +43,7 @@ bool_truth false = refl
 abbrev decided_word : Bool → ℕ
 decided_word d = if d then 1 else 0
 
-module _ (unary_fits : UnaryFits) (binary_fits : BinaryFits) (f : Frame) (k : ℕ) (here : Here) (c : Call) (o : Objects) (Homes : Spot → Home → Type 0) (Lives : Spot → Type 0) (kinds : Spot → CType) (base : ℕ)
+module _ (unary_fits : UnaryFits) (binary_fits : BinaryFits) (f : Frame) (k : ℕ) (here : Here) (c : Call) (o : Objects) (Homes : Spot → Home → Type 0) (Lives : Spot → Type 0) (kinds : Known) (base : ℕ)
     (world : IsWorld f here c o Homes Lives kinds base) where
   abbrev D : ℕ → ℤ → Cells → Way → Store → Type 0
   D own = Decided f k Homes Lives kinds own (λ v. v)

@@ -19,7 +19,7 @@ use Rattle.piece_meaning.specs.Values.{Store, value, values}
 use Rattle.piece_meaning.specs.Pieces.{Frame, Way, on}
 use Rattle.expand_runs.specs.Reading.{IsTyped, UnaryFits, BinaryFits}
 use Rattle.expand_runs.specs.Growing.{IsWithin}
-use Rattle.expand_runs.specs.Showing.{IsShown}
+use Rattle.expand_runs.specs.Showing.{Known, IsShown}
 use Rattle.expand_runs.specs.Sound.{Objects, Reads, AnyReads}
 use Rattle.expand_runs.specs.Evaluating.{ComesOf}
 use Rattle.expand_runs.specs.Worlds.{IsWorld}
@@ -32,7 +32,7 @@ use Rattle.expand_runs.proofs.Evaluating.{on_same, goes_first}
 use Rattle.expand_runs.proofs.Operands.{Saved, safe_more, save_well, value_more, comes_more, OperandsDone}
 use Rattle.expand_runs.proofs.ExpressionParts.{Result}
 
-module _ (unary_fits : UnaryFits) (binary_fits : BinaryFits) (f : Frame) (k : ℕ) (here : Here) (c : Call) (o : Objects) (Homes : Spot → Home → Type 0) (Lives : Spot → Type 0) (kinds : Spot → CType) (base : ℕ)
+module _ (unary_fits : UnaryFits) (binary_fits : BinaryFits) (f : Frame) (k : ℕ) (here : Here) (c : Call) (o : Objects) (Homes : Spot → Home → Type 0) (Lives : Spot → Type 0) (kinds : Known) (base : ℕ)
     (world : IsWorld f here c o Homes Lives kinds base) where
   abbrev Done : CoreTrees → Effects → ℕ → ℕ → List PureTree → List PureTree → List ℤ → List ℤ → Cells → Way → Store → Type 0
   Done = OperandsDone f here c o Homes Lives kinds base world

@@ -1,5 +1,5 @@
 -- Objects that are read, and operands that keep their values while later ones are evaluated.
-use Rattle.std.proofs.Common.{◌≡◌, ◌≢◌, ℕ, ◌≤◌, ◌<◌, ◌∙◌, inl, inr, sym, refl, ap, subst, ℤ, Bool, true, false, List, [], ◌∷◌, ◌++◌, length, Some, slice_get, le_refl, le_trans, arith, if◌then◌else◌}
+use Rattle.std.proofs.Common.{◌≡◌, ◌≢◌, ℕ, ◌≤◌, ◌<◌, ◌∙◌, inl, inr, sym, refl, ap, subst, ℤ, Bool, true, false, List, [], ◌∷◌, ◌++◌, length, Some, slice_get, le_refl, le_trans, arith, if◌then◌else◌, Option, None}
 use Rattle.std.proofs.lemmas.Bool.{false≢true}
 use Rattle.hls_base.specs.declared.number.VarId.{VarId}
 use Rattle.hls_base.specs.declared.number.ArrayId.{ArrayId}
@@ -14,9 +14,9 @@ use Rattle.piece_making.specs.declared.frame.Home.{Home}
 use Rattle.piece_making.specs.declared.frame.Home.TheVariants as home
 use Rattle.piece_making.specs.declared.effects.Effects.{Effects}
 use Rattle.piece_making.specs.Acting.{spoils, either}
-use Rattle.piece_making.specs.Making.{State, Part, gives}
+use Rattle.piece_making.specs.Making.{State, Part, gives, noted}
 use Rattle.piece_making.specs.Saving.{has_element, saved, save}
-use Rattle.piece_making.specs.Calls.{Call, scalar, variable, variable_in, array, array_in, read_of}
+use Rattle.piece_making.specs.Calls.{Call, scalar, variable, variable_in, array, array_in, read_of, home_of}
 use Rattle.run_steps.specs.Valued.{is}
 use Rattle.core_meaning.specs.Cells.{Spot, Cells, Here, spot_of}
 use Rattle.piece_meaning.specs.Values.{Store, lengths_in, value}
@@ -24,10 +24,10 @@ use Rattle.piece_meaning.specs.Pieces.{Frame, Way, kind_at}
 use Rattle.expand_runs.specs.Reading.{AllRead, IsNumber, IsTyped, variable_type, UnaryFits, BinaryFits}
 use Rattle.expand_runs.specs.Growing.{IsWithin}
 use Rattle.expand_runs.specs.Saving.{IsKept}
-use Rattle.expand_runs.specs.Showing.{IsShown}
+use Rattle.expand_runs.specs.Showing.{Known, IsShown}
 use Rattle.expand_runs.specs.Sound.{Objects, AnyReads}
 use Rattle.expand_runs.specs.Evaluating.{ComesOf, IsValue, AreValues, Evaluated, IsLinked}
-use Rattle.expand_runs.specs.Worlds.{IsWorld}
+use Rattle.expand_runs.specs.Worlds.{IsWorld, AreNoted, IsArrayOf}
 use Rattle.expand_runs.proofs.Reading.{read_more, read_any, or_left, or_right}
 use Rattle.expand_runs.proofs.Going.{Goes, goes_nothing}
 use Rattle.expand_runs.proofs.SavedLater.{saved_later}
@@ -36,8 +36,9 @@ use Rattle.expand_runs.proofs.Showing.{shown_apart}
 use Rattle.expand_runs.proofs.Fine.{Sets}
 use Rattle.expand_runs.proofs.FineExpressions.{Permits, spoils_or2}
 use Rattle.expand_runs.proofs.Evaluating.{sets_value, puts_value}
+use Rattle.piece_making.specs.declared.work.Slot.{Slot}
 
-module _ (f : Frame) (here : Here) (c : Call) (o : Objects) (Homes : Spot → Home → Type 0) (Lives : Spot → Type 0) (kinds : Spot → CType) (base : ℕ) (world : IsWorld f here c o Homes Lives kinds base) where
+module _ (f : Frame) (here : Here) (c : Call) (o : Objects) (Homes : Spot → Home → Type 0) (Lives : Spot → Type 0) (kinds : Known) (base : ℕ) (world : IsWorld f here c o Homes Lives kinds base) where
   abbrev Shown : Cells → Store → Type 0
   Shown s t = IsShown f Homes Lives kinds s t
 
@@ -58,11 +59,11 @@ module _ (f : Frame) (here : Here) (c : Call) (o : Objects) (Homes : Spot → Ho
             (record { same = ap is (q.2 v e); type = refl; types = type; reads = inl (x, own, refl, link.0, refl) });
       }
 
-  constant_there : (x : Cell) (k : CType) (low high : ℕ) (s : Cells) (t : Store) (word : ℕ) → IsLinked here c Homes Lives x (home.Constant word) → kinds (spot_of here x) ≡ k → IsNumber k (number_of k word) → Shown s t → ScalarThere x k low high s t
+  constant_there : (x : Cell) (k : CType) (low high : ℕ) (s : Cells) (t : Store) (word : ℕ) → IsLinked here c Homes Lives x (home.Constant word) → kinds.types (spot_of here x) ≡ k → IsNumber k (number_of k word) → Shown s t → ScalarThere x k low high s t
   constant_there x k low high s t word link type number h =
       let q = h.objects (spot_of here x) (home.Constant word) link.1 link.2 in
       let is_name : scalar c x k ≡ tree.number word k = ap (λ z. read_of z k) link.0 in
-      let same_kind : (s (spot_of here x)).kind ≡ k = h.kinds (spot_of here x) link.2 ∙ type in
+      let same_kind : (s (spot_of here x)).kind ≡ k = h.kinds (spot_of here x) word link.1 link.2 ∙ type in
       record {
         lengths = q.0;
         there = λ v e. subst (λ z. IsValue f c (λ y. y ≡ x) low high z k v t) (sym is_name)
@@ -79,16 +80,28 @@ module _ (f : Frame) (here : Here) (c : Call) (o : Objects) (Homes : Spot → Ho
   pub record ArrayThere (x : Cell) (k : CType) (st : State) (s : Cells) (t : Store) : Type 0 where
     pub number : ArrayId
     pub is_number : array c x st ≡ number
-    pub link : IsLinked here c Homes Lives x (home.Array number)
+    pub stands : Homes (spot_of here x) (home.Array number)
+    pub lives : Lives (spot_of here x)
     pub type : kind_at f.arrays number.0 ≡ k
     pub lengths : (s (spot_of here x)).lengths ≡ lengths_in (slice_get f.arrays number.0)
     pub there : (i : ℕ) (v : ℤ) → element_in (slice_get (s (spot_of here x)).elements i) ≡ Some v → t.elements number.0 i ≡ v
 
-  pub array_there : (x : Cell) (k : CType) (st : State) (s : Cells) (t : Store) → o.Array x k → Shown s t → ArrayThere x k st s t
-  array_there x k st s t is_array h =
+  -- what is noted is the array of the object
+  named_array : (x : Cell) (h : Option Home) (a : ArrayId) (st : State) → IsArrayOf world.seen x h a → ((slot : Slot) → h ≡ Some (home.Local slot) → world.seen x ≡ Some a → slice_get st.slots slot.0 ≡ Some (Some a)) → array_in h st ≡ a
+  named_array x (Some (home.Array b)) a st is_ there = is_
+  named_array x (Some (home.Local slot)) a st is_ there = ap noted (there slot refl is_)
+  named_array x (Some (home.Variable own)) a st is_ there = absurd is_
+  named_array x (Some (home.Constant word)) a st is_ there = absurd is_
+  named_array x None a st is_ there = absurd is_
+
+  pub array_named : (x : Cell) (k : CType) (st : State) → AreNoted c world.seen st → (is_array : o.Array x k) → array c x st ≡ (world.arrays x k is_array).0
+  array_named x k st there is_array = let a = world.arrays x k is_array in named_array x (home_of c x) a.0 st a.3 (λ slot e z. there x slot a.0 e z)
+
+  pub array_there : (x : Cell) (k : CType) (st : State) (s : Cells) (t : Store) → AreNoted c world.seen st → o.Array x k → Shown s t → ArrayThere x k st s t
+  array_there x k st s t there is_array h =
       let a = world.arrays x k is_array in
-      let q = h.objects (spot_of here x) (home.Array a.0) a.1.1 a.1.2 in
-      record { number = a.0; is_number = ap (λ z. array_in z st) a.1.0; link = a.1; type = a.2; lengths = q.1; there = q.2 }
+      let q = h.objects (spot_of here x) (home.Array a.0) a.1 a.2 in
+      record { number = a.0; is_number = array_named x k st there is_array; stands = a.1; lives = a.2; type = a.4; lengths = q.1; there = q.2 }
 
   -- ---- variables that a value comes of
 

@@ -33,7 +33,7 @@ quiet_first x y e = quiet_left x.calls y.calls x.changes y.changes x.commas y.co
 pub quiet_second : (x y : Effects) → acts (either x y) ≡ false → acts y ≡ false
 quiet_second x y e = quiet_right x.calls y.calls x.changes y.changes x.commas y.commas e
 
-quiet_spoils : (a b : Bool) → a || b ≡ false → a ≡ false
+pub quiet_spoils : (a b : Bool) → a || b ≡ false → a ≡ false
 quiet_spoils true b e = absurd (true≢false e)
 quiet_spoils false b e = refl
 
@@ -68,7 +68,7 @@ quiet_whole false b true q r s e h = absurd (true≢false e)
 quiet_whole false b false q true s e h = absurd (true≢false e)
 quiet_whole false b false q false s e h = h
 
-quiet_both : (x y : Effects) → acts x ≡ false → acts y ≡ false → acts (either x y) ≡ false
+pub quiet_both : (x y : Effects) → acts x ≡ false → acts y ≡ false → acts (either x y) ≡ false
 quiet_both x y e h = quiet_whole x.calls y.calls x.changes y.changes x.commas y.commas e h
 
 changing_acts : (a c : Bool) → (a || true) || c ≡ false → ⊥

@@ -1,11 +1,11 @@
 -- Pieces behind other pieces.
-use Rattle.std.proofs.Common.{◌≡◌, ℕ, ◌≤◌, ◌∙◌, sym, refl, Bool, true, false, List, [], ◌∷◌, ◌++◌, if◌then◌else◌}
+use Rattle.std.proofs.Common.{◌≡◌, ℕ, ◌≤◌, ◌∙◌, sym, refl, Bool, true, false, List, [], ◌∷◌, ◌++◌, if◌then◌else◌, ap, append-nil}
 use Rattle.std.specs.Prelude.{◌==◌}
 use Rattle.hls_base.specs.declared.point.Point.{Point}
 use Rattle.pieces.specs.declared.piece.CallId.{CallId}
 use Rattle.pieces.specs.Trees as tree
 use Rattle.pieces.specs.Trees.{PieceTree, piece_row}
-use Rattle.run_steps.specs.Steps.{Ran, then_}
+use Rattle.run_steps.specs.Steps.{Ran, then_, Outcome, went, undefined, waiting, ran, goes}
 use Rattle.run_steps.specs.Same.{Same}
 use Rattle.piece_meaning.specs.Values.{Store}
 use Rattle.piece_meaning.specs.Pieces.{Frame, Way, on, broke, continued, left, behind, behind_piece, piece_run, pieces_run, landed}
@@ -69,3 +69,20 @@ pub rows_same : {S A C : Type 0} (f : Frame) (k : ℕ) (R : A → S → Way → 
 rows_same f k R Q xs ys q g t n h next =
     same_as k Q (then_ q g) (then_ (run_of f xs t n) (λ w t1 n1. going_on f ys w t1 n1)) (run_of f (xs ++ ys) t n) (row_behind f xs ys t n)
     (then_same k R Q q (run_of f xs t n) g (λ w t1 n1. going_on f ys w t1 n1) h next)
+
+-- ---- single pieces
+
+nothing_behind_at : {T : Type 0} (trace : List Point) (x : Outcome T Way) (g : Way → T → ℕ → Ran T Way) → ((w : Way) (t : T) (n : ℕ) → g w t n ≡ goes w t n) → then_ (ran trace x) g ≡ ran trace x
+nothing_behind_at {T} trace (went w t n) g h = ap (λ (r : Ran T Way). ran (trace ++ r.trace) r.outcome) (h w t n) ∙ ap (λ l. ran l (went w t n)) (append-nil trace)
+nothing_behind_at trace (undefined rule at) g h = ap (λ l. ran l (undefined rule at)) (append-nil trace)
+nothing_behind_at trace waiting g h = ap (λ l. ran l waiting) (append-nil trace)
+
+nothing_on : (f : Frame) (w : Way) (t : Store) (n : ℕ) → going_on f [] w t n ≡ goes w t n
+nothing_on f on t n = refl
+nothing_on f broke t n = refl
+nothing_on f continued t n = refl
+nothing_on f (left call) t n = refl
+
+-- a piece that stands alone
+pub one_piece : (f : Frame) (p : PieceTree) (t : Store) (n : ℕ) → run_of f (p ∷ []) t n ≡ piece_run f p t n
+one_piece f p t n = nothing_behind_at (piece_run f p t n).trace (piece_run f p t n).outcome (λ w t1 n1. going_on f [] w t1 n1) (λ w t1 n1. nothing_on f w t1 n1)

@@ -1,5 +1,5 @@
 -- What stands for objects behind writes.
-use Rattle.std.proofs.Common.{◌≡◌, ◌≢◌, ◌⊎◌, ◌&&◌, ◌==◌, ℕ, zero, suc, ◌<◌, ◌∙◌, sym, refl, ap, ap₂, subst, inl, inr, Bool, true, false, if◌then◌else◌, ℤ, List, [], ◌∷◌, Option, Some, slice_get, slice_set}
+use Rattle.std.proofs.Common.{◌≡◌, ◌≢◌, ◌⊎◌, ◌&&◌, ◌==◌, ℕ, zero, suc, ◌<◌, ◌∙◌, sym, refl, ap, ap₂, subst, inl, inr, Bool, true, false, if◌then◌else◌, ℤ, List, [], ◌∷◌, Option, Some, slice_get, slice_set, length, arith}
 use Rattle.std.proofs.lemmas.Option.{same_Some, none-some}
 use Rattle.std.proofs.lemmas.Bool.{eq-eqb}
 use Rattle.std.proofs.lemmas.Bool.Decides.{eqb_tells}
@@ -14,8 +14,9 @@ use Rattle.core_meaning.specs.Expressions.{written}
 use Rattle.piece_meaning.specs.Values as piece
 use Rattle.piece_meaning.specs.Values.{Store, with_variable, with_number, with_row}
 use Rattle.piece_meaning.specs.Pieces.{Frame}
-use Rattle.expand_runs.specs.Showing.{Stands, IsShown, IsApart, AreBelow}
+use Rattle.expand_runs.specs.Showing.{Stands, IsShown, IsApart, AreBelow, IsWhole, Known}
 use Rattle.expand_runs.proofs.Typing.{number_here, number_other}
+use Rattle.core_program.specs.Core.{CoreObjectTree}
 
 -- ---- one spot
 
@@ -59,6 +60,28 @@ set_there (x ∷ xs) zero (suc j) y ne = refl
 set_there (x ∷ xs) (suc i) zero y ne = refl
 set_there (x ∷ xs) (suc i) (suc j) y ne = set_there xs i j y (λ e. ne (ap suc e))
 
+set_length : (xs : List (Option ℤ)) (i : ℕ) (y : Option ℤ) → length (slice_set xs i y) ≡ length xs
+set_length [] i y = refl
+set_length (x ∷ xs) zero y = refl
+set_length (x ∷ xs) (suc i) y = ap suc (set_length xs i y)
+
+set_found : (xs : List (Option ℤ)) (i : ℕ) (y : Option ℤ) → i < length xs → slice_get (slice_set xs i y) i ≡ Some y
+set_found [] i y lt = absurd (omega (arith, lt))
+set_found (x ∷ xs) zero y lt = refl
+set_found (x ∷ xs) (suc i) y lt = set_found xs i y (omega (arith, lt))
+
+whole_set : (o : Object) (i : ℕ) (v : ℤ) → IsWhole o → IsWhole (with_element i v o)
+whole_set o i v h = record {
+  long = set_length o.elements i (Some v) ∙ h.long;
+  all = λ j lt. (
+      let lt' : j < length o.elements = (let e = set_length o.elements i (Some v) in omega (arith, lt, e)) in
+      elim (eqb_tells i j) [
+        | inl e ↦ (v, subst (λ z. slice_get (slice_set o.elements i (Some v)) z ≡ Some (Some v)) e.1 (set_found o.elements i (Some v) (let q = e.1 in omega (arith, lt', q))))
+        | inr e ↦ (let w = h.all j lt' in (w.0, set_there o.elements i j (Some v) e.1 ∙ w.1))
+      ]
+      );
+}
+
 -- ---- variables and elements that hold the same
 
 pub row_here : (g : ℕ → ℕ → ℤ) (a i : ℕ) (v : ℤ) → with_row g a i v a i ≡ v
@@ -79,26 +102,46 @@ stands_still : (f : Frame) (h : Home) (o : Object) (t t' : Store) → ((own : Va
 stands_still f (home.Variable own) o t t' same elements q = (q.0, q.1, λ v e. same own refl ∙ q.2 v e)
 stands_still f (home.Array a) o t t' same elements q = (q.0, q.1, λ i v e. elements a refl i ∙ q.2 i v e)
 stands_still f (home.Constant word) o t t' same elements q = q
-stands_still f (home.Local slot) o t t' same elements q = tt
+stands_still f (home.Local slot) o t t' same elements q = q
 
-module _ (f : Frame) (Homes : Spot → Home → Type 0) (Lives : Spot → Type 0) (types : Spot → CType) where
+module _ (f : Frame) (Homes : Spot → Home → Type 0) (Lives : Spot → Type 0) (known : Known) where
   kind_kept : (s : Cells) (x y : Spot) (i : ℕ) (v : ℤ) (k : CType) → (s y).kind ≡ k → (written x i v s y).kind ≡ k
   kind_kept s x y i v k h = elim (spot_tells x y) [
     | inl e ↦ ap (λ z. (written x i v s z).kind) (sym e) ∙ ap (λ (o : Object). o.kind) (put_here s x (with_element i v (s x))) ∙ ap (λ z. (s z).kind) e ∙ h
     | inr ne ↦ ap (λ (o : Object). o.kind) (put_other s x y (with_element i v (s x)) ne) ∙ h
   ]
 
+  whole_kept : (s : Cells) (x y : Spot) (i : ℕ) (v : ℤ) → IsWhole (s y) → IsWhole (written x i v s y)
+  whole_kept s x y i v h = elim (spot_tells x y) [
+    | inl e ↦ subst IsWhole (sym (put_here s x (with_element i v (s x))) ∙ ap (written x i v s) e) (whole_set (s x) i v (subst (λ z. IsWhole (s z)) (sym e) h))
+    | inr ne ↦ subst IsWhole (sym (put_other s x y (with_element i v (s x)) ne)) h
+  ]
+
+  fits_kept : (s : Cells) (x y : Spot) (i : ℕ) (v : ℤ) (o : CoreObjectTree) → ((s y).kind ≡ o.kind) × ((s y).lengths ≡ o.lengths) → ((written x i v s y).kind ≡ o.kind) × ((written x i v s y).lengths ≡ o.lengths)
+  fits_kept s x y i v o h = elim (spot_tells x y) [
+    | inl e ↦
+        let same : written x i v s y ≡ with_element i v (s y) = ap (written x i v s) (sym e) ∙ put_here s x (with_element i v (s x)) ∙ ap (λ z. with_element i v (s z)) e in
+        (ap (λ (z : Object). z.kind) same ∙ h.0, ap (λ (z : Object). z.lengths) same ∙ h.1)
+    | inr ne ↦
+        let same : written x i v s y ≡ s y = put_other s x y (with_element i v (s x)) ne in
+        (ap (λ (z : Object). z.kind) same ∙ h.0, ap (λ (z : Object). z.lengths) same ∙ h.1)
+  ]
+
   -- Variables that stand for no object may hold anything.
-  pub shown_apart : (low : ℕ) (s : Cells) (t t' : Store) → AreBelow Homes low → ((i : ℕ) → i < low → t'.variables i ≡ t.variables i) → ((a i : ℕ) → t'.elements a i ≡ t.elements a i) → IsShown f Homes Lives types s t → IsShown f Homes Lives types s t'
+  pub shown_apart : (low : ℕ) (s : Cells) (t t' : Store) → AreBelow Homes low → ((i : ℕ) → i < low → t'.variables i ≡ t.variables i) → ((a i : ℕ) → t'.elements a i ≡ t.elements a i) → IsShown f Homes Lives known s t → IsShown f Homes Lives known s t'
   shown_apart low s t t' below variables elements h = record {
     objects = λ x g is lives. stands_still f g (s x) t t' (λ own e. variables own.0 (below x own (subst (Homes x) e is))) (λ a e i. elements a.0 i) (h.objects x g is lives);
     kinds = h.kinds;
+    whole = h.whole;
+    fits = h.fits;
   }
 
   -- A scalar is written in both.
-  pub shown_set : (s : Cells) (t : Store) (x : Spot) (own : VarId) (v : ℤ) → IsApart Homes → Homes x (home.Variable own) → Lives x → IsShown f Homes Lives types s t → IsShown f Homes Lives types (written x 0 v s) (with_variable own.0 v t)
+  pub shown_set : (s : Cells) (t : Store) (x : Spot) (own : VarId) (v : ℤ) → IsApart Homes → Homes x (home.Variable own) → Lives x → IsShown f Homes Lives known s t → IsShown f Homes Lives known (written x 0 v s) (with_variable own.0 v t)
   shown_set s t x own v apart is lives h = record {
-    kinds = λ y l. kind_kept s x y 0 v (types y) (h.kinds y l);
+    kinds = λ y word const l. kind_kept s x y 0 v (known.types y) (h.kinds y word const l);
+    whole = λ y w. whole_kept s x y 0 v (h.whole y w);
+    fits = λ y o d l. fits_kept s x y 0 v o (h.fits y o d l);
     objects = λ y g at lives'. elim (spot_tells x y) [
       | inl e ↦
           let same : home.Variable own ≡ g = apart.one x (home.Variable own) g is (subst (λ z. Homes z g) (sym e) at) in
@@ -113,9 +156,11 @@ module _ (f : Frame) (Homes : Spot → Home → Type 0) (Lives : Spot → Type 0
   }
 
   -- An element is written in both.
-  pub shown_put : (s : Cells) (t : Store) (x : Spot) (a : ArrayId) (i : ℕ) (v : ℤ) → IsApart Homes → Homes x (home.Array a) → Lives x → IsShown f Homes Lives types s t → IsShown f Homes Lives types (written x i v s) (piece.with_element a.0 i v t)
+  pub shown_put : (s : Cells) (t : Store) (x : Spot) (a : ArrayId) (i : ℕ) (v : ℤ) → IsApart Homes → Homes x (home.Array a) → Lives x → IsShown f Homes Lives known s t → IsShown f Homes Lives known (written x i v s) (piece.with_element a.0 i v t)
   shown_put s t x a i v apart is lives h = record {
-    kinds = λ y l. kind_kept s x y i v (types y) (h.kinds y l);
+    kinds = λ y word const l. kind_kept s x y i v (known.types y) (h.kinds y word const l);
+    whole = λ y w. whole_kept s x y i v (h.whole y w);
+    fits = λ y o d l. fits_kept s x y i v o (h.fits y o d l);
     objects = λ y g at lives'. elim (spot_tells x y) [
       | inl e ↦
           let same : home.Array a ≡ g = apart.one x (home.Array a) g is (subst (λ z. Homes z g) (sym e) at) in

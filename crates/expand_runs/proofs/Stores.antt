@@ -23,18 +23,19 @@ use Rattle.core_meaning.specs.Expressions as ce
 use Rattle.piece_meaning.specs.Values.{Store, element_number, value, values, with_variable, with_element}
 use Rattle.piece_meaning.specs.Pieces.{Frame, Way, on, kind_at, put_at}
 use Rattle.expand_runs.specs.Reading.{IsNumber, IsTyped}
-use Rattle.expand_runs.specs.Showing.{IsShown}
+use Rattle.expand_runs.specs.Showing.{Known, IsShown}
 use Rattle.expand_runs.specs.Sound.{Objects}
 use Rattle.expand_runs.specs.Evaluating.{Evaluated, IsLinked}
-use Rattle.expand_runs.specs.Worlds.{IsWorld}
+use Rattle.expand_runs.specs.Worlds.{IsWorld, AreNoted}
 use Rattle.expand_runs.proofs.Sames.{goes_same, fails_any, same_as}
 use Rattle.expand_runs.proofs.Rows.{run_of}
 use Rattle.expand_runs.proofs.Going.{goes_set}
 use Rattle.expand_runs.proofs.Typing.{number_other, typed_set, converted_number}
 use Rattle.expand_runs.proofs.Showing.{shown_set, shown_put, row_here, row_beside, row_other}
-use Rattle.expand_runs.proofs.Controls.{one_piece}
+use Rattle.expand_runs.proofs.Rows.{one_piece}
+use Rattle.expand_runs.proofs.Operands.{array_there}
 
-module _ (f : Frame) (k : ℕ) (here : Here) (c : Call) (o : Objects) (Homes : Spot → Home → Type 0) (Lives : Spot → Type 0) (kinds : Spot → CType) (base : ℕ) (world : IsWorld f here c o Homes Lives kinds base) where
+module _ (f : Frame) (k : ℕ) (here : Here) (c : Call) (o : Objects) (Homes : Spot → Home → Type 0) (Lives : Spot → Type 0) (kinds : Known) (base : ℕ) (world : IsWorld f here c o Homes Lives kinds base) where
   -- What an assignment leaves: the number is stored in the type of the target, and only what stands for the target has changed.
   pub record Stored (kd : CType) (r : ℤ) (t : Store) (v : ℤ) (s : Cells) (w : Way) (t1 : Store) : Type 0 where
     pub done : Evaluated f Homes Lives kinds s w t1
@@ -89,16 +90,16 @@ module _ (f : Frame) (k : ℕ) (here : Here) (c : Call) (o : Objects) (Homes : S
       ∙ ap (λ z. valued z (λ js t1. valued (value f.arrays y t1) (λ x t2. put_at f a.0 (element_number f.arrays a.0 js) x at t2) t1) t n) e
       ∙ ap (λ z. valued z (λ x t2. put_at f a.0 (element_number f.arrays a.0 is_) x at t2) t n) g
 
-  element_written : (cell : Cell) (kd : CType) (a : ArrayId) (place at : Place) (i : Option ℕ) (s : Cells) (t : Store) (r : ℤ) (n : ℕ) → n ≤ k → IsLinked here c Homes Lives cell (home.Array a) → kind_at f.arrays a.0 ≡ kd → IsShown f Homes Lives kinds s t → IsTyped f t
+  element_written : (cell : Cell) (kd : CType) (a : ArrayId) (place at : Place) (i : Option ℕ) (s : Cells) (t : Store) (r : ℤ) (n : ℕ) → n ≤ k → Homes (spot_of here cell) (home.Array a) → Lives (spot_of here cell) → kind_at f.arrays a.0 ≡ kd → IsShown f Homes Lives kinds s t → IsTyped f t
       → Same false k (Stored kd r t) (ce.store_place i (spot_of here cell) kd r place s n) (put_at f a.0 i r at t n)
-  element_written cell kd a place at None s t r n le link type shown typed = fails_any {S = Cells} {A = ℤ} k (Stored kd r t) ub.Index place (put_at f a.0 None r at t n)
-  element_written cell kd a place at (Some i) s t r n le link type shown typed =
+  element_written cell kd a place at None s t r n le stands lives type shown typed = fails_any {S = Cells} {A = ℤ} k (Stored kd r t) ub.Index place (put_at f a.0 None r at t n)
+  element_written cell kd a place at (Some i) s t r n le stands lives type shown typed =
       let u = convert kd r in
       subst (λ z. Same false k (Stored kd r t) (goes u (ce.written (spot_of here cell) i u s) n) (goes on (with_element a.0 i (convert z r) t) n)) (sym type)
       (goes_same k (Stored kd r t) u (ce.written (spot_of here cell) i u s) on (with_element a.0 i u t) n le (record {
         done = record {
           on_ = refl;
-          shown = shown_put f Homes Lives kinds s t (spot_of here cell) a i u world.apart link.1 link.2 shown;
+          shown = shown_put f Homes Lives kinds s t (spot_of here cell) a i u world.apart stands lives shown;
           typed = typed_put t a.0 i u typed (subst (λ z. IsNumber z u) (sym type) (converted_number kd r));
         };
         number = refl;
@@ -106,16 +107,14 @@ module _ (f : Frame) (k : ℕ) (here : Here) (c : Call) (o : Objects) (Homes : S
       }))
 
   -- An element is put where the core's is written.
-  pub element_stored : (cell : Cell) (kd : CType) (at place : Place) (first : PureTree) (rest : PureTrees) (y : PureTree) (st : State) (is_ : List ℤ) (s : Cells) (t : Store) (r : ℤ) (n : ℕ) → n ≤ k → o.Array cell kd → IsShown f Homes Lives kinds s t → IsTyped f t
+  pub element_stored : (cell : Cell) (kd : CType) (at place : Place) (first : PureTree) (rest : PureTrees) (y : PureTree) (st : State) (is_ : List ℤ) (s : Cells) (t : Store) (r : ℤ) (n : ℕ) → n ≤ k → AreNoted c world.seen st → o.Array cell kd → IsShown f Homes Lives kinds s t → IsTyped f t
       → values f.arrays (tree.more first rest) t ≡ is is_ → value f.arrays y t ≡ is r
       → Same false k (Stored kd r t) (ce.store (spot_of here cell) is_ kd r place s n) (run_of f (store_at c cell at (tree.more first rest) y st).pieces t n)
   unfolding emit
-  element_stored cell kd at place first rest y st is_ s t r n le is_array shown typed e g =
-      let w = world.arrays cell kd is_array in
-      let a = w.0 in
-      let name : array c cell st ≡ a = ap (λ z. array_in z st) w.1.0 in
-      let q = shown.objects (spot_of here cell) (home.Array a) w.1.1 w.1.2 in
+  element_stored cell kd at place first rest y st is_ s t r n le there is_array shown typed e g =
+      let w = array_there f here c o Homes Lives kinds base world cell kd st s t there is_array shown in
+      let a = w.number in
       same_as k (Stored kd r t) (ce.store (spot_of here cell) is_ kd r place s n) (put_at f a.0 (element_number f.arrays a.0 is_) r at t n) (run_of f (tree.put (array c cell st) (tree.more first rest) y at ∷ []) t n)
-      (ap (λ z. run_of f (tree.put z (tree.more first rest) y at ∷ []) t n) name ∙ put_run a (tree.more first rest) y at t is_ r n e g)
-      (subst (λ ls. Same false k (Stored kd r t) (ce.store_place (element_place ls is_) (spot_of here cell) kd r place s n) (put_at f a.0 (element_number f.arrays a.0 is_) r at t n)) (sym q.1)
-      (element_written cell kd a place at (element_number f.arrays a.0 is_) s t r n le w.1 w.2 shown typed))
+      (ap (λ z. run_of f (tree.put z (tree.more first rest) y at ∷ []) t n) w.is_number ∙ put_run a (tree.more first rest) y at t is_ r n e g)
+      (subst (λ ls. Same false k (Stored kd r t) (ce.store_place (element_place ls is_) (spot_of here cell) kd r place s n) (put_at f a.0 (element_number f.arrays a.0 is_) r at t n)) (sym w.lengths)
+      (element_written cell kd a place at (element_number f.arrays a.0 is_) s t r n le w.stands w.lives w.type shown typed))

@@ -15,7 +15,7 @@ use Rattle.core_meaning.specs.Cells.{Spot, Cells, Here, spot_of}
 use Rattle.piece_meaning.specs.Values.{Store, value, values}
 use Rattle.piece_meaning.specs.Pieces.{Frame, Way, on}
 use Rattle.expand_runs.specs.Reading.{AllRead, EachReads, IsTyped, HasTypes, EachHasTypes}
-use Rattle.expand_runs.specs.Showing.{IsShown}
+use Rattle.expand_runs.specs.Showing.{Known, IsShown}
 
 -- the variable that stands for an object which the value comes of, or one that the pieces made
 abbrev pub ComesOf : Call → (Cell → Type 0) → ℕ → ℕ → ℕ → Type 0
@@ -49,7 +49,7 @@ Matters false (core.bump t up post at) = Unit {0}
 Matters false (core.comma left right) = Unit {0}
 
 -- Control goes on from stores that are related, and what is given has its value.
-pub record Evaluated (f : Frame) (Homes : Spot → Home → Type 0) (Lives : Spot → Type 0) (kinds : Spot → CType) (s : Cells) (w : Way) (t : Store) : Type 0 where
+pub record Evaluated (f : Frame) (Homes : Spot → Home → Type 0) (Lives : Spot → Type 0) (kinds : Known) (s : Cells) (w : Way) (t : Store) : Type 0 where
   pub on_ : w ≡ on
   pub shown : IsShown f Homes Lives kinds s t
   pub typed : IsTyped f t

@@ -4,7 +4,8 @@ pub mod Growing
 pub mod Saving
 pub mod Showing
 pub mod Sound
+pub mod Fitting
 pub mod Evaluating
 pub mod Worlds
-pub mod Ending
+pub mod Calling
 pub mod Laws

@@ -3,6 +3,7 @@ use Rattle.std.specs.Prelude.{◌≡◌, ℕ, ◌⊎◌, ◌||◌, pos, true, fa
 use Rattle.c_token.specs.declared.ctype.CType.{CType}
 use Rattle.c_value.specs.Values.{number_of}
 use Rattle.c_value.specs.Operators.{unary_kind, binary_kind}
+use Rattle.c_tree.specs.declared.operator.Binary.{Binary}
 use Rattle.core_program.specs.declared.expression.Cell.{Cell}
 use Rattle.core_program.specs.Core as core
 use Rattle.core_program.specs.Core.{CoreTree, CoreTargetTree, CoreTrees, ArgumentTree, ArgumentTrees}
@@ -77,6 +78,11 @@ abbrev pub IsTarget : Objects → Cell → CoreTrees → CType → Type 0
 IsTarget o cell core.none k = o.Variable cell k
 IsTarget o cell (core.more first rest) k = o.Array cell k
 
+-- no assignment has `&&` or `||`
+abbrev pub IsPlain : Option Binary → Type 0
+IsPlain None = Unit {0}
+IsPlain (Some op) = is_logical op ≡ false
+
 abbrev mutual
   pub IsSound : Objects → CoreTree → Type 0
   IsSound o (core.number value k) = (number_of k value ≡ pos value) × IsNumber k (number_of k value)
@@ -88,7 +94,7 @@ abbrev mutual
   IsSound o (core.choice test left right k at colon) = IsSound o test × IsSound o left × IsSound o right
   IsSound o (core.cast to arg) = IsSound o arg
   IsSound o (core.assign (core.target cell subscripts k place) op v at) =
-      IsTarget o cell subscripts k × AreSound o subscripts × IsSound o v × ((x : Cell) → AnyReads x subscripts → Changes x v → ⊥)
+      IsTarget o cell subscripts k × AreSound o subscripts × IsSound o v × ((x : Cell) → AnyReads x subscripts → Changes x v → ⊥) × IsPlain op
   IsSound o (core.bump (core.target cell subscripts k place) up post at) = IsTarget o cell subscripts k × AreSound o subscripts
   IsSound o (core.comma left right) = IsSound o left × IsSound o right
 
@@ -103,28 +109,3 @@ abbrev mutual
   pub ArgumentsSound : Objects → ArgumentTrees → Type 0
   ArgumentsSound o core.no_argument = Unit {0}
   ArgumentsSound o (core.more_arguments first rest) = ArgumentSound o first × ArgumentsSound o rest × ((x : Cell) → ArgumentReads x first → ArgumentsChange x rest → ⊥)
-
--- ---- expressions without calls, whose operands are evaluated one after another or in branches
-
-abbrev mutual
-  -- No call stands in it, no `++` or `--` behind its target, and no `&&`, `||` or `?:` without effects in an operand that may be skipped; what is changed are scalars.
-  pub IsStraight : CoreTree → Type 0
-  IsStraight (core.number value k) = Unit {0}
-  IsStraight (core.scalar cell k at) = Unit {0}
-  IsStraight (core.element array subscripts k at) = AreStraight subscripts
-  IsStraight (core.call callee args k at) = ⊥
-  IsStraight (core.unary op arg k at) = IsStraight arg
-  IsStraight (core.binary op left right k at) = ((is_logical op ≡ false) ⊎ ((acts (effects right) ≡ true) × (kinds.acts right ≡ true))) × IsStraight left × IsStraight right
-  IsStraight (core.choice test left right k at colon) = (acts (either (effects left) (effects right)) ≡ true) × (kinds.acts left || kinds.acts right ≡ true) × IsStraight test × IsStraight left × IsStraight right
-  IsStraight (core.cast to arg) = IsStraight arg
-  IsStraight (core.assign (core.target cell core.none k place) None v at) = IsStraight v
-  IsStraight (core.assign (core.target cell core.none k place) (Some op) v at) = (is_logical op ≡ false) × IsStraight v
-  IsStraight (core.assign (core.target cell (core.more first rest) k place) op v at) = ⊥
-  IsStraight (core.bump (core.target cell core.none k place) up false at) = Unit {0}
-  IsStraight (core.bump (core.target cell core.none k place) up true at) = ⊥
-  IsStraight (core.bump (core.target cell (core.more first rest) k place) up post at) = ⊥
-  IsStraight (core.comma left right) = IsStraight left × IsStraight right
-
-  pub AreStraight : CoreTrees → Type 0
-  AreStraight core.none = Unit {0}
-  AreStraight (core.more first rest) = IsStraight first × AreStraight rest

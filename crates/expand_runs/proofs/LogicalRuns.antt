@@ -25,19 +25,19 @@ use Rattle.piece_meaning.specs.Pieces.{Frame}
 use Rattle.c_expand.specs.Expressions.{Callee, expression}
 use Rattle.expand_runs.specs.Reading.{IsTyped, UnaryFits, BinaryFits}
 use Rattle.expand_runs.specs.Growing.{IsWithin}
-use Rattle.expand_runs.specs.Showing.{IsShown}
+use Rattle.expand_runs.specs.Showing.{Known, IsShown}
 use Rattle.expand_runs.specs.Sound.{Objects, Reads}
-use Rattle.expand_runs.specs.Worlds.{IsWorld}
+use Rattle.expand_runs.specs.Worlds.{IsWorld, IsOver}
 use Rattle.expand_runs.proofs.Rows.{run_of}
 use Rattle.expand_runs.proofs.Growing.{within_before, later_both, later_fresh}
 use Rattle.expand_runs.proofs.Fine.{Sets}
-use Rattle.expand_runs.proofs.FineExpressions.{CalleesFine}
+use Rattle.expand_runs.proofs.FineExpressions.{CalleesKeep}
 use Rattle.expand_runs.proofs.ExpressionParts.{Result}
 use Rattle.hls_base.specs.declared.point.PointKind.TheVariants as point
 use Rattle.pieces.specs.Trees.{PieceTrees}
 use Rattle.piece_making.specs.Making.{inside}
 use Rattle.expand_runs.proofs.Operands.{save_well}
-use Rattle.expand_runs.proofs.StraightParts.{Does, any_later, save_later}
+use Rattle.expand_runs.proofs.PartRuns.{Does, any_later, save_later, over_later}
 use Rattle.std.proofs.lemmas.List.{length-append}
 use Rattle.piece_making.specs.Making.{variable_number}
 use Rattle.piece_meaning.specs.Pieces.{type_of}
@@ -60,8 +60,8 @@ or_so : (c : Call) (k : CType) (at : Place) (x : PureTree) (later : Effects) (ri
 or_so c k at x later right s e =
     ap (λ z. then_ (save c.file_variables x later s) (λ left s1. if z then forked c b.LogOr k at left right s1 else then_ (right s1) (λ y s2. gives (tree.binary b.LogOr left y k at) s2))) e
 
-module _ (unary_fits : UnaryFits) (binary_fits : BinaryFits) (f : Frame) (k : ℕ) (here : Here) (c : Call) (o : Objects) (Homes : Spot → Home → Type 0) (Lives : Spot → Type 0) (kinds : Spot → CType) (base : ℕ)
-    (world : IsWorld f here c o Homes Lives kinds base) (cc : CoreCalls) (g : Callee) (callees : (I : Store → Type 0) (low : ℕ) (own : (i : ℕ) → low ≤ i → Sets f I i) → CalleesFine f I low own g) where
+module _ (unary_fits : UnaryFits) (binary_fits : BinaryFits) (f : Frame) (k : ℕ) (here : Here) (c : Call) (o : Objects) (Homes : Spot → Home → Type 0) (Lives : Spot → Type 0) (kinds : Known) (base : ℕ)
+    (world : IsWorld f here c o Homes Lives kinds base) (cc : CoreCalls) (g : Callee) (callees : CalleesKeep f o g c) where
   pub within_and : (left right : CoreTree) (at : Place) (st : State) → acts (effects right) ≡ true → IsWithin (expression g c (core.binary b.LogAnd left right int_type at) st).state f → IsWithin (expression g c left st).state f
   unfolding then_ emit inside fresh
   within_and left right at st acts_ within =
@@ -77,15 +77,16 @@ module _ (unary_fits : UnaryFits) (binary_fits : BinaryFits) (f : Frame) (k : �
       within_before x.state s2 f (later_both x.state sv.state s2 (save_later unary_fits binary_fits f k here c o Homes Lives kinds base world cc g callees x.value (effects right) x.state) (later_fresh int_type sv.state)) within_fresh
 
   -- The second operand is evaluated in a branch.
-  pub straight_and : (used : Bool) (left right : CoreTree) (at : Place) (st : State) (s : Cells) (t : Store) (n : ℕ) → acts (effects right) ≡ true → kinds_of.acts right ≡ true → base ≤ length st.variables
+  pub and_runs : (used : Bool) (left right : CoreTree) (at : Place) (st : State) (s : Cells) (t : Store) (n : ℕ) → acts (effects right) ≡ true → kinds_of.acts right ≡ true → IsOver c base world.array_base world.seen st
       → IsWithin (expression g c (core.binary b.LogAnd left right int_type at) st).state f
       → Same false k (Does unary_fits binary_fits f k here c o Homes Lives kinds base world cc g callees true left st (expression g c left st)) (ce.expression cc true left here s n) (run_of f (expression g c left st).pieces t n)
-      → ((st1 : State) → base ≤ length st1.variables → IsWithin (expression g c right st1).state f → (s1 : Cells) (t1 : Store) (n1 : ℕ) → n1 ≤ k → IsShown f Homes Lives kinds s1 t1 → IsTyped f t1
+      → ((st1 : State) → IsOver c base world.array_base world.seen st1 → IsWithin (expression g c right st1).state f → (s1 : Cells) (t1 : Store) (n1 : ℕ) → n1 ≤ k → IsShown f Homes Lives kinds s1 t1 → IsTyped f t1
       → Same false k (Does unary_fits binary_fits f k here c o Homes Lives kinds base world cc g callees true right st1 (expression g c right st1)) (ce.expression cc true right here s1 n1) (run_of f (expression g c right st1).pieces t1 n1))
       → Same false k (Does unary_fits binary_fits f k here c o Homes Lives kinds base world cc g callees used (core.binary b.LogAnd left right int_type at) st (expression g c (core.binary b.LogAnd left right int_type at) st))
       (ce.expression cc used (core.binary b.LogAnd left right int_type at) here s n) (run_of f (expression g c (core.binary b.LogAnd left right int_type at) st).pieces t n)
   unfolding then_ emit inside fresh
-  straight_and used left right at st s t n acts_ core_acts low within h second =
+  and_runs used left right at st s t n acts_ core_acts over within h second =
+      let low = over.low in
       let e = core.binary b.LogAnd left right int_type at in
       let x = expression g c left st in
       let later = effects right in
@@ -103,6 +104,9 @@ module _ (unary_fits : UnaryFits) (binary_fits : BinaryFits) (f : Frame) (k : �
       let more1 = (save_later unary_fits binary_fits f k here c o Homes Lives kinds base world cc g callees x.value later x.state).more in
       let longer = (later_fresh int_type sv.state).more in
       let last = length-append sv.state.variables (int_type ∷ []) in
+      let up = later_both st x.state sv.state (any_later unary_fits binary_fits f k here c o Homes Lives kinds base world cc g callees left st) (save_later unary_fits binary_fits f k here c o Homes Lives kinds base world cc g callees x.value later x.state) in
+      let over2 = over_later unary_fits binary_fits f k here c o Homes Lives kinds base world cc g callees st s2 over (later_both st sv.state s2 up (later_fresh int_type sv.state)) in
+      let over_sl : IsOver c base world.array_base world.seen sl = record { low = over2.low; arrays = over2.arrays; noted = over2.noted } in
       let more2 = (any_later unary_fits binary_fits f k here c o Homes Lives kinds base world cc g callees right sl).more in
       let high = length z.state.variables in
       let own_type = ap type_of (within_fresh.variables own int_type (last_one sv.state.variables int_type)) in
@@ -120,7 +124,7 @@ module _ (unary_fits : UnaryFits) (binary_fits : BinaryFits) (f : Frame) (k : �
       let d = save_well f here c o Homes Lives kinds base world unary_fits binary_fits (λ y. Reads y left) (length st.variables) x.value (kind_of left) v later x.state s1 t1 low more a.done.shown a.done.typed (a.value tt)
       (within_before sv.state (fresh int_type sv.state).state f (later_fresh int_type sv.state) within_fresh) in
       (d.after, d.goes, d.shown, d.typed, d.value.same))
-      (λ s1 t1 n1 le shown typed. second sl (omega (arith, low, more, more1, longer)) within_z s1 t1 n1 le shown typed))))
+      (λ s1 t1 n1 le shown typed. second sl over_sl within_z s1 t1 n1 le shown typed))))
 
   pub within_or : (left right : CoreTree) (at : Place) (st : State) → acts (effects right) ≡ true → IsWithin (expression g c (core.binary b.LogOr left right int_type at) st).state f → IsWithin (expression g c left st).state f
   unfolding then_ emit inside fresh
@@ -137,15 +141,16 @@ module _ (unary_fits : UnaryFits) (binary_fits : BinaryFits) (f : Frame) (k : �
       within_before x.state s2 f (later_both x.state sv.state s2 (save_later unary_fits binary_fits f k here c o Homes Lives kinds base world cc g callees x.value (effects right) x.state) (later_fresh int_type sv.state)) within_fresh
 
   -- The second operand is evaluated in a branch.
-  pub straight_or : (used : Bool) (left right : CoreTree) (at : Place) (st : State) (s : Cells) (t : Store) (n : ℕ) → acts (effects right) ≡ true → kinds_of.acts right ≡ true → base ≤ length st.variables
+  pub or_runs : (used : Bool) (left right : CoreTree) (at : Place) (st : State) (s : Cells) (t : Store) (n : ℕ) → acts (effects right) ≡ true → kinds_of.acts right ≡ true → IsOver c base world.array_base world.seen st
       → IsWithin (expression g c (core.binary b.LogOr left right int_type at) st).state f
       → Same false k (Does unary_fits binary_fits f k here c o Homes Lives kinds base world cc g callees true left st (expression g c left st)) (ce.expression cc true left here s n) (run_of f (expression g c left st).pieces t n)
-      → ((st1 : State) → base ≤ length st1.variables → IsWithin (expression g c right st1).state f → (s1 : Cells) (t1 : Store) (n1 : ℕ) → n1 ≤ k → IsShown f Homes Lives kinds s1 t1 → IsTyped f t1
+      → ((st1 : State) → IsOver c base world.array_base world.seen st1 → IsWithin (expression g c right st1).state f → (s1 : Cells) (t1 : Store) (n1 : ℕ) → n1 ≤ k → IsShown f Homes Lives kinds s1 t1 → IsTyped f t1
       → Same false k (Does unary_fits binary_fits f k here c o Homes Lives kinds base world cc g callees true right st1 (expression g c right st1)) (ce.expression cc true right here s1 n1) (run_of f (expression g c right st1).pieces t1 n1))
       → Same false k (Does unary_fits binary_fits f k here c o Homes Lives kinds base world cc g callees used (core.binary b.LogOr left right int_type at) st (expression g c (core.binary b.LogOr left right int_type at) st))
       (ce.expression cc used (core.binary b.LogOr left right int_type at) here s n) (run_of f (expression g c (core.binary b.LogOr left right int_type at) st).pieces t n)
   unfolding then_ emit inside fresh
-  straight_or used left right at st s t n acts_ core_acts low within h second =
+  or_runs used left right at st s t n acts_ core_acts over within h second =
+      let low = over.low in
       let e = core.binary b.LogOr left right int_type at in
       let x = expression g c left st in
       let later = effects right in
@@ -163,6 +168,9 @@ module _ (unary_fits : UnaryFits) (binary_fits : BinaryFits) (f : Frame) (k : �
       let more1 = (save_later unary_fits binary_fits f k here c o Homes Lives kinds base world cc g callees x.value later x.state).more in
       let longer = (later_fresh int_type sv.state).more in
       let last = length-append sv.state.variables (int_type ∷ []) in
+      let up = later_both st x.state sv.state (any_later unary_fits binary_fits f k here c o Homes Lives kinds base world cc g callees left st) (save_later unary_fits binary_fits f k here c o Homes Lives kinds base world cc g callees x.value later x.state) in
+      let over2 = over_later unary_fits binary_fits f k here c o Homes Lives kinds base world cc g callees st s2 over (later_both st sv.state s2 up (later_fresh int_type sv.state)) in
+      let over_sl : IsOver c base world.array_base world.seen sl = record { low = over2.low; arrays = over2.arrays; noted = over2.noted } in
       let more2 = (any_later unary_fits binary_fits f k here c o Homes Lives kinds base world cc g callees right sl).more in
       let high = length z.state.variables in
       let own_type = ap type_of (within_fresh.variables own int_type (last_one sv.state.variables int_type)) in
@@ -180,4 +188,4 @@ module _ (unary_fits : UnaryFits) (binary_fits : BinaryFits) (f : Frame) (k : �
       let d = save_well f here c o Homes Lives kinds base world unary_fits binary_fits (λ y. Reads y left) (length st.variables) x.value (kind_of left) v later x.state s1 t1 low more a.done.shown a.done.typed (a.value tt)
       (within_before sv.state (fresh int_type sv.state).state f (later_fresh int_type sv.state) within_fresh) in
       (d.after, d.goes, d.shown, d.typed, d.value.same))
-      (λ s1 t1 n1 le shown typed. second sl (omega (arith, low, more, more1, longer)) within_z s1 t1 n1 le shown typed))))
+      (λ s1 t1 n1 le shown typed. second sl over_sl within_z s1 t1 n1 le shown typed))))

@@ -25,13 +25,13 @@ use Rattle.piece_meaning.specs.Pieces.{Frame}
 use Rattle.c_expand.specs.Expressions.{Callee, expression}
 use Rattle.expand_runs.specs.Reading.{IsTyped, UnaryFits, BinaryFits}
 use Rattle.expand_runs.specs.Growing.{IsWithin}
-use Rattle.expand_runs.specs.Showing.{IsShown}
+use Rattle.expand_runs.specs.Showing.{Known, IsShown}
 use Rattle.expand_runs.specs.Sound.{Objects, Reads}
-use Rattle.expand_runs.specs.Worlds.{IsWorld}
+use Rattle.expand_runs.specs.Worlds.{IsWorld, IsOver}
 use Rattle.expand_runs.proofs.Rows.{run_of}
 use Rattle.expand_runs.proofs.Growing.{within_before, later_both, later_fresh}
 use Rattle.expand_runs.proofs.Fine.{Sets}
-use Rattle.expand_runs.proofs.FineExpressions.{CalleesFine}
+use Rattle.expand_runs.proofs.FineExpressions.{CalleesKeep}
 use Rattle.expand_runs.proofs.ExpressionParts.{Result}
 use Rattle.std.proofs.Common.{◌||◌}
 use Rattle.hls_base.specs.declared.point.PointKind.TheVariants as point
@@ -40,7 +40,7 @@ use Rattle.piece_making.specs.Making.{inside}
 use Rattle.c_expand.specs.Expressions.{same, arm, fork_of, chosen}
 use Rattle.expand_runs.proofs.Operands.{save_well}
 use Rattle.expand_runs.proofs.ForkParts.{choice_forked}
-use Rattle.expand_runs.proofs.StraightParts.{Does, any_later, save_later}
+use Rattle.expand_runs.proofs.PartRuns.{Does, any_later, save_later, over_later}
 use Rattle.std.proofs.lemmas.List.{length-append}
 use Rattle.c_value.specs.Operators.{is_true}
 use Rattle.piece_making.specs.Making.{variable_number}
@@ -59,8 +59,8 @@ unfolding chosen
 chosen_so c k at colon test later left right s e =
     ap (λ b. if b then chosen_in_branches c k at colon test later left right s else then_ (left s) (λ x s1. then_ (right s1) (λ y s2. gives (tree.choice test x y k) s2))) e
 
-module _ (unary_fits : UnaryFits) (binary_fits : BinaryFits) (f : Frame) (k : ℕ) (here : Here) (c : Call) (o : Objects) (Homes : Spot → Home → Type 0) (Lives : Spot → Type 0) (kinds : Spot → CType) (base : ℕ)
-    (world : IsWorld f here c o Homes Lives kinds base) (cc : CoreCalls) (g : Callee) (callees : (I : Store → Type 0) (low : ℕ) (own : (i : ℕ) → low ≤ i → Sets f I i) → CalleesFine f I low own g) where
+module _ (unary_fits : UnaryFits) (binary_fits : BinaryFits) (f : Frame) (k : ℕ) (here : Here) (c : Call) (o : Objects) (Homes : Spot → Home → Type 0) (Lives : Spot → Type 0) (kinds : Known) (base : ℕ)
+    (world : IsWorld f here c o Homes Lives kinds base) (cc : CoreCalls) (g : Callee) (callees : CalleesKeep f o g c) where
   abbrev Means : CoreTree → Cells → ℕ → Ran Cells ℤ
   Means e s n = ce.expression cc true e here s n
 
@@ -85,17 +85,18 @@ module _ (unary_fits : UnaryFits) (binary_fits : BinaryFits) (f : Frame) (k : �
       within_before x.state s2 f (later_both x.state sv.state s2 (save_later unary_fits binary_fits f k here c o Homes Lives kinds base world cc g callees x.value later x.state) (later_fresh kd sv.state)) within_fresh
 
   -- The operand that is chosen is evaluated in a branch.
-  pub straight_choice : (used : Bool) (test left right : CoreTree) (kd : CType) (at colon : Place) (st : State) (s : Cells) (t : Store) (n : ℕ) → acts (either (effects left) (effects right)) ≡ true → kinds_of.acts left || kinds_of.acts right ≡ true → base ≤ length st.variables
+  pub choice_runs : (used : Bool) (test left right : CoreTree) (kd : CType) (at colon : Place) (st : State) (s : Cells) (t : Store) (n : ℕ) → acts (either (effects left) (effects right)) ≡ true → kinds_of.acts left || kinds_of.acts right ≡ true → IsOver c base world.array_base world.seen st
       → IsWithin (expression g c (core.choice test left right kd at colon) st).state f
       → Same false k (Does unary_fits binary_fits f k here c o Homes Lives kinds base world cc g callees true test st (expression g c test st)) (Means test s n) (run_of f (expression g c test st).pieces t n)
-      → ((st1 : State) → base ≤ length st1.variables → IsWithin (expression g c left st1).state f → (s1 : Cells) (t1 : Store) (n1 : ℕ) → n1 ≤ k → IsShown f Homes Lives kinds s1 t1 → IsTyped f t1
+      → ((st1 : State) → IsOver c base world.array_base world.seen st1 → IsWithin (expression g c left st1).state f → (s1 : Cells) (t1 : Store) (n1 : ℕ) → n1 ≤ k → IsShown f Homes Lives kinds s1 t1 → IsTyped f t1
       → Same false k (Does unary_fits binary_fits f k here c o Homes Lives kinds base world cc g callees true left st1 (expression g c left st1)) (Means left s1 n1) (run_of f (expression g c left st1).pieces t1 n1))
-      → ((st1 : State) → base ≤ length st1.variables → IsWithin (expression g c right st1).state f → (s1 : Cells) (t1 : Store) (n1 : ℕ) → n1 ≤ k → IsShown f Homes Lives kinds s1 t1 → IsTyped f t1
+      → ((st1 : State) → IsOver c base world.array_base world.seen st1 → IsWithin (expression g c right st1).state f → (s1 : Cells) (t1 : Store) (n1 : ℕ) → n1 ≤ k → IsShown f Homes Lives kinds s1 t1 → IsTyped f t1
       → Same false k (Does unary_fits binary_fits f k here c o Homes Lives kinds base world cc g callees true right st1 (expression g c right st1)) (Means right s1 n1) (run_of f (expression g c right st1).pieces t1 n1))
       → Same false k (Does unary_fits binary_fits f k here c o Homes Lives kinds base world cc g callees used (core.choice test left right kd at colon) st (expression g c (core.choice test left right kd at colon) st)) (ce.expression cc used (core.choice test left right kd at colon) here s n)
       (run_of f (expression g c (core.choice test left right kd at colon) st).pieces t n)
   unfolding then_ emit inside fresh
-  straight_choice used test left right kd at colon st s t n acts_ core_acts low within h first second =
+  choice_runs used test left right kd at colon st s t n acts_ core_acts over within h first second =
+      let low = over.low in
       let e = core.choice test left right kd at colon in
       let x = expression g c test st in
       let later = either (effects left) (effects right) in
@@ -119,6 +120,11 @@ module _ (unary_fits : UnaryFits) (binary_fits : BinaryFits) (f : Frame) (k : �
       let longer = (later_fresh kd sv.state).more in
       let last = length-append sv.state.variables (kd ∷ []) in
       let more2 = (any_later unary_fits binary_fits f k here c o Homes Lives kinds base world cc g callees left sl).more in
+      let up = later_both st x.state sv.state (any_later unary_fits binary_fits f k here c o Homes Lives kinds base world cc g callees test st) (save_later unary_fits binary_fits f k here c o Homes Lives kinds base world cc g callees x.value later x.state) in
+      let over2 = over_later unary_fits binary_fits f k here c o Homes Lives kinds base world cc g callees st s2 over (later_both st sv.state s2 up (later_fresh kd sv.state)) in
+      let over_sl : IsOver c base world.array_base world.seen sl = record { low = over2.low; arrays = over2.arrays; noted = over2.noted } in
+      let over3 = over_later unary_fits binary_fits f k here c o Homes Lives kinds base world cc g callees sl l.state over_sl (any_later unary_fits binary_fits f k here c o Homes Lives kinds base world cc g callees left sl) in
+      let over_sr : IsOver c base world.array_base world.seen sr = record { low = over3.low; arrays = over3.arrays; noted = over3.noted } in
       let more3 = (any_later unary_fits binary_fits f k here c o Homes Lives kinds base world cc g callees right sr).more in
       let high = length r.state.variables in
       let own_type = ap type_of (within_fresh.variables own kd (last_one sv.state.variables kd)) in
@@ -136,5 +142,5 @@ module _ (unary_fits : UnaryFits) (binary_fits : BinaryFits) (f : Frame) (k : �
       let d = save_well f here c o Homes Lives kinds base world unary_fits binary_fits (λ y. Reads y test) (length st.variables) x.value (kind_of test) v later x.state s1 t1 low more a.done.shown a.done.typed (a.value tt)
       (within_before sv.state (fresh kd sv.state).state f (later_fresh kd sv.state) within_fresh) in
       (d.after, d.goes, d.shown, d.typed, d.value.same))
-      (λ s1 t1 n1 le shown typed. first sl (omega (arith, low, more, more1, longer)) within_l s1 t1 n1 le shown typed)
-      (λ s1 t1 n1 le shown typed. second sr (omega (arith, low, more, more1, longer, more2)) within_r s1 t1 n1 le shown typed))))
+      (λ s1 t1 n1 le shown typed. first sl over_sl within_l s1 t1 n1 le shown typed)
+      (λ s1 t1 n1 le shown typed. second sr over_sr within_r s1 t1 n1 le shown typed))))

@@ -1,5 +1,5 @@
 -- Expressions behind their operands.
-use Rattle.std.proofs.Common.{◌≡◌, ℕ, ◌≤◌, ◌∙◌, sym, refl, ap, subst, ℤ, Bool, true, false, ◌&&◌, List, [], ◌∷◌, ◌++◌, length, Option, Some, None, slice_get, le_refl, le_trans, arith, if◌then◌else◌}
+use Rattle.std.proofs.Common.{◌≡◌, ℕ, ◌≤◌, ◌∙◌, sym, refl, ap, subst, ℤ, Bool, true, false, ◌&&◌, List, [], ◌∷◌, ◌++◌, length, Option, Some, None, slice_get, le_refl, le_trans, arith, if◌then◌else◌, true≢false}
 use Rattle.hls_base.specs.declared.place.Place.{Place}
 use Rattle.c_token.specs.declared.ctype.CType.{CType}
 use Rattle.c_value.specs.Values.{convert}
@@ -34,19 +34,19 @@ use Rattle.piece_meaning.specs.Pieces.{Frame, Way}
 use Rattle.c_expand.specs.Expressions.{Callee, may_be_unused, discarded, expression, operands, operated, forked}
 use Rattle.expand_runs.specs.Reading.{IsNumber, IsTyped, HasTypes, UnaryFits, BinaryFits}
 use Rattle.expand_runs.specs.Growing.{IsLater, IsWithin}
-use Rattle.expand_runs.specs.Showing.{IsShown}
-use Rattle.expand_runs.specs.Sound.{Objects, IsSound, AreSound, IsStraight, Reads, Changes, AnyChanges}
+use Rattle.expand_runs.specs.Showing.{Known, IsShown}
+use Rattle.expand_runs.specs.Sound.{Objects, IsSound, AreSound, Reads, Changes, AnyChanges}
 use Rattle.expand_runs.specs.Evaluating.{Matters}
-use Rattle.expand_runs.specs.Worlds.{IsWorld}
+use Rattle.expand_runs.specs.Worlds.{IsWorld, IsOver}
 use Rattle.expand_runs.proofs.Sames.{same_more}
 use Rattle.expand_runs.proofs.Rows.{run_of}
-use Rattle.expand_runs.proofs.Growing.{within_before, later_same, later_own, later_fresh}
+use Rattle.expand_runs.proofs.Growing.{within_before, later_same, later_own, later_fresh, later_both}
 use Rattle.expand_runs.proofs.Going.{Goes, goes_nothing, goes_own, goes_behind}
 use Rattle.expand_runs.proofs.Typing.{joined_plain, converted_number, value_number, number_here, number_other, typed_set}
 use Rattle.expand_runs.proofs.Showing.{shown_apart}
 use Rattle.expand_runs.proofs.Reading.{or_left}
 use Rattle.expand_runs.proofs.Fine.{Sets, fine_save}
-use Rattle.expand_runs.proofs.FineExpressions.{CalleesFine, expression_fine, operands_fine, spoils_or}
+use Rattle.expand_runs.proofs.FineExpressions.{CalleesKeep, expression_fine, operands_fine, spoils_or, all_fit, any_fit, sound_fits, sounds_fit}
 use Rattle.expand_runs.proofs.Changing.{changed_variable, any_variable}
 use Rattle.expand_runs.proofs.Evaluating.{on_same, read_then, computed_then}
 use Rattle.expand_runs.proofs.Operands.{variable_there, part_permitted, sets_above, OperandsDone}
@@ -54,6 +54,7 @@ use Rattle.expand_runs.proofs.ExpressionParts.{Result, element_same, binary_same
 use Rattle.expand_runs.proofs.OperandParts.{more_done}
 use Rattle.expand_runs.proofs.Stores.{Stored, scalar_stored}
 use Rattle.expand_runs.proofs.Assigned.{stored_converted, own_stored, comma_same}
+use Rattle.expand_runs.specs.Fitting.{Anything, Taken}
 
 -- an operator whose second operand is evaluated in any case
 pub operated_plain : (c : Call) (op : Binary) (k : CType) (at : Place) (x : PureTree) (later : Effects) (right : State → Part PureTree) (s : State) → is_logical op ≡ false
@@ -61,35 +62,40 @@ pub operated_plain : (c : Call) (op : Binary) (k : CType) (at : Place) (x : Pure
 operated_plain c op k at x later right s e =
     ap (λ b. then_ (save c.file_variables x later s) (λ left s1. if (b && acts later) then forked c op k at left right s1 else then_ (right s1) (λ y s2. gives (tree.binary op left y k at) s2))) e
 
-module _ (unary_fits : UnaryFits) (binary_fits : BinaryFits) (f : Frame) (k : ℕ) (here : Here) (c : Call) (o : Objects) (Homes : Spot → Home → Type 0) (Lives : Spot → Type 0) (kinds : Spot → CType) (base : ℕ)
-    (world : IsWorld f here c o Homes Lives kinds base) (cc : CoreCalls) (g : Callee) (callees : (I : Store → Type 0) (low : ℕ) (own : (i : ℕ) → low ≤ i → Sets f I i) → CalleesFine f I low own g) where
+module _ (unary_fits : UnaryFits) (binary_fits : BinaryFits) (f : Frame) (k : ℕ) (here : Here) (c : Call) (o : Objects) (Homes : Spot → Home → Type 0) (Lives : Spot → Type 0) (kinds : Known) (base : ℕ)
+    (world : IsWorld f here c o Homes Lives kinds base) (cc : CoreCalls) (g : Callee) (callees : CalleesKeep f o g c) where
   abbrev pub Does : Bool → CoreTree → State → Part PureTree → ℤ → Cells → Way → Store → Type 0
   Does used e st part = Result unary_fits binary_fits f k here c o Homes Lives kinds base world used e (length st.variables) (length part.state.variables) part.value
 
   -- parts only make variables
   pub any_later : (e : CoreTree) (st : State) → IsLater st (expression g c e st).state
   any_later e st =
-      (expression_fine f (λ t. Unit {0}) 0 (λ i le t x u. tt) g (callees (λ t. Unit {0}) 0 (λ i le t x u. tt)) c e st (omega arith)
+      (expression_fine f (λ t. Unit {0}) 0 (λ i le t x u. tt) g c Anything callees.any e st (omega arith) (any_fit e)
       (record { cells = λ x d t y u. tt; calls = λ z i lt t y u. tt; puts = λ z t a i y u. tt })).later
 
   pub all_later : (xs : CoreTrees) (later : Effects) (before : List PureTree) (st : State) → IsLater st (operands g c xs later before st).state
   all_later xs later before st =
-      (operands_fine f (λ t. Unit {0}) 0 (λ i le t x u. tt) g (callees (λ t. Unit {0}) 0 (λ i le t x u. tt)) c xs later before st (omega arith)
+      (operands_fine f (λ t. Unit {0}) 0 (λ i le t x u. tt) g c Anything callees.any xs later before st (omega arith) (all_fit xs)
       (record { cells = λ x d t y u. tt; calls = λ z i lt t y u. tt; puts = λ z t a i y u. tt })).later
 
   pub save_later : (x : PureTree) (later : Effects) (st : State) → IsLater st (save c.file_variables x later st).state
   save_later x later st = (fine_save f (λ t. Unit {0}) 0 (λ i le t y u. tt) c.file_variables x later st (omega arith)).later
 
+  -- what was made before is there later
+  pub over_later : (st st' : State) → IsOver c base world.array_base world.seen st → IsLater st st' → IsOver c base world.array_base world.seen st'
+  over_later st st' over later = record { low = le_trans over.low later.more; arrays = le_trans over.arrays later.more_arrays; noted = λ x slot a e z. later.slots slot.0 (Some a) (over.noted x slot a e z) }
+
   -- ---- operators
 
-  pub straight_binary : (used : Bool) (op : Binary) (left right : CoreTree) (kd : CType) (at : Place) (st : State) (s : Cells) (t : Store) (n : ℕ) → is_logical op ≡ false → IsSound o (core.binary op left right kd at) → base ≤ length st.variables
+  pub binary_runs : (used : Bool) (op : Binary) (left right : CoreTree) (kd : CType) (at : Place) (st : State) (s : Cells) (t : Store) (n : ℕ) → is_logical op ≡ false → IsSound o (core.binary op left right kd at) → IsOver c base world.array_base world.seen st
       → IsWithin (expression g c (core.binary op left right kd at) st).state f
       → Same false k (Does true left st (expression g c left st)) (ce.expression cc true left here s n) (run_of f (expression g c left st).pieces t n)
-      → ((st1 : State) → base ≤ length st1.variables → IsWithin (expression g c right st1).state f → (s1 : Cells) (t1 : Store) (n1 : ℕ) → n1 ≤ k → IsShown f Homes Lives kinds s1 t1 → IsTyped f t1
+      → ((st1 : State) → IsOver c base world.array_base world.seen st1 → IsWithin (expression g c right st1).state f → (s1 : Cells) (t1 : Store) (n1 : ℕ) → n1 ≤ k → IsShown f Homes Lives kinds s1 t1 → IsTyped f t1
       → Same false k (Does true right st1 (expression g c right st1)) (ce.expression cc true right here s1 n1) (run_of f (expression g c right st1).pieces t1 n1))
       → Same false k (Does used (core.binary op left right kd at) st (expression g c (core.binary op left right kd at) st)) (ce.expression cc used (core.binary op left right kd at) here s n) (run_of f (expression g c (core.binary op left right kd at) st).pieces t n)
   unfolding then_
-  straight_binary used op left right kd at st s t n plain sound low within h next =
+  binary_runs used op left right kd at st s t n plain sound over within h next =
+      let low = over.low in
       let first = expression g c left st in
       let later = effects right in
       let sv = save c.file_variables first.value later first.state in
@@ -103,25 +109,26 @@ module _ (unary_fits : UnaryFits) (binary_fits : BinaryFits) (f : Frame) (k : �
       (ce.expression cc used (core.binary op left right kd at) here s n) (run_of f (first.pieces ++ part.pieces) t n) in
       subst P (sym same)
       (binary_same unary_fits binary_fits f k here c o Homes Lives kinds base world used op left right kd at (kinds_of.acts right) later (length st.variables) first second (ce.expression cc true left here s n) (ce.expression cc true right here) t n plain sound.0 low more more2 more1
-      (within_before sv.state second.state f (any_later right sv.state) within2) h (next sv.state (omega (arith, low, more, more1)) within2)
+      (within_before sv.state second.state f (any_later right sv.state) within2) h (next sv.state (over_later st sv.state over (later_both st first.state sv.state (any_later left st) (save_later first.value later first.state))) within2)
       (λ v s1 t1 d.
       let own = sets_above f here c o Homes Lives kinds base world (λ y. Reads y left) (length st.variables) (length sv.state.variables) sv.value (kind_of left) v d.after (omega (arith, low, more, more1)) d.value in
-      (expression_fine f (λ t2. value f.arrays sv.value t2 ≡ is v) (length sv.state.variables) own g (callees (λ t2. value f.arrays sv.value t2 ≡ is v) (length sv.state.variables) own) c right sv.state (le_refl (length sv.state.variables))
+      (expression_fine f (λ t2. value f.arrays sv.value t2 ≡ is v) (length sv.state.variables) own g c (Taken o) (callees.fine (λ t2. value f.arrays sv.value t2 ≡ is v) (length sv.state.variables) own) right sv.state (le_refl (length sv.state.variables)) (sound_fits o right sound.2)
       (part_permitted f here c o Homes Lives kinds base world (λ y. Reads y left) (λ y. Changes y right) (effects right) (length st.variables) (length sv.state.variables) sv.value (kind_of left) v d.after later low (le_trans more more1) d.value d.safe
       (λ y e. changed_variable o y right sound.2 e) (sound.3 plain) (λ e. e) (λ e. e) own)).allowed))
 
   -- ---- subscripts and elements
 
-  pub straight_operands : (first : CoreTree) (rest : CoreTrees) (later : Effects) (before : List PureTree) (bs : List ℤ) (st : State) (s : Cells) (t : Store) (n : ℕ) → AreSound o (core.more first rest) → base ≤ length st.variables
+  pub operands_runs : (first : CoreTree) (rest : CoreTrees) (later : Effects) (before : List PureTree) (bs : List ℤ) (st : State) (s : Cells) (t : Store) (n : ℕ) → AreSound o (core.more first rest) → IsOver c base world.array_base world.seen st
       → IsWithin (operands g c (core.more first rest) later before st).state f
       → Same false k (Does true first st (expression g c first st)) (ce.expression cc true first here s n) (run_of f (expression g c first st).pieces t n)
-      → ((st1 : State) (before1 : List PureTree) (bs1 : List ℤ) → base ≤ length st1.variables → IsWithin (operands g c rest later before1 st1).state f → (s1 : Cells) (t1 : Store) (n1 : ℕ) → n1 ≤ k → IsShown f Homes Lives kinds s1 t1 → IsTyped f t1
+      → ((st1 : State) (before1 : List PureTree) (bs1 : List ℤ) → IsOver c base world.array_base world.seen st1 → IsWithin (operands g c rest later before1 st1).state f → (s1 : Cells) (t1 : Store) (n1 : ℕ) → n1 ≤ k → IsShown f Homes Lives kinds s1 t1 → IsTyped f t1
       → Same false k (OperandsDone f here c o Homes Lives kinds base world rest later (length st1.variables) (length (operands g c rest later before1 st1).state.variables) before1 (operands g c rest later before1 st1).value bs1) (ce.numbers cc rest bs1 here s1 n1)
       (run_of f (operands g c rest later before1 st1).pieces t1 n1))
       → Same false k (OperandsDone f here c o Homes Lives kinds base world (core.more first rest) later (length st.variables) (length (operands g c (core.more first rest) later before st).state.variables) before (operands g c (core.more first rest) later before st).value bs)
       (ce.numbers cc (core.more first rest) bs here s n) (run_of f (operands g c (core.more first rest) later before st).pieces t n)
   unfolding then_
-  straight_operands first rest later before bs st s t n sound low within h next =
+  operands_runs first rest later before bs st s t n sound over within h next =
+      let low = over.low in
       let x = expression g c first st in
       let behind = effects_of_all rest in
       let both = either behind later in
@@ -132,19 +139,19 @@ module _ (unary_fits : UnaryFits) (binary_fits : BinaryFits) (f : Frame) (k : �
       let last = all_later rest later (before ++ sv.value ∷ []) sv.state in
       more_done unary_fits binary_fits f k here c o Homes Lives kinds base world first rest behind later (length st.variables) before bs x part (ce.expression cc true first here s n) (λ v. ce.numbers cc rest (bs ++ v ∷ []) here) t n low more more1 last.more
       (within_before sv.state part.state f last within) h
-      (λ v s1 t1 n1 le shown typed. next sv.state (before ++ sv.value ∷ []) (bs ++ v ∷ []) (omega (arith, low, more, more1)) within s1 t1 n1 le shown typed)
+      (λ v s1 t1 n1 le shown typed. next sv.state (before ++ sv.value ∷ []) (bs ++ v ∷ []) (over_later st sv.state over (later_both st x.state sv.state (any_later first st) (save_later x.value both x.state))) within s1 t1 n1 le shown typed)
       (λ v s1 t1 d.
       let own = sets_above f here c o Homes Lives kinds base world (λ y. Reads y first) (length st.variables) (length sv.state.variables) sv.value (kind_of first) v d.after (omega (arith, low, more, more1)) d.value in
-      (operands_fine f (λ t2. value f.arrays sv.value t2 ≡ is v) (length sv.state.variables) own g (callees (λ t2. value f.arrays sv.value t2 ≡ is v) (length sv.state.variables) own) c rest later (before ++ sv.value ∷ []) sv.state (le_refl (length sv.state.variables))
+      (operands_fine f (λ t2. value f.arrays sv.value t2 ≡ is v) (length sv.state.variables) own g c (Taken o) (callees.fine (λ t2. value f.arrays sv.value t2 ≡ is v) (length sv.state.variables) own) rest later (before ++ sv.value ∷ []) sv.state (le_refl (length sv.state.variables)) (sounds_fit o rest sound.1)
       (part_permitted f here c o Homes Lives kinds base world (λ y. Reads y first) (λ y. AnyChanges y rest) behind (length st.variables) (length sv.state.variables) sv.value (kind_of first) v d.after both low (le_trans more more1) d.value d.safe
       (λ y e. any_variable o y rest sound.1 e) sound.2 (λ e. or_left behind.calls later.calls e) (λ e. spoils_or behind.calls behind.changes later.calls later.changes e) own)).allowed)
 
-  pub straight_element : (used : Bool) (cell : Cell) (subscripts : CoreTrees) (kd : CType) (at : Place) (st : State) (s : Cells) (t : Store) (n : ℕ) → o.Array cell kd
+  pub element_runs : (used : Bool) (cell : Cell) (subscripts : CoreTrees) (kd : CType) (at : Place) (st : State) (s : Cells) (t : Store) (n : ℕ) → IsOver c base world.array_base world.seen st → o.Array cell kd
       → Same false k (OperandsDone f here c o Homes Lives kinds base world subscripts no_effects (length st.variables) (length (operands g c subscripts no_effects [] st).state.variables) [] (operands g c subscripts no_effects [] st).value [])
       (ce.numbers cc subscripts [] here s n) (run_of f (operands g c subscripts no_effects [] st).pieces t n)
       → Same false k (Does used (core.element cell subscripts kd at) st (expression g c (core.element cell subscripts kd at) st)) (ce.expression cc used (core.element cell subscripts kd at) here s n) (run_of f (expression g c (core.element cell subscripts kd at) st).pieces t n)
   unfolding then_
-  straight_element used cell subscripts kd at st s t n is_array h =
+  element_runs used cell subscripts kd at st s t n over is_array h =
       let all = operands g c subscripts no_effects [] st in
       let low = length st.variables in
       let high = length all.state.variables in
@@ -155,87 +162,11 @@ module _ (unary_fits : UnaryFits) (binary_fits : BinaryFits) (f : Frame) (k : �
       (λ js s1 w t1 n1 le a.
       subst (λ ys. Same false k (Q ys) (ce.read (ce.unset_rule js) (spot_of here cell) js at s1 n1) (run_of f [] t1 n1)) (sym a.is_given)
       (subst (λ zs. Same false k (Q a.ys) (ce.read (ce.unset_rule zs) (spot_of here cell) zs at s1 n1) (run_of f [] t1 n1)) (sym a.is_values)
-      (element_same unary_fits binary_fits f k here c o Homes Lives kinds base world used cell subscripts kd at low high a.ys all.state a.vs s1 t1 n1 le is_array a.done.shown a.done.typed a.values)))
-
-  -- ---- assignments
-
-  pub straight_assign : (used : Bool) (cell : Cell) (kd : CType) (place : Place) (v : CoreTree) (at : Place) (st : State) (s : Cells) (t : Store) (n : ℕ) → o.Variable cell kd → base ≤ length st.variables
-      → IsWithin (expression g c (core.assign (core.target cell core.none kd place) None v at) st).state f
-      → Same false k (Does true v st (expression g c v st)) (ce.expression cc true v here s n) (run_of f (expression g c v st).pieces t n)
-      → Same false k (Does used (core.assign (core.target cell core.none kd place) None v at) st (expression g c (core.assign (core.target cell core.none kd place) None v at) st))
-      (ce.expression cc used (core.assign (core.target cell core.none kd place) None v at) here s n) (run_of f (expression g c (core.assign (core.target cell core.none kd place) None v at) st).pieces t n)
-  unfolding then_ emit fresh
-  straight_assign used cell kd place v at st s t n is_variable low within h =
-      let e = core.assign (core.target cell core.none kd place) None v at in
-      let by = expression g c v st in
-      let own = length by.state.variables in
-      let y = tree.variable (fresh kd by.state).value kd in
-      let more = (any_later v st).more in
-      let last = (emit (tree.set (fresh kd by.state).value by.value) (fresh kd by.state).state).state in
-      let ys = (store_at c cell place tree.none y last).pieces in
-      let R = Does true v st by in
-      let Q = Result unary_fits binary_fits f k here c o Homes Lives kinds base world used e (length st.variables) (length (fresh kd by.state).state.variables) y in
-      on_same f k R Q by.pieces ((tree.set (fresh kd by.state).value by.value ∷ []) ++ (ys ++ [])) (ce.expression cc true v here s n) (λ x s2 n2. ce.store (spot_of here cell) [] kd x place s2 n2) t n h (λ x s1 w t1 a. a.done.on_)
-      (λ r s1 w t1 n1 le a.
-      own_stored unary_fits binary_fits f k here c o Homes Lives kinds base world used e kd by.value (length st.variables) by.state s1 t1 r n1 (ce.store (spot_of here cell) [] kd r place s1 n1) ys refl low more
-      (record { variables = within.variables; arrays = within.arrays }) (a.value tt).same a.done.shown a.done.typed
-      (λ t2 is_ shown typed.
-      let r' = convert kd r in
-      let there : value f.arrays y t2 ≡ is r' = ap is (ap (λ (z : Store). z.variables own) is_ ∙ number_here t1.variables own r') in
-      same_more k k (Stored f k here c o Homes Lives kinds base world kd r' t2) (Stored f k here c o Homes Lives kinds base world kd r t2) (ce.store (spot_of here cell) [] kd r place s1 n1) (run_of f ys t2 n1) (le_refl k)
-      (λ u s3 w3 t3 z. record { done = z.done; number = z.number ∙ converted_number kd r; kept = z.kept })
-      (subst (λ z. Same false k (Stored f k here c o Homes Lives kinds base world kd r' t2) z (run_of f ys t2 n1)) (stored_converted (element_place (s1 (spot_of here cell)).lengths []) (spot_of here cell) kd r place s1 n1)
-      (scalar_stored f k here c o Homes Lives kinds base world cell kd place place y last s1 t2 r' n1 le is_variable shown typed there))))
-
-  -- An operator reads its target behind the value.
-  pub straight_compound : (used : Bool) (cell : Cell) (kd : CType) (place : Place) (op : Binary) (v : CoreTree) (at : Place) (st : State) (s : Cells) (t : Store) (n : ℕ) → is_logical op ≡ false → o.Variable cell kd → base ≤ length st.variables
-      → IsWithin (expression g c (core.assign (core.target cell core.none kd place) (Some op) v at) st).state f
-      → Same false k (Does true v st (expression g c v st)) (ce.expression cc true v here s n) (run_of f (expression g c v st).pieces t n)
-      → Same false k (Does used (core.assign (core.target cell core.none kd place) (Some op) v at) st (expression g c (core.assign (core.target cell core.none kd place) (Some op) v at) st))
-      (ce.expression cc used (core.assign (core.target cell core.none kd place) (Some op) v at) here s n) (run_of f (expression g c (core.assign (core.target cell core.none kd place) (Some op) v at) st).pieces t n)
-  unfolding then_ emit fresh
-  straight_compound used cell kd place op v at st s t n plain is_variable low within h =
-      let e = core.assign (core.target cell core.none kd place) (Some op) v at in
-      let by = expression g c v st in
-      let own = length by.state.variables in
-      let x = scalar c cell kd in
-      let z = tree.binary op x by.value (binary_kind op kd (kind by.value)) at in
-      let y = tree.variable (fresh kd by.state).value kd in
-      let more = (any_later v st).more in
-      let last = (emit (tree.set (fresh kd by.state).value z) (fresh kd by.state).state).state in
-      let ys = (store_at c cell place tree.none y last).pieces in
-      let R = Does true v st by in
-      let Q = Result unary_fits binary_fits f k here c o Homes Lives kinds base world used e (length st.variables) (length (fresh kd by.state).state.variables) y in
-      let w = world.variables cell kd is_variable in
-      on_same f k R Q by.pieces ((tree.set (fresh kd by.state).value z ∷ []) ++ (ys ++ [])) (ce.expression cc true v here s n) (λ a s2 n2. ce.assigned (Some op) (spot_of here cell) [] kd place (kind_of v) a at s2 n2) t n h (λ a s1 w1 t1 m. m.done.on_)
-      (λ a s1 w1 t1 n1 le m.
-      let b = m.value tt in
-      let old_there = variable_there f here c o Homes Lives kinds base world cell kd 0 0 s1 t1 w.0 w.1 w.2 m.done.shown in
-      read_then k Q (ce.unset_rule []) (spot_of here cell) [] [] place s1 n1 (λ old s2 n2. Steps.then_ (ce.computed (binary_value op kd old (kind_of v) a) at s2 n2) (λ r s3 n3. ce.store (spot_of here cell) [] kd r place s3 n3)) _ old_there.lengths
-      (λ j old is_place there0.
-      let old_value = old_there.there old (ap (λ i. element_in (slice_get (s1 (spot_of here cell)).elements i)) (same_Some 0 j is_place) ∙ there0) in
-      computed_then k Q (binary_value op kd old (kind_of v) a) at s1 n1 (λ r s3 n3. ce.store (spot_of here cell) [] kd r place s3 n3) _
-      (λ r defined_.
-      let z_there : value f.arrays z t1 ≡ is r =
-      ap (λ p. and_then p (λ i. joined op (kind x) i (kind by.value) at (value f.arrays by.value t1))) old_value.same
-      ∙ ap (λ p. joined op p old (kind by.value) at (value f.arrays by.value t1)) old_value.type
-      ∙ ap (λ p. joined op kd old p at (value f.arrays by.value t1)) b.type
-      ∙ ap (λ p. joined op kd old (kind_of v) at p) b.same
-      ∙ joined_plain op kd old (kind_of v) at (is a) plain
-      ∙ ap (λ p. computed p at) defined_ in
-      own_stored unary_fits binary_fits f k here c o Homes Lives kinds base world used e kd z (length st.variables) by.state s1 t1 r n1 (ce.store (spot_of here cell) [] kd r place s1 n1) ys refl low more
-      (record { variables = within.variables; arrays = within.arrays }) z_there m.done.shown m.done.typed
-      (λ t2 is_ shown typed.
-      let r' = convert kd r in
-      let there : value f.arrays y t2 ≡ is r' = ap is (ap (λ (z : Store). z.variables own) is_ ∙ number_here t1.variables own r') in
-      same_more k k (Stored f k here c o Homes Lives kinds base world kd r' t2) (Stored f k here c o Homes Lives kinds base world kd r t2) (ce.store (spot_of here cell) [] kd r place s1 n1) (run_of f ys t2 n1) (le_refl k)
-      (λ u s3 w3 t3 z. record { done = z.done; number = z.number ∙ converted_number kd r; kept = z.kept })
-      (subst (λ z. Same false k (Stored f k here c o Homes Lives kinds base world kd r' t2) z (run_of f ys t2 n1)) (stored_converted (element_place (s1 (spot_of here cell)).lengths []) (spot_of here cell) kd r place s1 n1)
-      (scalar_stored f k here c o Homes Lives kinds base world cell kd place place y last s1 t2 r' n1 le is_variable shown typed there))))))
+      (element_same unary_fits binary_fits f k here c o Homes Lives kinds base world used cell subscripts kd at low high a.ys all.state a.vs s1 t1 n1 le (over_later st all.state over (all_later subscripts no_effects [] st)).noted is_array a.done.shown a.done.typed a.values)))
 
   -- ---- commas
 
-  discard_goes : (b : Bool) (x : PureTree) (st : State) (s : Cells) (t : Store) → base ≤ length st.variables → IsWithin (discarded b x st).state f → IsShown f Homes Lives kinds s t → IsTyped f t → (b ≡ false → (v : ℤ) × (value f.arrays x t ≡ is v) × HasTypes f x)
+  pub discard_goes : (b : Bool) (x : PureTree) (st : State) (s : Cells) (t : Store) → base ≤ length st.variables → IsWithin (discarded b x st).state f → IsShown f Homes Lives kinds s t → IsTyped f t → (b ≡ false → (v : ℤ) × (value f.arrays x t ≡ is v) × HasTypes f x)
       → (t1 : Store) × Goes f (discarded b x st).pieces t t1 × IsShown f Homes Lives kinds s t1 × IsTyped f t1
   unfolding then_
   discard_goes true x st s t low within shown typed there = (t, goes_nothing f t, shown, typed)
@@ -256,11 +187,11 @@ module _ (unary_fits : UnaryFits) (binary_fits : BinaryFits) (f : Frame) (k : �
   discard_later false x st = later_own (kind x) x st
 
   -- a value that may be let go is that of a call, a change or a comma
-  unused_matters : (e : CoreTree) → IsStraight e → Matters false e
+  unused_matters : (e : CoreTree) → may_be_unused e ≡ false → Matters false e
   unused_matters (core.number value kd) h = tt
   unused_matters (core.scalar cell kd at) h = tt
   unused_matters (core.element array subscripts kd at) h = tt
-  unused_matters (core.call callee args kd at) h = absurd h
+  unused_matters (core.call callee args kd at) h = absurd (true≢false h)
   unused_matters (core.unary op arg kd at) h = tt
   unused_matters (core.binary op left right kd at) h = tt
   unused_matters (core.choice test left right kd at colon) h = tt
@@ -269,13 +200,14 @@ module _ (unary_fits : UnaryFits) (binary_fits : BinaryFits) (f : Frame) (k : �
   unused_matters (core.bump it up post at) h = tt
   unused_matters (core.comma left right) h = tt
 
-  pub straight_comma : (used : Bool) (left right : CoreTree) (st : State) (s : Cells) (t : Store) (n : ℕ) → IsStraight left → base ≤ length st.variables → IsWithin (expression g c (core.comma left right) st).state f
+  pub comma_runs : (used : Bool) (left right : CoreTree) (st : State) (s : Cells) (t : Store) (n : ℕ) → IsOver c base world.array_base world.seen st → IsWithin (expression g c (core.comma left right) st).state f
       → Same false k (Does false left st (expression g c left st)) (ce.expression cc false left here s n) (run_of f (expression g c left st).pieces t n)
-      → ((st1 : State) → base ≤ length st1.variables → IsWithin (expression g c right st1).state f → (s1 : Cells) (t1 : Store) (n1 : ℕ) → n1 ≤ k → IsShown f Homes Lives kinds s1 t1 → IsTyped f t1
+      → ((st1 : State) → IsOver c base world.array_base world.seen st1 → IsWithin (expression g c right st1).state f → (s1 : Cells) (t1 : Store) (n1 : ℕ) → n1 ≤ k → IsShown f Homes Lives kinds s1 t1 → IsTyped f t1
       → Same false k (Does true right st1 (expression g c right st1)) (ce.expression cc true right here s1 n1) (run_of f (expression g c right st1).pieces t1 n1))
       → Same false k (Does used (core.comma left right) st (expression g c (core.comma left right) st)) (ce.expression cc used (core.comma left right) here s n) (run_of f (expression g c (core.comma left right) st).pieces t n)
   unfolding then_
-  straight_comma used left right st s t n straight low within h next =
+  comma_runs used left right st s t n over within h next =
+      let low = over.low in
       let x = expression g c left st in
       let u = discarded (may_be_unused left) x.value x.state in
       let y = expression g c right u.state in
@@ -285,11 +217,5 @@ module _ (unary_fits : UnaryFits) (binary_fits : BinaryFits) (f : Frame) (k : �
       let within1 = within_before u.state y.state f (any_later right u.state) within in
       comma_same unary_fits binary_fits f k here c o Homes Lives kinds base world used left right (length st.variables) (length u.state.variables) (length x.state.variables) (length y.state.variables) x.value y.value x.pieces u.pieces y.pieces
       (ce.expression cc false left here s n) (ce.expression cc true right here) t n (le_trans more more1) h
-      (λ v s1 t1 a. discard_goes (may_be_unused left) x.value x.state s1 t1 (le_trans low more) within1 a.done.shown a.done.typed (λ e. (v, (a.value (unused_matters left straight)).same, (a.value (unused_matters left straight)).types)))
-      (next u.state (omega (arith, low, more, more1)) within)
-
-  pub assign_within : (cell : Cell) (kd : CType) (place : Place) (op : Option Binary) (v : CoreTree) (at : Place) (st : State) → IsWithin (expression g c (core.assign (core.target cell core.none kd place) op v at) st).state f → IsWithin (expression g c v st).state f
-  unfolding then_ emit fresh
-  assign_within cell kd place op v at st within =
-      let by = expression g c v st in
-      within_before by.state (fresh kd by.state).state f (later_fresh kd by.state) (record { variables = within.variables; arrays = within.arrays })
+      (λ v s1 t1 a. discard_goes (may_be_unused left) x.value x.state s1 t1 (le_trans low more) within1 a.done.shown a.done.typed (λ e. (v, (a.value (unused_matters left e)).same, (a.value (unused_matters left e)).types)))
+      (next u.state (over_later st u.state over (later_both st x.state u.state (any_later left st) (discard_later (may_be_unused left) x.value x.state))) within)

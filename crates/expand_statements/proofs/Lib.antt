@@ -1,0 +1,10 @@
+pub mod Controls
+pub mod FineStatements
+pub mod Scenes
+pub mod Moving
+pub mod SoundEach
+pub mod Actions
+pub mod LoopParts
+pub mod StatementParts
+pub mod Declarations
+pub mod Statements

@@ -1,0 +1,6 @@
+pub mod Ending
+pub mod Each
+pub mod Scopes
+pub mod Frames
+pub mod Results
+pub mod Covered

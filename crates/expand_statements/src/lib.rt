@@ -1,0 +1,2 @@
+//! The pieces of statements do what the statements do.
+#![tactic(auto)]
