@@ -3,10 +3,10 @@ use Rattle.std.proofs.Common.{◌≡◌, List}
 use Rattle.std.specs.Borrow.{Bor}
 use Rattle.c_tree.specs.declared.object.Object.{Object as Declared}
 use Rattle.c_checked.specs.Limits.{file_objects}
-use Rattle.c_interpreter.specs.declared.machine.Machine.{Machine}
+use Rattle.c_moves.specs.declared.machine.Machine.{Machine}
 use Rattle.c_execution.specs.declared.run.Run.TheInside.{Inside}
 use Rattle.c_meaning.specs.Declarations.{objects_of}
-use Rattle.c_interpreter.specs.Machines.{configuration_of}
+use Rattle.c_moves.specs.Machines.{configuration_of}
 use Rattle.c_machine.specs.Sound.{Sound}
 use Rattle.c_machine.specs.Shape.{Shaped}
 use Rattle.c_machine.specs.Following.{keeps_following}

@@ -3,7 +3,7 @@ use Rattle.std.specs.Prelude.{◌≡◌}
 use Rattle.c_tree.specs.View.{program_of}
 use Rattle.c_checked.specs.Limits.{file_objects}
 use Rattle.c_meaning.specs.Declarations.{objects_of}
-use Rattle.c_interpreter.specs.Machines.{configuration_of}
+use Rattle.c_moves.specs.Machines.{configuration_of}
 use Rattle.c_execution.specs.Progress.{Progress}
 use Rattle.c_execution.specs.Runs.{Standing, IsRunOf, left_contents}
 use Rattle.c_machine.specs.Sound.{Sound}

@@ -2,7 +2,7 @@
 ghost use Rattle.std.specs.Prelude.{◌≡◌, Some, IfOk};
 ghost use Rattle.c_tree.specs.View.{function_of, program_of};
 ghost use Rattle.c_meaning.specs.Declarations.{objects_of};
-ghost use Rattle.c_interpreter.specs.Machines.{configuration_of};
+ghost use Rattle.c_moves.specs.Machines.{configuration_of};
 ghost use Rattle.c_execution.specs.Runs.{top_function, is_begun, outcome_by, at_end, left_or};
 ghost use Rattle.c_meaning.specs.Run.{contents_of};
 
@@ -11,9 +11,10 @@ mod beginning;
 use crate::outcome::final_of;
 pub use crate::run::beginning::start;
 use c_checked::checked::Checked;
-use c_interpreter::machine::Machine;
-use c_interpreter::machine::frame::Control;
+use c_frames::frame::Control;
+use c_interpreter::passing::run;
 use c_meaning::outcome::Outcome;
+use c_moves::machine::Machine;
 use c_state::file_scope::{FileContents, contents, file_names};
 use c_state::inputs::{started_objects, top_arguments};
 use c_tree::function::Function;
@@ -171,7 +172,7 @@ impl<'p> Run<'p> {
         ensures running { IfOk result (λ o. RunsFor o self.new.passed (self.old.passed + points)) }
     {
         self.machine.meter.allow(points);
-        self.machine.run(alloc)?;
+        run(&mut self.machine, alloc)?;
         outcome(alloc, self.checked, self.declared.as_slice(), &self.machine)
     }
 

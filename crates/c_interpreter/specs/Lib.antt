@@ -1,6 +1,0 @@
-pub mod Shown
-pub mod Stacks
-pub mod Machines
-pub mod Labels
-pub mod Calling
-pub mod Chains

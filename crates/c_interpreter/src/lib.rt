@@ -1,4 +1,6 @@
 //! The interpreter of C programs.
 #![tactic(auto)]
 
-pub mod machine;
+mod behind;
+pub mod passing;
+mod step;

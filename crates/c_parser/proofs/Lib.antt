@@ -1,7 +1,3 @@
-pub mod Readings
-pub mod WordLists
-pub mod Exits
-pub mod TypeWords
 pub mod Levels
 pub mod ExpressionForms
 pub mod Beginnings

@@ -1,37 +1,20 @@
 -- The pieces of an expression, as the parser reads them.
 use Rattle.std.specs.Prelude.{◌≡◌, ℕ, Bool, true, false, List, [], ◌∷◌, Option, Some, None}
 use Rattle.hls_base.specs.declared.place.Place.{Place}
-use Rattle.c_token.specs.declared.punct.Punct.{Punct}
 use Rattle.c_token.specs.declared.punct.Punct.TheVariants as p
-use Rattle.c_tree.specs.declared.operator.Binary.{Binary}
 use Rattle.c_tree.specs.Tree as tree
 use Rattle.c_tree.specs.Tree.{Tree, TargetTree, Trees, row}
-use Rattle.c_tree.specs.Terminals.{Terminal, sign, operator_of}
-use Rattle.c_tree.specs.Grammar.{level_of, comma_level, choice_level, unary_level, Derives, DerivesTarget, DerivesSubscripts, DerivesArguments}
-use Rattle.c_parser.specs.Readings.{Reads, Sequence, Closed, Sign, snd}
-use Rattle.c_parser.specs.Types.{AValueKind}
-use Rattle.c_parser.specs.declared.joiner.Joiner.{Joiner}
-use Rattle.c_parser.specs.declared.joiner.Joiner.TheVariants as j
+use Rattle.c_tree.specs.Terminals.{Terminal, sign}
+use Rattle.c_tree.specs.Grammar.{comma_level, choice_level, unary_level, Derives, DerivesTarget, DerivesSubscripts, DerivesArguments}
+use Rattle.c_cursor.specs.Readings.{Reads, Sequence, Closed, Sign, snd}
+use Rattle.c_cursor.specs.Types.{AValueKind}
+use Rattle.c_cursor.specs.declared.joiner.Joiner.{Joiner}
+use Rattle.c_cursor.specs.declared.joiner.Joiner.TheVariants as j
 
 abbrev pub Expression : ℕ → List Terminal → Tree → List Terminal → Type 0
 Expression n = Reads (Derives n)
 
 -- ---- the operators that group to the left
-
-abbrev pub joiner_or : Option Binary → Option Joiner → Option Joiner
-joiner_or None other = other
-joiner_or (Some op) other = Some (j.Binary op)
-
-abbrev pub comma_joiner : Punct → Option Joiner
-comma_joiner p.Comma = Some j.Comma
-comma_joiner _ = None
-
-abbrev pub joiner_of : Punct → Option Joiner
-joiner_of punct = joiner_or (operator_of punct) (comma_joiner punct)
-
-abbrev pub joiner_level : Joiner → ℕ
-joiner_level (j.Binary op) = level_of op
-joiner_level j.Comma = comma_level
 
 abbrev pub joined : Joiner → Tree → Tree → Place → Tree
 joined (j.Binary op) left right at = tree.binary op left right at

@@ -1,5 +1,5 @@
 -- The pieces of functions and programs, as the parser reads them.
-use Rattle.std.specs.Prelude.{◌≡◌, ℕ, Bool, true, false, List, [], ◌∷◌, Option, Some, None, map}
+use Rattle.std.specs.Prelude.{◌≡◌, ℕ, Bool, true, false, List, [], Option, Some, None, map}
 use Rattle.std.specs.Option.{option_map}
 use Rattle.std.specs.declared.alloc.Global.{Global}
 use Rattle.std.specs.declared.vec.Vec.{Vec}
@@ -12,10 +12,11 @@ use Rattle.c_tree.specs.Tree as tree
 use Rattle.c_tree.specs.Tree.{Tree, ObjectTree, StmtTree, stmt_row, ParamTree, FunctionTree, ItemTree, ProgramTree}
 use Rattle.c_tree.specs.Terminals.{Terminal}
 use Rattle.c_tree.specs.Grammar.{DerivesParam, DerivesParams, DerivesDefinition, DerivesItem}
-use Rattle.c_parser.specs.Readings.{Reads, Sequence, Closed, Sign, Listed, Repeated, opens_paren, snd}
-use Rattle.c_parser.specs.declared.types.Kind.{Kind}
-use Rattle.c_parser.specs.declared.types.ValueKind.{ValueKind}
-use Rattle.c_parser.specs.Objects.{Name, Lengths, AnObject}
+use Rattle.c_cursor.specs.Readings.{Reads, Sequence, Closed, Sign, Listed, Repeated, snd}
+use Rattle.c_cursor.specs.declared.types.Kind.{Kind}
+use Rattle.c_cursor.specs.declared.types.ValueKind.{ValueKind}
+use Rattle.c_cursor.specs.Tokens.{Name}
+use Rattle.c_parser.specs.Objects.{Lengths, AnObject}
 
 abbrev pub AParam : List Terminal → ParamTree → List Terminal → Type 0
 AParam = Reads DerivesParam
@@ -54,11 +55,6 @@ pub data ItemBehind (kind : Kind) (tokens : List Terminal) (item : ItemTree) (re
   some_objects : (value : CType) (all : List ObjectTree) → kind.kind ≡ Some value → Listed (AnObject (record { kind = value; constant = kind.constant })) p.Semicolon tokens all rest → item ≡ tree.objects all
       → ItemBehind kind tokens item rest
   a_function : (function : FunctionTree) → AFunction kind.kind tokens function rest → item ≡ tree.function function → ItemBehind kind tokens item rest
-
--- whether `(` comes behind the next token
-abbrev pub opens_call : List Terminal → Bool
-opens_call [] = false
-opens_call (t ∷ ts) = opens_paren ts
 
 abbrev pub AtEnd : List Terminal → List Terminal → Type 0
 AtEnd tokens rest = (tokens ≡ []) × (rest ≡ [])

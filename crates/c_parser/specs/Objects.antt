@@ -1,20 +1,15 @@
 -- The pieces of declarations and actions, as the parser reads them.
-use Rattle.std.specs.Prelude.{◌≡◌, ℕ, Bool, true, false, List, [], ◌∷◌, Option, Some, None}
+use Rattle.std.specs.Prelude.{◌≡◌, ℕ, Bool, true, false, List, ◌∷◌, Option, Some, None}
 use Rattle.hls_base.specs.declared.place.Place.{Place}
 use Rattle.c_token.specs.declared.punct.Punct.{Punct}
 use Rattle.c_token.specs.declared.punct.Punct.TheVariants as p
-use Rattle.c_token.specs.declared.token.TokenKind.{TokenKind}
-use Rattle.c_token.specs.declared.token.TokenKind.TheVariants as k
 use Rattle.c_tree.specs.Tree as tree
 use Rattle.c_tree.specs.Tree.{Tree, ActionTree, InitTree, init_row, ObjectTree}
-use Rattle.c_tree.specs.Terminals.{Terminal, sign, word, is_keyword}
+use Rattle.c_tree.specs.Terminals.{Terminal, sign}
 use Rattle.c_tree.specs.Grammar.{DerivesOptional, DerivesAction, DerivesActions, DerivesInit, DerivesInits, DerivesInitialiser, DerivesLengths, DerivesObject, DerivesDeclaration}
-use Rattle.c_parser.specs.Readings.{Reads, Closed}
-use Rattle.c_parser.specs.declared.types.ValueKind.{ValueKind}
-
--- an identifier and its place
-abbrev pub Name : List Terminal → List ℕ × Place → List Terminal → Type 0
-Name tokens name rest = (tokens ≡ word name.0 name.1 ∷ rest) × (is_keyword name.0 ≡ false)
+use Rattle.c_cursor.specs.Tokens.{separates}
+use Rattle.c_cursor.specs.Readings.{Reads, Closed}
+use Rattle.c_cursor.specs.declared.types.ValueKind.{ValueKind}
 
 abbrev pub OptionalExpression : ℕ → List Terminal → Option Tree → List Terminal → Type 0
 OptionalExpression n = Reads (DerivesOptional n)
@@ -59,16 +54,6 @@ pub data Separator : List Terminal → Bool → List Terminal → Type 0 where
   closed_comma : (tokens : List Terminal) (at closes : Place) (rest : List Terminal) → tokens ≡ sign p.Comma at ∷ sign p.RightBrace closes ∷ rest → Separator tokens false rest
 
 -- ---- actions
-
-abbrev pub separates_kind : TokenKind → Bool
-separates_kind (k.Punct p.Comma) = true
-separates_kind (k.Punct p.Semicolon) = true
-separates_kind (k.Punct p.RightParen) = true
-separates_kind _ = false
-
-abbrev pub separates : List Terminal → Bool
-separates [] = false
-separates (t ∷ ts) = separates_kind t.kind
 
 -- a comma, a semicolon or a closing parenthesis follows
 abbrev pub Separated : {A : Type 0} → A → List Terminal → Type 0

@@ -11,17 +11,10 @@ ghost use Rattle.c_tree.specs.Refusal.{IsFaultOf, IsProgram, FaultsOnce};
 
 mod action;
 mod chain;
-mod cursor;
 mod expression;
 mod function;
-mod joiner;
-mod keyword;
 mod object;
-mod operators;
 mod statement;
-mod stop;
-mod types;
-mod words;
 
 use crate::function::build;
 use c_syntax::find_fault;

@@ -1,18 +1,18 @@
 //! Statements and blocks, C11 6.8.
-ghost use Rattle.std.specs.Prelude.{◌≡◌, ◌<◌, IfOk, OnOk, length, map, codes};
+ghost use Rattle.std.specs.Prelude.{◌<◌, IfOk, OnOk, length, map};
 ghost use Rattle.std.specs.Option.{option_map};
 ghost use Rattle.c_tree.specs.View.{tree_of, stmt_of, first_part};
-ghost use Rattle.c_parser.specs.Readings.{Found, Never, Anywhere};
+ghost use Rattle.c_cursor.specs.Readings.{Found, Never, Anywhere};
 ghost use Rattle.c_parser.specs.Statements.{Statement, ElseFits, Block, Local, BodyUpTo, First, ForHead, head_of, Condition, Branches, DoTail, Behind};
-ghost use Rattle.c_parser.specs.declared.keyword.Keyword.TheVariants as w;
-ghost use Rattle.c_parser.specs.Stops.{IfAbsent};
+ghost use Rattle.c_cursor.specs.declared.keyword.Keyword.TheVariants as w;
+ghost use Rattle.c_cursor.specs.Stops.{IfAbsent};
 
 use crate::action::{action_list, actions};
-use crate::cursor::Cursor;
 use crate::expression::{CHOICE, COMMA, closed};
-use crate::keyword::Keyword;
 use crate::object::{declaration, optional};
-use crate::stop::Stop;
+use c_cursor::cursor::Cursor;
+use c_cursor::keyword::Keyword;
+use c_cursor::stop::Stop;
 use c_token::punct::Punct;
 use c_tree::action::Action;
 use c_tree::expression::Expr;

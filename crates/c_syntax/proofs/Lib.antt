@@ -2,7 +2,6 @@ pub mod Attach
 pub mod Seen
 pub mod TypeWords
 pub mod Outlines
-pub mod WordLists
 pub mod Reading
 pub mod Sound
 pub mod SoundTypes
@@ -12,7 +11,6 @@ pub mod Stacks
 pub mod Ends
 pub mod Noting
 pub mod Marking
-pub mod Goings
 pub mod Completing
 pub mod CompletingTypes
 pub mod CompletingExpressions

@@ -1,5 +1,2 @@
-pub mod Sorts
-pub mod Steps
-pub mod Advances
 pub mod Notes
 pub mod Faults

@@ -6,30 +6,19 @@ ghost use Rattle.hls_base.specs.Refusals.{IfRefused};
 ghost use Rattle.c_tree.specs.Tree.{ProgramTree};
 ghost use Rattle.c_tree.specs.Terminals.{terminals};
 ghost use Rattle.c_tree.specs.Refusal.{IsFaultOf, IsProgram, FaultsOnce, refusal};
-ghost use Rattle.c_syntax.specs.Sorts.{sort_of, rule_of_sort};
+ghost use Rattle.syntax_sorts.specs.Sorts.{sort_of, rule_of_sort};
 ghost use Rattle.c_syntax.specs.Faults.{rule_at_stop};
 
-mod action;
-mod advance;
-mod declaration;
 mod depths;
-mod expression;
-mod goal;
-mod item;
-mod sign;
-mod sort;
-mod statement;
-mod step;
-mod words;
 
-use crate::advance::{Advance, is_complete, take_token};
 use crate::depths::{Depths, NESTING_LIMIT};
-use crate::goal::{Spot, Stack};
-use crate::sort::{Sort, sort_of};
 use c_token::token::Token;
 use hls_base::place::Place;
 use hls_base::refusal::{Fail, Refusal};
 use std::alloc::Global;
+use syntax_sorts::sort::{Sort, sort_of};
+use syntax_steps::advance::{Advance, is_complete, take_token};
+use syntax_steps::goal::{Spot, Stack};
 
 /// The rule of a token that no program has there.
 fn rule_of(sort: Sort) -> u8

@@ -2,7 +2,7 @@ use Rattle.std.proofs.Common.{◌≡◌, ◌∙◌, sym, subst}
 use Rattle.hls_base.specs.FileScope.{FileScope}
 use Rattle.c_tree.specs.View.{program_of}
 use Rattle.c_meaning.specs.Declarations.{objects_of}
-use Rattle.c_interpreter.specs.Machines.{configuration_of}
+use Rattle.c_moves.specs.Machines.{configuration_of}
 use Rattle.c_execution.specs.Runs.{top_function, is_begun}
 use Rattle.c_execution.proofs.UnderWay.{begun-under-way}
 use Rattle.c_execution.proofs.run.Run.again.Goals as goal

@@ -1,0 +1,4 @@
+pub mod Exits
+pub mod Readings
+pub mod WordLists
+pub mod TypeWords

@@ -1,0 +1,5 @@
+pub mod Readings
+pub mod Stops
+pub mod Keywords
+pub mod Types
+pub mod Tokens

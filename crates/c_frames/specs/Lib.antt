@@ -1,0 +1,5 @@
+pub mod Shown
+pub mod Stacks
+pub mod Labels
+pub mod Calling
+pub mod Chains
