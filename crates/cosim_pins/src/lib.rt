@@ -5,4 +5,3 @@ mod address;
 pub mod drive;
 mod driver;
 pub mod interface;
-pub mod name_place;

@@ -10,6 +10,7 @@ use Rattle.rtl_core.specs.Interface.{Interface, HasPins}
 use Rattle.rtl_core.specs.ModuleText.{IsModuleText}
 use Rattle.verilog_syntax.specs.TextSyntax as syntax
 use Rattle.verilog_read.specs.TextFaults as text
+use Rattle.verilog_read.specs.NamePlace.{IsNamePlace}
 use Rattle.cycle_report.specs.PlainReport.{PlainReport}
 use Rattle.cycle_report.specs.ReportForm.{IsReport, IsRefusedAs, largest_report}
 use Rattle.cycle_report.specs.FormulaValue.{cycles}
@@ -47,11 +48,11 @@ pub record HasModule (given : CosimInputs) (i : Interface) (d : Netlist) : Type 
   pub small : length given.module ≤ syntax.limit
   pub pins : HasPins d i
 
--- the module's bytes are refused, or it is a circuit with other pins, at a place of its text
+-- the module's bytes are refused, or it is a circuit with other pins, which is told at its name
 pub data RefusesModule (given : CosimInputs) (i : Interface) (why : Refusal) : Type 0 where
   no_module : text.IsFirstFault given.module why → RefusesModule given i why
-  other_pins : (d : Netlist) → IsModuleText given.module d → length given.module ≤ syntax.limit → ¬ HasPins d i
-      → why.rule ≡ 57 → RefusesModule given i why
+  other_pins : (d : Netlist) (place : Place) → IsModuleText given.module d → length given.module ≤ syntax.limit → ¬ HasPins d i
+      → IsNamePlace given.module place → why ≡ record { rule = 57; place = place } → RefusesModule given i why
 
 abbrev pub IsBadReport : CosimInputs → PlainVerdict → Type 0
 IsBadReport given (report_bad why) = RefusesReport given why

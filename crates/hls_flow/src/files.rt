@@ -1,8 +1,11 @@
 //! The files of a comparison are read.
-ghost use Rattle.std.specs.Prelude.{◌≡◌, length, IfOk, IsTrue};
+ghost use Rattle.std.specs.Prelude.{◌≡◌, ◌≤◌, length, IfOk, IsTrue};
 ghost use Rattle.c_tree.specs.View.{function_of};
 ghost use Rattle.c_meaning.specs.FittingInputs.{inputs_fit};
 ghost use Rattle.rtl_core.specs.Netlist.{netlist_of};
+ghost use Rattle.rtl_core.specs.ModuleText.{IsModuleText};
+ghost use Rattle.verilog_syntax.specs.TextSyntax.{limit};
+ghost use Rattle.verilog_read.specs.NamePlace.{IsNamePlace};
 ghost use Rattle.cycle_report.specs.PlainReport.{plain_of};
 ghost use Rattle.cosim_pins.specs.FunctionPins.{interface_of, plain};
 ghost use Rattle.run_file.specs.RunFile.{reading_of, inputs};
@@ -14,14 +17,14 @@ use crate::verdict::CosimInputs;
 use c_tree::function::Function;
 use cosim_levels::verdict::{Stop, Verdict};
 use cosim_pins::interface::{Interface, has_pins, interface_of};
-use cosim_pins::name_place::name_place;
 use cycle_report::report::Report;
 use hls_base::inputs::Inputs;
 use hls_base::place::Place;
 use hls_base::refusal::{Fail, Refusal};
 use rtl_core::design::Design;
 use run_file::fault::RunFault;
-use std::alloc::Global;
+use std::alloc::{AllocError, Global};
+use verilog_read::name_place;
 
 /// The place of the name in a report, which stands in its second line behind `top`.
 const REPORT_NAME: Place = Place {
@@ -59,6 +62,19 @@ fn report_of(alloc: Global, given: &CosimInputs) -> Result<Report, Stop>
     }
 }
 
+/// Where the name of a module stands whose text is that of a circuit.
+fn name_in(alloc: Global, text: &[u8], design: &Design) -> Result<Place, AllocError>
+    requires text { IsModuleText text.now (netlist_of design.now) }
+    requires small { length text.now ≤ limit }
+    ensures { IfOk result (λ p. IsNamePlace text.now p) }
+{
+    match name_place(alloc, text) {
+        Ok(place) => Ok(place),
+        Err(Fail::Refused(_)) => unreachable!(),
+        Err(Fail::Memory) => Err(AllocError),
+    }
+}
+
 /// The circuit, which has the pins of the top function.
 fn design_of(alloc: Global, given: &CosimInputs, interface: &Interface) -> Result<Design, Stop>
     ensures found { IfOk result (λ d. HasModule given.now (plain interface.now) (netlist_of d)) }
@@ -73,10 +89,8 @@ fn design_of(alloc: Global, given: &CosimInputs, interface: &Interface) -> Resul
     if has_pins(alloc, &design, interface)? {
         Ok(design)
     } else {
-        Err(Stop::Answer(Verdict::ModuleBad(Refusal {
-            rule: 57,
-            place: name_place(text),
-        })))
+        let place = name_in(alloc, text, &design)?;
+        Err(Stop::Answer(Verdict::ModuleBad(Refusal { rule: 57, place })))
     }
 }
 

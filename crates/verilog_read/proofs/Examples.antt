@@ -67,7 +67,7 @@ counter_edge line = register (record { operand = Fixed 1 1; place = place line 2
 
 abbrev counter_module : PlacedModule
 counter_module = record {
-  name = codes "t";
+  name = name 1 8 (codes "t");
   header = name 1 16 (codes "a") ∷ name 1 19 (codes "y") ∷ [];
   inputs = record { high = codes "3"; name = name 3 13 (codes "a") } ∷ [];
   outputs = record { high = codes "3"; name = name 4 14 (codes "y") } ∷ [];

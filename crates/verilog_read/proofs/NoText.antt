@@ -7,7 +7,6 @@ use Rattle.hls_base.specs.declared.refusal.Refusal.{Refusal}
 use Rattle.hls_base.specs.declared.refusal.Fail.{Fail}
 use Rattle.hls_base.specs.declared.refusal.Fail.TheVariants.{Refused, Memory}
 use Rattle.hls_base.specs.Refusals.{IfRefused}
-use Rattle.rtl_core.specs.declared.design.Design.{Design}
 use Rattle.rtl_core.specs.Netlist.{Netlist}
 use Rattle.rtl_core.specs.Valid.{IsName}
 use Rattle.rtl_core.specs.ModuleText.{IsModuleText}
@@ -46,7 +45,7 @@ no_text bytes _ (at_front fault few2 f) few d is = front_none bytes fault d f is
 no_text bytes _ (in_module m fault few2 said h) few d is =
     none-some fault (sym (ap first_fault (faultless m d (said_means bytes m d said is) is.valid said.blocks)) ∙ h)
 
-pub refused_no_text : (bytes : List ℕ) (r : Result Design Fail) → IfRefused r (λ x. IsFirstFault bytes x) → IfRefused r (λ x. length bytes ≤ limit → (d : Netlist) → IsModuleText bytes d → ⊥)
+pub refused_no_text : {A : Type 0} (bytes : List ℕ) (r : Result A Fail) → IfRefused r (λ x. IsFirstFault bytes x) → IfRefused r (λ x. length bytes ≤ limit → (d : Netlist) → IsModuleText bytes d → ⊥)
 refused_no_text bytes (Ok d) h = tt
 refused_no_text bytes (Err (Refused x)) h = no_text bytes x h
 refused_no_text bytes (Err Memory) h = tt

@@ -104,7 +104,7 @@ mems_from scope drives slots k (x ∷ xs) =
 -- the circuit, where the outputs, registers and memories are assigned so
 abbrev pub circuit_with : Scope → PlacedModule → Slots → Slots → Slots → Netlist
 circuit_with scope m outputs regs blocks = record {
-  name = m.name;
+  name = m.name.text;
   inputs = map input_of m.inputs;
   outputs = outputs_from scope m.assigns outputs 0 m.outputs;
   regs = regs_from scope m.drives regs 0 m.regs;

@@ -7,3 +7,4 @@ pub mod Faults
 pub mod AddressSets
 pub mod Circuit
 pub mod TextFaults
+pub mod NamePlace

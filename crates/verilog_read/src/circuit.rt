@@ -273,7 +273,7 @@ pub fn circuit_of(
     ensures { IfOk result (λ d. netlist_of d ≡ circuit_with (scope_in names.now) (module_view module.now) assigned.now.outputs.items assigned.now.regs.items assigned.now.blocks.items) }
 {
     Ok(Design {
-        name: Text::from_slice(alloc, module.name)?,
+        name: Text::from_slice(alloc, module.name.text)?,
         inputs: inputs_of(alloc, &module.inputs)?,
         outputs: outputs_of(
             alloc,

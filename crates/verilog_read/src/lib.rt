@@ -14,6 +14,7 @@ ghost use Rattle.verilog_read.specs.Faults.{header_faults, declared_faults, no_s
 ghost use Rattle.verilog_read.specs.Circuit.{circuit_of};
 ghost use Rattle.verilog_syntax.specs.TextSyntax.{limit};
 ghost use Rattle.verilog_read.specs.TextFaults.{IsFirstFault};
+ghost use Rattle.verilog_read.specs.NamePlace.{IsNamePlace};
 
 mod checks;
 mod circuit;
@@ -30,6 +31,7 @@ use crate::declarations::{check_header, declarations, names_of};
 use crate::fault::FirstFault;
 use crate::names::Names;
 use crate::widths::addresses_of;
+use hls_base::place::Place;
 use hls_base::refusal::Fail;
 use rtl_core::design::Design;
 use std::alloc::{AllocError, Global};
@@ -96,4 +98,13 @@ pub fn read(alloc: Global, bytes: &[u8]) -> Result<Design, Fail>
 {
     let module = read_syntax(alloc, bytes)?;
     design_of(alloc, &module)
+}
+
+/// Where the name of a module stands in its text. What is refused is the text of no circuit.
+pub fn name_place(alloc: Global, bytes: &[u8]) -> Result<Place, Fail>
+    ensures found { IfOk result (λ p. IsNamePlace bytes.now p) }
+    ensures no_text { IfRefused result (λ r. length bytes.now ≤ limit → (d : Netlist) → IsModuleText bytes.now d → ⊥) }
+{
+    let module = read_syntax(alloc, bytes)?;
+    Ok(module.name.place)
 }

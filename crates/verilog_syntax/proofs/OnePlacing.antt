@@ -308,7 +308,8 @@ pub one_module : (m n : PlacedModule) (ls : Line) → Stand ls (module_marks m) 
 one_module m n ls h k i j f g e =
     let t = end_marks (is_open_behind false m.drives) ++ fixed (Word (codes "endmodule")) ∷ [] in
     let u = end_marks (is_open_behind false n.drives) ++ fixed (Word (codes "endmodule")) ∷ [] in
-    let name : m.name ≡ n.name = ap (λ (s : Syntax). s.name) e in
+    let name : m.name ≡ n.name =
+    sym (ap (name_at m.name.text) (stands_at 1 ls (module_marks m) h).1) ∙ (ap (λ (s : Syntax). name_at s.name (place_at ls 1)) e ∙ ap (name_at n.name.text) (stands_at 1 ls (module_marks n) k).1) in
     let header = same_items header_mark name_plain header_at (λ (x : PlacedName). Unit {0}) header_is m.header n.header _ _ (past 4 ls) (any m.header) (any n.header) (ap (λ (s : Syntax). s.header) e) (stand_past 4 ls (module_marks m) h) (stand_past 4 ls (module_marks n) k) in
     let inputs =
     same_next (declared_marks (codes "input")) declared_plain declared_at (λ (x : PlacedDeclared). Unit {0}) (declared_is (codes "input")) m.inputs n.inputs _ _ t u (behind clock_marks header.line) (any m.inputs) (any n.inputs)

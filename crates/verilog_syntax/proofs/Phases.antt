@@ -148,7 +148,7 @@ pub record Later (n : ℕ) (m : PlacedModule) : Type 0 where
 -- the module's name is there behind its head
 abbrev pub NamedSoFar : Form → PlacedModule → Type 0
 NamedSoFar f.Start m = Unit {0}
-NamedSoFar _ m = IsName m.name
+NamedSoFar _ m = IsName m.name.text
 
 pub record Seen (form : Form) (tokens : List Token) (m : PlacedModule) : Type 0 where
   pub stand : Stand (lexemes_of tokens) (seen_marks form m)

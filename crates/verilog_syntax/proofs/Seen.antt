@@ -1,15 +1,13 @@
 -- The tokens that are seen are those of the module so far.
-use Rattle.std.proofs.Common.{◌≡◌, ℕ, ◌≤◌, false, List, [], ◌∷◌, ◌++◌, codes, append_assoc, refl, sym, ap, ◌∙◌, subst, arith}
+use Rattle.std.proofs.Common.{◌≡◌, ◌≤◌, false, List, [], ◌∷◌, ◌++◌, codes, append_assoc, refl, sym, ap, ◌∙◌, subst, arith}
 use Rattle.std.specs.List.{Contains}
 use Rattle.std.proofs.lemmas.List.Elements.{All-nil}
-use Rattle.hls_base.specs.declared.place.Place.{Place}
 use Rattle.rtl_core.specs.Valid.{IsName}
 use Rattle.rtl_core.specs.ModuleTokens.{Word, Sign as SignToken}
 use Rattle.verilog_syntax.specs.declared.token.Token.{Token}
 use Rattle.verilog_syntax.specs.declared.form.Form.{Form}
 use Rattle.verilog_syntax.specs.declared.form.Form.TheVariants as f
 use Rattle.verilog_syntax.specs.Views.{lexemes_of}
-use Rattle.verilog_syntax.specs.Lexemes.{Lexeme}
 use Rattle.verilog_syntax.specs.Forms.{FitsAll, classes_of, followers_of, IsModule}
 use Rattle.verilog_syntax.specs.PlacedSyntax.{PlacedDeclared, PlacedMemory, PlacedWire, PlacedModule}
 use Rattle.verilog_syntax.specs.Marks.{NetStands, fixed, at, Stand, end_marks, is_open_behind, all_marks, header_mark, head_marks, clock_marks, item_marks}
@@ -130,7 +128,7 @@ step_HeaderName form ls ts m low high fits seen =
     let up = later_up (phase form) 1 m high seen.later in
     let item = item_HeaderName ts (fits_long (classes_of f.HeaderName) ts fits) in record {
       stand = extended ls ts form f.HeaderName m (head_marks (added f.HeaderName ts m)) seen.stand fits
-          (ap (λ x. fixed (Word (codes "module")) ∷ fixed (Word m.name) ∷ fixed (SignToken (codes "(")) ∷ fixed (Word (codes "clk")) ∷ x) (all_more header_mark m.header (name_in (nth ts 1)))
+          (ap (λ x. fixed (Word (codes "module")) ∷ at (Word m.name.text) m.name.place ∷ fixed (SignToken (codes "(")) ∷ fixed (Word (codes "clk")) ∷ x) (all_more header_mark m.header (name_in (nth ts 1)))
           ∙ (ap (λ x. head_marks m ++ x) (sym item) ∙ ap (λ x. x ++ marks_of (classes_of f.HeaderName) ts) (sym (head_of form m low high))));
       later = record {
         header = λ b. absurd (omega (arith, b));
@@ -153,12 +151,6 @@ step_HeaderName form ls ts m low high fits seen =
       nets = seen.nets;
     }
 
-pub head_weak : (ls : List Lexeme) (name : List ℕ) (place : Place) → Stand ls (fixed (Word (codes "module")) ∷ at (Word name) place ∷ fixed (SignToken (codes "(")) ∷ fixed (Word (codes "clk")) ∷ [])
-    → Stand ls (fixed (Word (codes "module")) ∷ fixed (Word name) ∷ fixed (SignToken (codes "(")) ∷ fixed (Word (codes "clk")) ∷ [])
-head_weak [] name place h = absurd h
-head_weak (a ∷ []) name place h = absurd h.1
-head_weak (a ∷ b ∷ ls) name place h = (h.0, (h.1.0.0, h.1.1))
-
 pub step_Head : (form : Form) (ls ts : List Token) (m : PlacedModule) → phase form ≤ 0 → FitsAll (classes_of f.Head) (tokens_in ts) → Seen form ls m → Seen f.Head (ls ++ ts) (added f.Head ts m)
 step_Head form ls ts m high fits seen =
     let up = later_up (phase form) 1 m (omega (arith, high)) seen.later in
@@ -167,8 +159,8 @@ step_Head form ls ts m high fits seen =
     let no_header : m.header ≡ [] = seen.later.header (omega (arith, high)) in
     let all : Stand (lexemes_of (ls ++ ts)) (marks_of (classes_of f.Head) ts) = extended ls ts form f.Head m (marks_of (classes_of f.Head) ts) seen.stand fits
     (ap (λ x. x ++ marks_of (classes_of f.Head) ts) (sym (start_of form m high))) in record {
-      stand = subst (λ x. Stand (lexemes_of (ls ++ ts)) (fixed (Word (codes "module")) ∷ fixed (Word name) ∷ fixed (SignToken (codes "(")) ∷ fixed (Word (codes "clk")) ∷ all_marks header_mark x)) (sym no_header)
-          (head_weak (lexemes_of (ls ++ ts)) name (nth ts 1).place (subst (Stand (lexemes_of (ls ++ ts))) item all));
+      stand = subst (λ x. Stand (lexemes_of (ls ++ ts)) (fixed (Word (codes "module")) ∷ at (Word name) (nth ts 1).place ∷ fixed (SignToken (codes "(")) ∷ fixed (Word (codes "clk")) ∷ all_marks header_mark x)) (sym no_header)
+          (subst (Stand (lexemes_of (ls ++ ts))) item all);
       later = record {
         header = λ b. absurd (omega (arith, b));
         inputs = λ b. up.inputs b;

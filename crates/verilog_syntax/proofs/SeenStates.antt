@@ -151,7 +151,7 @@ tail_is f.Port h = absurd (omega (arith, h))
 tail_is f.BlockEnd h = refl
 tail_is f.ModuleEnd h = absurd (omega (arith, h))
 
-pub named_of : (form : Form) (m : PlacedModule) → 1 ≤ phase form → NamedSoFar form m → IsName m.name
+pub named_of : (form : Form) (m : PlacedModule) → 1 ≤ phase form → NamedSoFar form m → IsName m.name.text
 named_of f.Start m h n = absurd (omega (arith, h))
 named_of f.Head m h n = n
 named_of f.HeaderName m h n = n

@@ -54,7 +54,7 @@ name_plain x = x.text
 
 abbrev pub syntax_of : PlacedModule → Syntax
 syntax_of m = record {
-  name = m.name;
+  name = m.name.text;
   header = map name_plain m.header;
   inputs = map declared_plain m.inputs;
   outputs = map declared_plain m.outputs;
@@ -206,5 +206,5 @@ module_tokens m h =
     ∙ split_tokens i _ _ _ inputs (split_tokens o _ _ _ outputs (split_tokens r _ _ _ regs (split_tokens e _ _ _ mems (split_tokens w _ _ _ wires (split_tokens a _ _ _ assigns
     (split_tokens (d ++ end) last _ _ (drives_are false m.drives h) refl)))))) in
     split_tokens (head_marks m) (clock_marks ++ (item_marks m ++ (end ++ last))) _ _
-    (ap (λ x. Word (codes "module") ∷ Word m.name ∷ Sign (codes "(") ∷ Word (codes "clk") ∷ x) headers)
+    (ap (λ x. Word (codes "module") ∷ Word m.name.text ∷ Sign (codes "(") ∷ Word (codes "clk") ∷ x) headers)
     (split_tokens clock_marks (item_marks m ++ (end ++ last)) _ _ refl items)

@@ -137,7 +137,7 @@ abbrev pub header_mark : PlacedName → List Mark
 header_mark x = sign (codes ",") ∷ name_mark x ∷ []
 
 abbrev pub head_marks : PlacedModule → List Mark
-head_marks m = word (codes "module") ∷ word m.name ∷ sign (codes "(") ∷ word (codes "clk") ∷ all_marks header_mark m.header
+head_marks m = word (codes "module") ∷ name_mark m.name ∷ sign (codes "(") ∷ word (codes "clk") ∷ all_marks header_mark m.header
 
 abbrev pub clock_marks : List Mark
 clock_marks = sign (codes ")") ∷ sign (codes ";") ∷ word (codes "input") ∷ word (codes "clk") ∷ sign (codes ";") ∷ []

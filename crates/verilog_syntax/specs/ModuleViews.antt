@@ -71,7 +71,7 @@ drive_view (drive.Further x) = further (write_view x)
 
 abbrev pub module_view : Module → PlacedModule
 module_view m = record {
-  name = m.name.now;
+  name = name_view m.name;
   header = map name_view m.header.items;
   inputs = map declared_view m.inputs.items;
   outputs = map declared_view m.outputs.items;
@@ -146,7 +146,7 @@ register_in ts = register (operand_in (nth ts 8)) (name_in (nth ts 10)) (operand
 -- the module with what a form's tokens say
 abbrev pub added : Form → List Token → PlacedModule → PlacedModule
 added f.Start ts m = m
-added f.Head ts m = record m { name = text_in (nth ts 1).kind }
+added f.Head ts m = record m { name = name_in (nth ts 1) }
 added f.HeaderName ts m = record m { header = m.header ++ name_in (nth ts 1) ∷ [] }
 added f.Clock ts m = m
 added f.Input ts m = record m { inputs = m.inputs ++ declared_in ts ∷ [] }
@@ -162,4 +162,4 @@ added f.ModuleEnd ts m = m
 added form ts m = record m { wires = m.wires ++ wire_in form ts ∷ [] }
 
 abbrev pub no_module : PlacedModule
-no_module = record { name = []; header = []; inputs = []; outputs = []; regs = []; mems = []; wires = []; assigns = []; drives = [] }
+no_module = record { name = record { text = []; place = text_start }; header = []; inputs = []; outputs = []; regs = []; mems = []; wires = []; assigns = []; drives = [] }

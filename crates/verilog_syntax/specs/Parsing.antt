@@ -43,7 +43,7 @@ StopsRight tokens stop.Memory = Unit {0}
 
 -- what is declared has names
 pub record IsNamed (m : PlacedModule) : Type 0 where
-  pub name : IsName m.name
+  pub name : IsName m.name.text
   pub inputs : All (λ (x : PlacedDeclared). IsName x.name.text) m.inputs
   pub outputs : All (λ (x : PlacedDeclared). IsName x.name.text) m.outputs
   pub regs : All (λ (x : PlacedDeclared). IsName x.name.text) m.regs

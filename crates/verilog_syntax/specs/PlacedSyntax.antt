@@ -54,7 +54,7 @@ pub data Drive : Type 0 where
   further : PlacedWrite → Drive
 
 pub record PlacedModule : Type 0 where
-  pub name : List ℕ
+  pub name : PlacedName
   pub header : List PlacedName
   pub inputs : List PlacedDeclared
   pub outputs : List PlacedDeclared

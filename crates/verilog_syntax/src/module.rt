@@ -4,7 +4,7 @@ ghost use Rattle.verilog_syntax.specs.ModuleViews.{name_view, operand_view, net_
 
 use crate::form::{Form, operator_of};
 use crate::token::{Kind, Token};
-use hls_base::place::Place;
+use hls_base::place::{Place, TEXT_START};
 use rtl_core::design::Pair;
 use std::alloc::{AllocError, Global};
 
@@ -92,7 +92,7 @@ pub enum Drive<'a> {
 /// What a module's text says, with its places.
 #[derive(Drop)]
 pub struct Module<'a> {
-    pub name: &'a [u8],
+    pub name: Name<'a>,
     pub header: Vec<Name<'a>>,
     pub inputs: Vec<Declared<'a>>,
     pub outputs: Vec<Declared<'a>>,
@@ -245,7 +245,10 @@ impl<'a> Module<'a> {
         ensures { module_view result ≡ no_module }
     {
         Module {
-            name: b"",
+            name: Name {
+                text: b"",
+                place: TEXT_START,
+            },
             header: Vec::new(alloc),
             inputs: Vec::new(alloc),
             outputs: Vec::new(alloc),
@@ -263,7 +266,7 @@ impl<'a> Module<'a> {
         ensures { OnOk result (module_view self.new ≡ added form tokens.now (module_view self.old)) }
     {
         match form {
-            Form::Head => self.name = text_of(&tokens[1]),
+            Form::Head => self.name = name_of(&tokens[1]),
             Form::HeaderName => self.header.push(name_of(&tokens[1]))?,
             Form::Input => self.inputs.push(declared_at(tokens))?,
             Form::Output => self.outputs.push(declared_at(tokens))?,
