@@ -1,0 +1,15 @@
+pub mod Following
+pub mod Measuring
+pub mod Outs
+pub mod Rests
+pub mod Suits
+pub mod Entering
+pub mod Targets
+pub mod Straight
+pub mod Cases
+pub mod Copying
+pub mod Forks
+pub mod Rounds
+pub mod Advancing
+pub mod Loops
+pub mod Continues

@@ -1,0 +1,4 @@
+//! Lowered trees have the run of their pieces.
+#![tactic(auto)]
+
+pub mod laws;
