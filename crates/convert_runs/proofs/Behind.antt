@@ -76,12 +76,12 @@ word_apart t u results (source.Result i) e = refl
 -- ---- one operation over two stores with the same memories
 
 -- what they give is the same, and the variables stay
-abbrev Alike : Words → Words → Valued Performed → Valued Performed → Type 0
+abbrev pub Alike : Words → Words → Valued Performed → Valued Performed → Type 0
 Alike v t (is p) (is q) = (p.result ≡ q.result) × (p.words.memories ≡ q.words.memories) × (p.words.variables ≡ v.variables) × (q.words.variables ≡ t.variables)
 Alike v t (faulty rule at) (faulty other place) = (rule ≡ other) × (at ≡ place)
 Alike v t x y = ⊥
 
-abbrev AlikeEffect : Words → Words → Performed → Performed → Type 0
+abbrev pub AlikeEffect : Words → Words → Performed → Performed → Type 0
 AlikeEffect v t p q = (p.result ≡ q.result) × (p.words.memories ≡ q.words.memories) × (p.words.variables ≡ v.variables) × (q.words.variables ≡ t.variables)
 
 module _ (shapes : Shapes) (v t : Words) (same : v.memories ≡ t.memories) (op other : OpTree) (array : op.array ≡ other.array) (signed : op.signed ≡ other.signed) (bits : op.bits ≡ other.bits) (args : List ℕ) where
@@ -97,14 +97,14 @@ module _ (shapes : Shapes) (v t : Words) (same : v.memories ≡ t.memories) (op 
   stored_stays u None = refl
   stored_stays u (Some a) = refl
 
-  effect_alike : (kind : OpKind) (allowed : Bool) (from new_from : ℕ) → value kind op.signed op.bits from args ≡ value kind op.signed op.bits new_from args → AlikeEffect v t (effect shapes op kind allowed from args v) (effect shapes other kind allowed new_from args t)
+  pub effect_alike : (kind : OpKind) (allowed : Bool) (from new_from : ℕ) → value kind op.signed op.bits from args ≡ value kind op.signed op.bits new_from args → AlikeEffect v t (effect shapes op kind allowed from args v) (effect shapes other kind allowed new_from args t)
   effect_alike o.Load true from new_from e = (loaded_same op.array ∙ ap (λ a. loaded shapes a args t) array, same, refl, refl)
   effect_alike o.Load false from new_from e = (refl, same, refl, refl)
   effect_alike o.Store true from new_from e = (refl, stored_same op.array ∙ ap (λ a. (with_stored shapes a args t).memories) array, stored_stays v op.array, stored_stays t other.array)
   effect_alike o.Store false from new_from e = (refl, same, refl, refl)
   effect_alike kind allowed from new_from e = (e ∙ (λ i. value kind (signed i) (bits i) new_from args), same, refl, refl)
 
-fault_alike : (v t : Words) (allowed : Bool) (flag : _) (rule : _) (p q : Performed) → AlikeEffect v t p q → Alike v t (fault_if allowed flag rule p) (fault_if allowed flag rule q)
+pub fault_alike : (v t : Words) (allowed : Bool) (flag : _) (rule : _) (p q : Performed) → AlikeEffect v t p q → Alike v t (fault_if allowed flag rule p) (fault_if allowed flag rule q)
 fault_alike v t true None rule p q h = h
 fault_alike v t true (Some at) None p q h = h
 fault_alike v t true (Some at) (Some rule) p q h = (refl, refl)
@@ -117,7 +117,7 @@ get_of (y ∷ xs) (suc i) x d e = get_of xs i x d e
 
 -- ---- values of conversions
 
-abbrev is_widen : OpKind → Bool
+abbrev pub is_widen : OpKind → Bool
 is_widen o.Widen = true
 is_widen kind = false
 
@@ -133,7 +133,7 @@ some_word : {x y : ℕ} → Some x ≡ Some y → x ≡ y
 some_word e = cc
 
 -- a conversion is never at fault, and takes its first operand alone
-converts : (shapes : Shapes) (op : OpTree) (kind : OpKind) → op.kind ≡ kind → is_conversion kind ≡ true → (allowed : Bool) (from w : ℕ) (ws : List ℕ) (t : Words)
+pub converts : (shapes : Shapes) (op : OpTree) (kind : OpKind) → op.kind ≡ kind → is_conversion kind ≡ true → (allowed : Bool) (from w : ℕ) (ws : List ℕ) (t : Words)
     → fault_if allowed op.flag (fault shapes op (w ∷ ws)) (effect shapes op op.kind allowed from (w ∷ ws) t) ≡ is (performed (value op.kind op.signed op.bits from (w ∷ [])) t)
 converts shapes op kind e c allowed from w ws t = subst (λ k. fault_if allowed op.flag (fault_as k) (effect shapes op k allowed from (w ∷ ws) t) ≡ is (performed (value k op.signed op.bits from (w ∷ [])) t)) (sym e) (by kind c allowed op.flag) where
   fault_as : OpKind → Option UbRule
@@ -182,11 +182,11 @@ module _ (shapes : Shapes) (words : List ℕ) (outs_ : List Out) (base block w :
     pub renamed_same : (x : Operand) → IsEarly (length done) x.value → operand v results x ≡ operand t others (renamed outs_ s.values x)
     renamed_same x z = standing_same x x.value refl z
 
-    args_same : (xs : List Operand) → AreEarly (length done) xs → map (operand v results) xs ≡ map (operand t others) (map (renamed outs_ s.values) xs)
+    pub args_same : (xs : List Operand) → AreEarly (length done) xs → map (operand v results) xs ≡ map (operand t others) (map (renamed outs_ s.values) xs)
     args_same [] z = refl
     args_same (x ∷ xs) z = ap₂ (λ a as_. a ∷ as_) (renamed_same x z.0) (args_same xs z.1)
 
-    guard_early : (g : Option Operand) → GuardIsTyped widths words done g → is_allowed v results g ≡ is_allowed t others (option_map (renamed outs_ s.values) g)
+    pub guard_early : (g : Option Operand) → GuardIsTyped widths words done g → is_allowed v results g ≡ is_allowed t others (option_map (renamed outs_ s.values) g)
     guard_early None z = refl
     guard_early (Some x) z = ap (λ c. not (c == 0)) (renamed_same x (has_early widths words done 1 x.value z))
 
@@ -201,7 +201,7 @@ module _ (shapes : Shapes) (words : List ℕ) (outs_ : List Out) (base block w :
           let y = value_at i.0 z in
           ap (λ c. bits_in c d) (prefix i.0 x.0 x.1) ∙ sym (sound.bits i.0 x.0 y.0 x.1 y.1) ∙ ap (λ c. n.bits_or c d) (sym y.1)
 
-      from_same : (op : OpTree) (xs : List Operand) → AreEarly (length done) xs → first_bits widths block op xs ≡ n.first_bits widths s.values op.bits xs
+      pub from_same : (op : OpTree) (xs : List Operand) → AreEarly (length done) xs → first_bits widths block op xs ≡ n.first_bits widths s.values op.bits xs
       from_same op [] z = refl
       from_same op (x ∷ xs) z = source_same op.bits x.value z.0
 
@@ -236,7 +236,7 @@ module _ (shapes : Shapes) (words : List ℕ) (outs_ : List Out) (base block w :
       widen_converts kind e = absurd cc
 
       -- the width of the first operand counts for a conversion alone
-      value_kept : (op : OpTree) (args : List ℕ) (xs : List Operand) → AreEarly (length done) xs
+      pub value_kept : (op : OpTree) (args : List ℕ) (xs : List Operand) → AreEarly (length done) xs
           → converted op (n.first_bits widths s.values op.bits xs) (first_word (map (renamed outs_ s.values) xs)) ≡ None
           → (c : Bool) → is_widen op.kind ≡ c → value op.kind op.signed op.bits (n.first_bits widths s.values op.bits xs) args ≡ value op.kind op.signed op.bits (first_bits widths w op (map (renamed outs_ s.values) xs)) args
       value_kept op args xs z k false e = from_free op.kind op.signed op.bits _ _ args e

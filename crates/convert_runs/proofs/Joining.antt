@@ -178,7 +178,7 @@ module _ (widths words : List ℕ) where
       renamed_early [] z = tt
       renamed_early (x ∷ xs) z = (standing_early x x.value refl z.0, renamed_early xs z.1)
 
-      guard_renamed : (g : Option Operand) → GuardIsTyped widths words done g → GuardIsTyped widths words ops (option_map (renamed outs_ values) g)
+      pub guard_renamed : (g : Option Operand) → GuardIsTyped widths words done g → GuardIsTyped widths words ops (option_map (renamed outs_ values) g)
       guard_renamed None z = tt
       guard_renamed (Some x) z = renamed_has x 1 z
 
@@ -206,7 +206,7 @@ module _ (widths words : List ℕ) where
       early_renamed = renamed_early
 
       -- the bit of a guard
-      bit_has : (own : Option Operand) (x : Option Operand) → bit_for guards own ≡ x → HasBits widths words ops 1 (or_constant x).value
+      pub bit_has : (own : Option Operand) (x : Option Operand) → bit_for guards own ≡ x → HasBits widths words ops 1 (or_constant x).value
       bit_has own None e = omega arith
       bit_has own (Some b) e = h.guard_has own b e
 
@@ -218,13 +218,13 @@ module _ (widths words : List ℕ) where
           more_guard done (s.ops ++ op ∷ []) s.values s.guards (record { own = own; bit = result_of (length s.ops) }) (more_ops done s.ops s.values s.guards op h k)
           (subst (λ j. HasBits widths words (s.ops ++ op ∷ []) j (result_of (length s.ops)).value) e (next_has s.ops op))
 
-      taken_sound : (s : Joined) (x : Operand) → TestHas s.ops (Some x) → IsSound done s → IsSound done (with_taken x s)
+      pub taken_sound : (s : Joined) (x : Operand) → TestHas s.ops (Some x) → IsSound done s → IsSound done (with_taken x s)
       taken_sound s x z h = by (is_some (bit_for s.guards None)) where
         by : (c : Bool) → IsSound done (if c then s else with_guard s None (plain o.Not 1 (x ∷ [])))
         by true = h
         by false = guard_sound s None (plain o.Not 1 (x ∷ [])) h (record { args = (has_early s.ops 1 x.value z, tt); guard = tt; access = tt }) refl
 
-      both_sound : (s : Joined) (own : Operand) → HasBits widths words s.ops 1 own.value → IsSound done s → IsSound done (with_both s own)
+      pub both_sound : (s : Joined) (own : Operand) → HasBits widths words s.ops 1 own.value → IsSound done s → IsSound done (with_both s own)
       both_sound s own z h =
           guard_sound s (Some own) (plain o.And 1 (bit_in s None ∷ own ∷ [])) h
           (record { args = (has_early s.ops 1 (bit_in s None).value (bit_has done s.ops s.values s.guards h None (bit_for s.guards None) refl), (has_early s.ops 1 own.value z, tt)); guard = tt; access = tt }) refl
@@ -235,14 +235,14 @@ module _ (widths words : List ℕ) where
         by true = z
         by false = has_more s.ops (plain o.Not 1 (x ∷ []) ∷ []) k y z
 
-      bit_sound : (s : Joined) (x : Operand) (own : Option Operand) → TestHas s.ops (Some x) → GuardIsTyped widths words s.ops own → IsSound done s → IsSound done (with_bit x s own)
+      pub bit_sound : (s : Joined) (x : Operand) (own : Option Operand) → TestHas s.ops (Some x) → GuardIsTyped widths words s.ops own → IsSound done s → IsSound done (with_bit x s own)
       bit_sound s x None z g h = taken_sound s x z h
       bit_sound s x (Some own) z g h = by (is_some (bit_for s.guards (Some own))) where
         by : (c : Bool) → IsSound done (if c then s else with_both (with_taken x s) own)
         by true = h
         by false = both_sound (with_taken x s) own (taken_more s x 1 own.value g) (taken_sound s x z h)
 
-      bit_grows : (s : Joined) (x : Operand) (own : Option Operand) → (with_bit x s own).values ≡ s.values
+      pub bit_grows : (s : Joined) (x : Operand) (own : Option Operand) → (with_bit x s own).values ≡ s.values
       bit_grows s x None = by (is_some (bit_for s.guards None)) where
         by : (c : Bool) → (if c then s else with_guard s None (plain o.Not 1 (x ∷ []))).values ≡ s.values
         by true = refl

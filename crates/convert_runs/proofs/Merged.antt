@@ -77,33 +77,33 @@ module _ (widths words : List ℕ) where
 
   -- ---- branches
 
-  record IsFine (base : List OpTree) (r : Branched) : Type 0 where
-    begins : (more : List OpTree) × (r.ops ≡ base ++ more)
-    ops_typed : OpsAreTyped widths words [] r.ops
-    outs_typed : OutsAreTyped widths words r.ops r.outs
+  pub record IsFine (base : List OpTree) (r : Branched) : Type 0 where
+    pub begins : (more : List OpTree) × (r.ops ≡ base ++ more)
+    pub ops_typed : OpsAreTyped widths words [] r.ops
+    pub outs_typed : OutsAreTyped widths words r.ops r.outs
 
   branch_fine : (os : List Out) (test : Operand) (ops : List OpTree) (guards : List Guard) (x : Option BlockTree) → OpsAreTyped widths words [] ops → OutsAreTyped widths words ops os → HasBits widths words ops 1 test.value
       → ((own : Option Operand) (b : Operand) → bit_for guards own ≡ Some b → HasBits widths words ops 1 b.value) → BranchIsTyped widths words x → IsFine ops (branched widths ops os (Some test) guards x)
   branch_fine os test ops guards None h k z g y = record { begins = ([], sym (append-nil ops)); ops_typed = h; outs_typed = tt }
   branch_fine os test ops guards (Some b) h k z g y =
-      let s = all_sound widths words os (Some test) ops b.ops [] (record { ops = ops; values = []; guards = guards }) (start_sound os (Some test) ops guards h k z g) y.ops in
+      let s = all_sound widths words os (Some test) ops b.ops [] (record { ops = ops; values = []; guards = guards }) (start_sound os (Some test) ops guards h k z g) y.0.ops in
       let j = joined_ops widths os (Some test) (record { ops = ops; values = []; guards = guards }) b.ops in
       record {
         begins = s.begins;
         ops_typed = s.ops_typed;
-        outs_typed = typed_all widths words j.ops [] (map (renamed_out os j.values) b.outs) tt (outs_renamed widths words os (Some test) ops b.ops j.ops j.values j.guards s b.outs y.outs);
+        outs_typed = typed_all widths words j.ops [] (map (renamed_out os j.values) b.outs) tt (outs_renamed widths words os (Some test) ops b.ops j.ops j.values j.guards s b.outs y.0.outs);
       }
 
   -- ---- selections
 
-  abbrev ChoiceIsTyped : List OpTree → Choice → Type 0
+  abbrev pub ChoiceIsTyped : List OpTree → Choice → Type 0
   ChoiceIsTyped ops c = (k : ℕ) × (slice_get widths c.variable.0 ≡ Some k) × HasBits widths words ops k c.yes_.value × HasBits widths words ops k c.no_.value
 
-  abbrev ChoicesAreTyped : List OpTree → List Choice → Type 0
+  abbrev pub ChoicesAreTyped : List OpTree → List Choice → Type 0
   ChoicesAreTyped ops [] = Unit {0}
   ChoicesAreTyped ops (c ∷ cs) = ChoiceIsTyped ops c × ChoicesAreTyped ops cs
 
-  choices_more : (ops more : List OpTree) (cs : List Choice) → ChoicesAreTyped ops cs → ChoicesAreTyped (ops ++ more) cs
+  pub choices_more : (ops more : List OpTree) (cs : List Choice) → ChoicesAreTyped ops cs → ChoicesAreTyped (ops ++ more) cs
   choices_more ops more [] h = tt
   choices_more ops more (c ∷ cs) h = ((h.0.0, h.0.1, has_more widths words ops more h.0.0 c.yes_.value h.0.2, has_more widths words ops more h.0.0 c.no_.value h.0.3), choices_more ops more cs h.1)
 
@@ -129,11 +129,11 @@ module _ (widths words : List ℕ) where
       for_typed xs q.1,
     )
 
-    choices_typed : ChoicesAreTyped ops (choices os yes_ no_)
+    pub choices_typed : ChoicesAreTyped ops (choices os yes_ no_)
     choices_typed =
         choices_both ops (choices_for os yes_ no_ yes_) (choices_for os yes_ no_ (others yes_ no_)) (for_typed yes_ y) (for_typed (others yes_ no_) (others_typed ops (λ x. not (is_set yes_ x.variable)) no_ z))
 
-  selection_open : (test : Operand) (b : BlockTree) (c : Choice) → HasBits widths words b.ops 1 test.value → ChoiceIsTyped b.ops c → IsOpen widths words b → IsOpen widths words (with_selection widths test b c)
+  pub selection_open : (test : Operand) (b : BlockTree) (c : Choice) → HasBits widths words b.ops 1 test.value → ChoiceIsTyped b.ops c → IsOpen widths words b → IsOpen widths words (with_selection widths test b c)
   selection_open test b c t k h =
       let op = plain o.Select (selected_bits widths c.variable) (test ∷ c.yes_ ∷ c.no_ ∷ []) in
       let w : selected_bits widths c.variable ≡ k.0 = get_of widths c.variable.0 k.0 64 k.1 in
@@ -181,35 +181,35 @@ module _ (widths words : List ℕ) where
   -- ---- the whole
 
   module _ (b : BlockTree) (f : Branches) (h : IsOpen widths words b) (e : b.exit ≡ branch f.test) (y : BranchIsTyped widths words f.yes_) (z : BranchIsTyped widths words f.no_) where
-    test_has : HasBits widths words b.ops 1 f.test.value
+    pub test_has : HasBits widths words b.ops 1 f.test.value
     test_has = subst (ExitIsTyped widths words b.ops) e h.typed.exit
 
-    taken_has : (own : Option Operand) (x : Operand) → bit_for (is_taken f.test) own ≡ Some x → HasBits widths words b.ops 1 x.value
+    pub taken_has : (own : Option Operand) (x : Operand) → bit_for (is_taken f.test) own ≡ Some x → HasBits widths words b.ops 1 x.value
     taken_has None x q = let p : f.test ≡ x = cc in subst (λ (w : Operand). HasBits widths words b.ops 1 w.value) p test_has
     taken_has (Some own) x q = absurd cc
 
-    abbrev yes_part : Branched
+    abbrev pub yes_part : Branched
     yes_part = branched widths b.ops b.outs (Some f.test) (is_taken f.test) f.yes_
 
-    abbrev no_part : Branched
+    abbrev pub no_part : Branched
     no_part = branched widths yes_part.ops b.outs (Some f.test) [] f.no_
 
-    yes_fine : IsFine b.ops yes_part
+    pub yes_fine : IsFine b.ops yes_part
     yes_fine = branch_fine b.outs f.test b.ops (is_taken f.test) f.yes_ h.typed.ops h.typed.outs test_has taken_has y
 
-    yes_outs : OutsAreTyped widths words yes_part.ops b.outs
+    pub yes_outs : OutsAreTyped widths words yes_part.ops b.outs
     yes_outs = subst (λ l. OutsAreTyped widths words l b.outs) (sym yes_fine.begins.1) (outs_more widths words b.ops yes_fine.begins.0 b.outs h.typed.outs)
 
-    yes_test : HasBits widths words yes_part.ops 1 f.test.value
+    pub yes_test : HasBits widths words yes_part.ops 1 f.test.value
     yes_test = subst (λ l. HasBits widths words l 1 f.test.value) (sym yes_fine.begins.1) (has_more widths words b.ops yes_fine.begins.0 1 f.test.value test_has)
 
-    no_fine : IsFine yes_part.ops no_part
+    pub no_fine : IsFine yes_part.ops no_part
     no_fine = branch_fine b.outs f.test yes_part.ops [] f.no_ yes_fine.ops_typed yes_outs yes_test (λ own x q. absurd cc) z
 
-    raised : (os : List Out) → OutsAreTyped widths words yes_part.ops os → OutsAreTyped widths words no_part.ops os
+    pub raised : (os : List Out) → OutsAreTyped widths words yes_part.ops os → OutsAreTyped widths words no_part.ops os
     raised os q = subst (λ l. OutsAreTyped widths words l os) (sym no_fine.begins.1) (outs_more widths words yes_part.ops no_fine.begins.0 os q)
 
-    no_test : HasBits widths words no_part.ops 1 f.test.value
+    pub no_test : HasBits widths words no_part.ops 1 f.test.value
     no_test = subst (λ l. HasBits widths words l 1 f.test.value) (sym no_fine.begins.1) (has_more widths words yes_part.ops no_fine.begins.0 1 f.test.value yes_test)
 
     pub merged_open : IsOpen widths words (merged widths b f)

@@ -141,16 +141,16 @@ module _ (shapes : Shapes) (words : List ℕ) (kept : Point → Bool) (loops : B
         → Open_ (joined shapes.widths (merged shapes.widths b f) after)
     going_typed (fork yes_ no_ c) b after f h k a e =
         let i = fork_found b.exit (converted_side scope yes_) (converted_side scope no_) c f e in
-        blocks.merged_typed b after f h i.exit_ (subst (BranchIsTyped shapes.widths words) (sym i.yes_same) (side_typed yes_ k.0)) (subst (BranchIsTyped shapes.widths words) (sym i.no_same) (side_typed no_ k.1)) a
+        blocks.merged_typed b after f h i.exit_ (subst (BranchIsTyped shapes.widths words) (sym i.yes_same) (side_typed yes_ k.0 i.only_yes)) (subst (BranchIsTyped shapes.widths words) (sym i.no_same) (side_typed no_ k.1 i.only_no)) a
     going_typed (loop post test body step eligible) b after f h k a e =
         absurd (no_fork_found b.exit _ f (loop_is_no_fork shapes.widths (loop_test scope post test body step eligible) post (converted_sequence scope test) (converted_sequence scope body) (converted_side scope step)) e)
     going_typed (switch dead targets other arms) b after f h k a e = absurd (no_fork_found b.exit _ f tt e)
     going_typed (land number) b after f h k a e = absurd (no_fork_found b.exit _ f tt e)
     going_typed (overlapped point body) b after f h k a e = absurd k
 
-    side_typed : (s : SideTree) → SideIsTyped shapes.widths words s → BranchIsTyped shapes.widths words (first_block (converted_side scope s))
-    side_typed no_side h = tt
-    side_typed (side blocks_) h = (first_typed blocks_ h.0).typed
+    side_typed : (s : SideTree) → SideIsTyped shapes.widths words s → is_only_side (converted_side scope s) ≡ true → BranchIsTyped shapes.widths words (first_block (converted_side scope s))
+    side_typed no_side h e = tt
+    side_typed (side blocks_) h e = ((first_typed blocks_ h.0).typed, (only_alone (converted_sequence scope blocks_) e).1)
 
   -- ---- sequences and rows
 
@@ -498,8 +498,8 @@ module _ (shapes : Shapes) (words : List ℕ) (kept : Point → Bool) (loops : B
         → S (Ends after.exit rest) (λ t n. then_ (f t n) (λ w t1 n1. parts_run shapes (more_parts shape after rest) w t1 n1)) (naked_run shapes (converted_behind scope (joined shapes.widths (merged shapes.widths b g) after) rest))
     merging (fork yes_ no_ c) after rest b f g h s a k l q m e further =
         let i = fork_found b.exit (converted_side scope yes_) (converted_side scope no_) c g e in
-        let ty = subst (BranchIsTyped shapes.widths words) (sym i.yes_same) (side_typed yes_ s.0) in
-        let tn = subst (BranchIsTyped shapes.widths words) (sym i.no_same) (side_typed no_ s.1) in
+        let ty = subst (BranchIsTyped shapes.widths words) (sym i.yes_same) (side_typed yes_ s.0 i.only_yes) in
+        let tn = subst (BranchIsTyped shapes.widths words) (sym i.no_same) (side_typed no_ s.1 i.only_no) in
         let y = side_merged yes_ g.yes_ s.0 k.0 i.only_yes i.yes_same in
         let z = side_merged no_ g.no_ s.1 k.1 i.only_no i.no_same in
         let d = joined shapes.widths (merged shapes.widths b g) after in

@@ -21,10 +21,10 @@ pub record IsOpen (widths words : List ℕ) (block : BlockTree) : Type 0 where
   pub typed : BlockIsTyped widths words block
   pub once : Once block.outs
 
--- a block that may be there
+-- a block that may be there, and leads on
 abbrev pub BranchIsTyped : List ℕ → List ℕ → Option BlockTree → Type 0
 BranchIsTyped widths words None = Unit {0}
-BranchIsTyped widths words (Some b) = BlockIsTyped widths words b
+BranchIsTyped widths words (Some b) = BlockIsTyped widths words b × (b.exit ≡ next)
 
 module _ (shapes : Shapes) where
   -- what a block does without the point that it passes

@@ -1,0 +1,4 @@
+pub mod Suiting
+pub mod PiecePoints
+pub mod Laws
+pub mod Examples

@@ -1,0 +1,7 @@
+pub mod Bits
+pub mod Guards
+pub mod Idle
+pub mod Taken
+pub mod Selections
+pub mod Branches
+pub mod Whole
