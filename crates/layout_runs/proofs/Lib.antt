@@ -5,5 +5,5 @@ mod Places
 mod Entering
 mod Looping
 mod Trees
-mod Whole
+pub mod Whole
 mod There

@@ -2,7 +2,7 @@ mod Classes
 mod Dealing
 mod Nodes
 mod Orders
-mod Programs
+pub mod Programs
 mod Requests
 mod Rules
 mod Serving
