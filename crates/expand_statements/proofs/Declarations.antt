@@ -1,59 +1,62 @@
 -- Declarations and returns do what their pieces do.
-use Rattle.std.proofs.Common.{◌≡◌, ◌≢◌, ℕ, ◌≤◌, ◌<◌, ◌==◌, ◌⊎◌, inl, inr, ◌∙◌, sym, refl, ap, subst, ℤ, pos, Bool, true, false, List, [], ◌∷◌, ◌++◌, length, slice_get, Option, Some, None, le_refl, le_trans, arith, if◌then◌else◌, replicate}
-use Rattle.std.specs.Prelude.{slice_set}
-use Rattle.std.proofs.lemmas.List.{append-nil, length-append}
+use Rattle.std.proofs.Common.{◌≡◌, ◌≢◌, ℕ, ◌≤◌, ◌<◌, inl, inr, ◌∙◌, sym, refl, ap, subst, ℤ, pos, Bool, true, false, List, [], ◌∷◌, ◌++◌, length, slice_get, Option, Some, None, le_refl, le_trans, arith, replicate}
+use Rattle.std.specs.Prelude.{slice_set, ◌+◌, ◌^◌}
+use Rattle.std.proofs.lemmas.List.{length-append}
 use Rattle.std.proofs.lemmas.Option.{same_Some, none-some}
 use Rattle.hls_base.specs.declared.number.ArrayId.{ArrayId}
 use Rattle.hls_base.specs.declared.number.VarId.{VarId}
-use Rattle.c_meaning.specs.declared.value.Completion.TheVariants as end
 use Rattle.c_meaning.specs.Store.{Object, element_in, forgotten}
-use Rattle.c_value.specs.Values.{convert}
+use Rattle.c_value.specs.Values.{convert, int_type}
 use Rattle.core_program.specs.Core as core
 use Rattle.core_program.specs.Core.{CoreTree, CoreObjectTree, CoreInitTree}
 use Rattle.piece_making.specs.declared.frame.Home.{Home}
 use Rattle.piece_making.specs.declared.frame.Home.TheVariants as home
 use Rattle.piece_making.specs.declared.work.Slot.{Slot}
-use Rattle.piece_making.specs.Making.{State, Part, then_, emit, declared, note_array, add_array, array_number}
-use Rattle.piece_making.specs.Calls.{Call}
+use Rattle.piece_making.specs.Making.{State, then_, emit, declared, note_array, add_array, array_number}
+use Rattle.piece_making.specs.Calls.{Call, variable}
 use Rattle.pieces.specs.Trees as tree
 use Rattle.pieces.specs.Trees.{PureTree, PieceTree, piece_row}
-use Rattle.run_steps.specs.Steps as Steps
-use Rattle.run_steps.specs.Steps.{Ran, goes}
-use Rattle.run_steps.specs.Valued.{is}
+use Rattle.run_steps.specs.Steps.{goes}
 use Rattle.run_steps.specs.Same.{Same}
-use Rattle.core_meaning.specs.Cells.{Spot, spot, Cells, Here, put}
+use Rattle.core_meaning.specs.Cells.{Spot, Cells, Here, put}
 use Rattle.core_meaning.specs.Expressions as ce
 use Rattle.core_meaning.specs.Expressions.{CoreCalls}
 use Rattle.core_meaning.specs.Statements as ks
-use Rattle.piece_meaning.specs.Values.{Store, value, with_variable}
+use Rattle.piece_meaning.specs.Values.{Store, with_variable, with_element}
 use Rattle.piece_meaning.specs.Pieces.{Frame, Way, on, kind_at, kind_in}
 use Rattle.piece_meaning.specs.Pieces as pm
 use Rattle.piece_meaning.specs.Values.{lengths_in}
 use Rattle.c_expand.specs.Expressions.{Callee, expression}
-use Rattle.c_expand.specs.Statements.{declare, declared_as, returned, result_set, scalar_declared}
-use Rattle.expand_runs.specs.Showing.{Known, IsShown, Stands, IsWhole}
-use Rattle.expand_statements.specs.Scopes.{Setting, Reach, IsScalar, IsArray, enter, reach, behind, objects_in, IsSoundIn, InitSound, StmtSound, ReturnSound}
-use Rattle.expand_statements.specs.Frames.{IsFrame, IsScene, IsInner, Relates, HomesIn, LivesIn, with_seen, made_for, local_home, OwnHome}
-use Rattle.expand_statements.specs.Covered.{InitCovered}
-use Rattle.expand_statements.specs.Results.{HasResult}
+use Rattle.c_expand.specs.Statements.{declare, declared_as, scalar_declared, filled, initialised, subscripts_at}
+use Rattle.expand_runs.specs.Showing.{Known, Stands, IsWhole}
+use Rattle.expand_statements.specs.Scopes.{Setting, Reach, IsScalar, IsArray, reach, objects_in, InitSound, ItemsSound, StmtSound}
+use Rattle.expand_statements.specs.Frames.{IsFrame, IsScene, Relates, HomesIn, LivesIn, with_seen, made_for, local_home, OwnHome}
 use Rattle.expand_runs.proofs.Rows.{run_of}
-use Rattle.expand_runs.proofs.Evaluating.{on_same}
-use Rattle.expand_runs.proofs.Sames.{goes_same, same_more, same_as}
-use Rattle.expand_runs.proofs.Showing.{put_here, put_other, spot_tells, shown_set, shown_apart}
-use Rattle.expand_runs.proofs.Growing.{begins_more, last_one, slots_there, slots_here, slots_length, within_before}
+use Rattle.expand_runs.proofs.Evaluating.{on_same, goes_first}
+use Rattle.expand_runs.proofs.Sames.{goes_same, same_as}
+use Rattle.expand_runs.proofs.Showing.{put_here, put_other, spot_tells, shown_set, shown_put}
+use Rattle.expand_runs.proofs.Growing.{begins_more, last_one, slots_there, slots_here, slots_length, within_before, within_grown}
 use Rattle.expand_runs.proofs.Going.{Goes, goes_set}
-use Rattle.expand_runs.proofs.Typing.{typed_set, converted_number, number_here, number_other}
+use Rattle.expand_runs.proofs.Typing.{typed_set, converted_number}
 use Rattle.expand_statements.proofs.Scenes.{apart_of, seen_cell, IsVariableHome, world_of}
 use Rattle.expand_statements.proofs.Actions.{HasValue, evaluated, expression_later}
-use Rattle.expand_statements.proofs.Moving.{nothing_in, none_some, relates_reached, scene_later, shown_less, with_here, with_other, seen_none}
-use Rattle.expand_statements.proofs.StatementParts.{EndsAt}
+use Rattle.expand_statements.proofs.Moving.{nothing_in, none_some, relates_reached, scene_later, scene_grown, with_here, with_other}
+use Rattle.expand_statements.proofs.StatementParts.{scene_made as made_anew}
 use Rattle.expand_runs.specs.Growing.{IsGrown, IsWithin}
 use Rattle.expand_runs.specs.Reading.{BinaryFits, UnaryFits, IsNumber, variable_type}
 use Rattle.piece_making.specs.Objects.{array_like}
 use Rattle.hls_base.specs.ArrayAddress.{element_count}
 use Rattle.std.proofs.lemmas.Bool.Decides.{eqb_tells}
 use Rattle.expand_runs.specs.Calling.{CallsSame}
-use Rattle.expand_runs.proofs.FineExpressions.{CalleesKeep}
+use Rattle.expand_runs.proofs.FineExpressions.{CalleesKeep, any_fit}
+use Rattle.expand_runs.proofs.Fine.{Sets}
+use Rattle.expand_runs.specs.Fitting.{Anything, CallsFit}
+use Rattle.expand_runs.specs.Sound.{Changes}
+use Rattle.core_program.specs.declared.expression.Cell.{Cell}
+use Rattle.c_token.specs.declared.ctype.CType.{CType}
+use Rattle.expand_statements.specs.Each.{EachItem, InInit}
+use Rattle.expand_statements.proofs.FineStatements.{filled_keeps, initialised_keeps}
+use Rattle.expand_statements.proofs.Elements.{zero_converted, goes_put, typed_element}
 use Rattle.core_meaning.specs.Runs.{is_array}
 use Rattle.expand_runs.proofs.PartRuns.{any_later}
 
@@ -202,13 +205,13 @@ module _ (unary_fits : UnaryFits) (binary_fits : BinaryFits) (f : Frame) (k : �
   no_slot i own slot e e' = subst IsVariableHome (same_Some (home.Variable own) (home.Local slot) (sym e ∙ e')) tt
 
   -- a scalar
-  scalar_at : (object : ℕ) (init : CoreInitTree) (r : Reach) (seen : ℕ → Option ArrayId) (st : State) (o : CoreObjectTree) (own : VarId) → InitCovered init → InitSound S (reach object r) o init → IsScene f c S Homes0 base r seen st → S.params ≤ object → r.Lives object → (r.Ready object → ⊥)
+  scalar_at : (object : ℕ) (init : CoreInitTree) (r : Reach) (seen : ℕ → Option ArrayId) (st : State) (o : CoreObjectTree) (own : VarId) → InitSound S (reach object r) o init → IsScene f c S Homes0 base r seen st → S.params ≤ object → r.Lives object → (r.Ready object → ⊥)
       → slice_get S.objects object ≡ Some o → IsScalar o → slice_get c.homes object ≡ Some (home.Variable own) → variable_type f own.0 ≡ o.kind → IsWithin (scalar_declared g c own init st).state f
       → IsScene f c S Homes0 base (reach object r) (with_seen seen object (made_for (slice_get c.homes object) st)) (scalar_declared g c own init st).state
       × ((s : Cells) (t : Store) (n : ℕ) → n ≤ k → I r seen s t → Same false k (λ (u : Unit {0}) s1 w t1. (w ≡ on) × I (reach object r) (with_seen seen object (made_for (slice_get c.homes object) st)) s1 t1)
       (ks.declare cc (here.spots object) (ks.kind_in (slice_get here.objects object)) init here s n) (run_of f (scalar_declared g c own init st).pieces t n))
   unfolding then_ emit declared
-  scalar_at object core.unwritten r seen st o own covered sound scene le lives no_ e is_scalar at type within =
+  scalar_at object core.unwritten r seen st o own sound scene le lives no_ e is_scalar at type within =
       let seen1 = with_seen seen object (made_for (slice_get c.homes object) st) in
       let Q = λ (u : Unit {0}) (s1 : Cells) (w : Way) (t1 : Store). (w ≡ on) × I (reach object r) seen1 s1 t1 in (
         scene_reached object r seen st st scene no_ within (same_state st _) (λ slot e'. absurd (no_slot object own slot at e')),
@@ -216,7 +219,7 @@ module _ (unary_fits : UnaryFits) (binary_fits : BinaryFits) (f : Frame) (k : �
             goes_same k Q tt (put s (here.spots object) (forgotten (s (here.spots object)))) on t n le_n
             (refl, relates_reached f here c S Homes0 Lives0 kinds fresh_ base frame object r seen st (put s (here.spots object) (forgotten (s (here.spots object)))) t scene le lives no_ o e (λ slot e'. absurd (no_slot object own slot at e')) (relates_forgotten object r seen s t le rel)),
       )
-  scalar_at object (core.single v) r seen st o own covered sound scene le lives no_ e is_scalar at type within =
+  scalar_at object (core.single v) r seen st o own sound scene le lives no_ e is_scalar at type within =
       let r1 = reach object r in
       let seen1 = with_seen seen object (made_for (slice_get c.homes object) st) in
       let x = expression g c v st in
@@ -260,40 +263,151 @@ module _ (unary_fits : UnaryFits) (binary_fits : BinaryFits) (f : Frame) (k : �
               ),
             )))),
       )
-  scalar_at object (core.elements items) r seen st o own covered sound scene le lives no_ e is_scalar at type within = absurd covered
+  scalar_at object (core.elements items) r seen st o own sound scene le lives no_ e is_scalar at type within = absurd (sound.0 is_scalar)
+
+  scene_made : (m : ℕ) (r : Reach) (seen : ℕ → Option ArrayId) (st : State) → IsScene f c S Homes0 base r seen st → IsScene f c S Homes0 base r seen (record st { made = m })
+  scene_made m r seen st h = made_anew unary_fits binary_fits f k here c S Homes0 Lives0 kinds fresh_ base frame cc g callees calls m r seen st h
+
+  -- ---- arrays
+
+  abbrev AnyExpression : CoreTree → Type 0
+  AnyExpression e = CallsFit Anything e × ((x : Cell) → Changes x e → Sets f (λ t. Unit {0}) (variable c x).0)
+
+  abbrev AnyObject : ℕ → Type 0
+  AnyObject i = ((slot : Slot) → slice_get c.homes i ≡ Some (home.Local slot) → Unit {0} → ⊥) × ((name : VarId) → slice_get c.homes i ≡ Some (home.Variable name) → Sets f (λ t. Unit {0}) name.0)
+
+  any_items : (items : List (Option CoreTree)) → EachItem AnyExpression AnyObject items
+  any_items [] = tt
+  any_items (None ∷ items) = (tt, any_items items)
+  any_items (Some v ∷ items) = ((any_fit v, λ x d t y u. tt), any_items items)
+
+  any_init : (init : CoreInitTree) → InInit AnyExpression AnyObject init
+  any_init core.unwritten = tt
+  any_init (core.single v) = (any_fit v, λ x d t y u. tt)
+  any_init (core.elements items) = any_items items
+
+  filled_grown : (a : ArrayId) (lengths : List ℕ) (n : ℕ) (items : List (Option CoreTree)) (r : Reach) (st : State) → IsGrown (λ i. Unit {0}) st (filled g c a lengths n items st).state
+  filled_grown a lengths n items r st =
+      (filled_keeps f (λ t. Unit {0}) (λ i. Unit {0}) 0 (λ i le t x u. tt) g c Anything (callees r).any (λ i lt t x u. tt) (λ t d i x u. tt) a lengths n items st (omega arith) (any_items items)).grown
+
+  initialised_grown : (a : ArrayId) (lengths : List ℕ) (init : CoreInitTree) (r : Reach) (st : State) → IsGrown (λ i. Unit {0}) st (initialised g c a lengths init st).state
+  initialised_grown a lengths init r st =
+      (initialised_keeps f (λ t. Unit {0}) (λ i. Unit {0}) 0 (λ i le t x u. tt) g c Anything (callees r).any (λ i lt t x u. tt) (λ t d i x u. tt) a lengths init st (omega arith) (any_init init)).grown
+
+  -- what is made so far when the array of a declaration is noted
+  abbrev noted_in : CoreObjectTree → Slot → State → State
+  noted_in o slot st = record st { arrays = st.arrays ++ array_like o None None false ∷ []; slots = slice_set st.slots slot.0 (Some (array_number (length st.arrays))) }
+
+  -- The array that is made for a declaration stands in the whole program.
+  array_there : (r : Reach) (st : State) (o : CoreObjectTree) (slot : Slot) (init : CoreInitTree) → IsWithin (declared_as g c (Some (home.Local slot)) (Some o) init st).state f → slice_get f.arrays (length st.arrays) ≡ Some (array_like o None None false)
+  unfolding then_ declared add_array note_array
+  array_there r st o slot init within =
+      let a = array_like o None None false in
+      let grown = initialised_grown (array_number (length st.arrays)) o.lengths init r (noted_in o slot st) in
+      within.arrays (length st.arrays) a (grown.arrays (length st.arrays) a (last_one st.arrays a))
+
+  -- the scene behind a declaration whose array is noted
+  scene_noted : (object : ℕ) (init : CoreInitTree) (r : Reach) (seen : ℕ → Option ArrayId) (st : State) (o : CoreObjectTree) (slot : Slot) → IsScene f c S Homes0 base r seen st → (r.Ready object → ⊥) → slice_get S.objects object ≡ Some o → slice_get c.homes object ≡ Some (home.Local slot)
+      → IsWithin (declared_as g c (Some (home.Local slot)) (Some o) init st).state f → IsScene f c S Homes0 base (reach object r) (with_seen seen object (made_for (slice_get c.homes object) st)) (noted_in o slot st)
+  unfolding then_ declared add_array note_array
+  scene_noted object init r seen st o slot scene no_ e at within =
+      let a = array_like o None None false in
+      let number = array_number (length st.arrays) in
+      let longer = length-append st.arrays (a ∷ []) in
+      let grown = initialised_grown number o.lengths init r (noted_in o slot st) in
+      let in_frame = array_there r st o slot init within in
+      scene_reached object r seen st (noted_in o slot st) scene no_ (within_grown (λ i. Unit {0}) (noted_in o slot st) (initialised g c number o.lengths init (noted_in o slot st)).state f grown within)
+      (record { variables = λ i x e. e; more = le_refl _; arrays = begins_more st.arrays (a ∷ []); more_arrays = omega (arith, longer); slots = λ i x p e1. slots_there st.slots slot.0 i (Some number) (p slot at) ∙ e1; more_slots = (let q = slots_length st.slots slot.0 (Some number) in omega (arith, q)); calls = le_refl _ })
+      (λ slot' e'.
+      let same : slot ≡ slot' = ap (slot_of_home slot) (same_Some (home.Local slot) (home.Local slot') (sym at ∙ e')) in (
+        subst (λ (z : Slot). slice_get (slice_set st.slots slot.0 (Some number)) z.0 ≡ Some (Some number)) same (slots_here st.slots slot.0 (Some number) (scene.slots object slot at)),
+        (let z : length st.arrays < length (st.arrays ++ a ∷ []) = omega (arith, longer) in z),
+        λ o1 e1. in_frame ∙ ap (λ (z : CoreObjectTree). Some (array_like z None None false)) (same_Some o o1 (sym e ∙ e1)),
+      ))
+
+  -- an element of an array that is there is written in both
+  relates_written : (r : Reach) (seen : ℕ → Option ArrayId) (st : State) (d : Spot) (a : ArrayId) (i : ℕ) (kd : CType) (y : ℤ) (s : Cells) (t : Store) → IsScene f c S Homes0 base r seen st → HomesIn here c Homes0 Lives0 seen d (home.Array a) → LivesIn here c Homes0 Lives0 r d → kind_at f.arrays a.0 ≡ kd
+      → I r seen s t → I r seen (ce.written d i (convert kd y) s) (with_element a.0 i (convert kd y) t)
+  relates_written r seen st d a i kd y s t scene stands lives type rel = (
+    shown_put f (HomesIn here c Homes0 Lives0 seen) (LivesIn here c Homes0 Lives0 r) kinds s t d a i (convert kd y) (apart_of f here c S Homes0 Lives0 kinds fresh_ base frame r seen st scene) stands lives rel.0,
+    typed_element f t a.0 i (convert kd y) rel.1 (subst (λ z. IsNumber z (convert kd y)) (sym type) (converted_number kd y)),
+  )
+
+  -- The elements from one on are written in their order.
+  filled_same : (d : Spot) (a : ArrayId) (kd : CType) (lengths : List ℕ) (r : Reach) (seen : ℕ → Option ArrayId) (items : List (Option CoreTree)) (element : ℕ) (st : State) → IsScene f c S Homes0 base r seen st → HomesIn here c Homes0 Lives0 seen d (home.Array a) → LivesIn here c Homes0 Lives0 r d
+      → kind_at f.arrays a.0 ≡ kd → lengths_in (slice_get f.arrays a.0) ≡ lengths → element + length items ≤ element_count lengths → element_count lengths ≤ 2 ^ 31 → ItemsSound S r items → IsWithin (filled g c a lengths element items st).state f
+      → (s : Cells) (t : Store) (n : ℕ) → n ≤ k → I r seen s t → Same false k (λ (u : Unit {0}) s1 w t1. (w ≡ on) × I r seen s1 t1) (ks.initialise cc d kd items element here s n) (run_of f (filled g c a lengths element items st).pieces t n)
+  unfolding then_ emit
+  filled_same d a kd lengths r seen [] element st scene stands lives type long le few sound within s t n le_n rel = goes_same k (λ (u : Unit {0}) s1 w t1. (w ≡ on) × I r seen s1 t1) tt s on t n le_n (refl, rel)
+  filled_same d a kd lengths r seen (None ∷ items) element st scene stands lives type long le few sound within s t n le_n rel =
+      let Q = λ (u : Unit {0}) (s1 : Cells) (w : Way) (t1 : Store). (w ≡ on) × I r seen s1 t1 in
+      let zero_ = tree.number 0 int_type in
+      let st1 = record st { made = st.made + 1 } in
+      let y = filled g c a lengths (element + 1) items st1 in
+      let zero_is = zero_converted kd in
+      let put_ = tree.put a (subscripts_at lengths element) zero_ c.body_at in
+      let goes_there : Goes f (put_ ∷ []) t (with_element a.0 element (pos 0) t) = λ m. goes_put f a kd lengths element zero_ (pos 0) c.body_at t type long (omega (arith, le)) few refl m ∙ ap (λ z. goes on (with_element a.0 element z t) m) zero_is in
+      let rel1 = subst (λ z. I r seen (ce.written d element z s) (with_element a.0 element z t)) zero_is (relates_written r seen st d a element kd (pos 0) s t scene stands lives type rel) in
+      goes_first f k Q (put_ ∷ []) y.pieces (ks.initialise cc d kd items (element + 1) here (ce.written d element (pos 0) s) n) t (with_element a.0 element (pos 0) t) n goes_there
+      (filled_same d a kd lengths r seen items (element + 1) st1 (scene_made (st.made + 1) r seen st scene) stands lives type long (omega (arith, le)) few sound.1 within (ce.written d element (pos 0) s) (with_element a.0 element (pos 0) t) n le_n rel1)
+  filled_same d a kd lengths r seen (Some v ∷ items) element st scene stands lives type long le few sound within s t n le_n rel =
+      let Q = λ (u : Unit {0}) (s1 : Cells) (w : Way) (t1 : Store). (w ≡ on) × I r seen s1 t1 in
+      let x = expression g c v st in
+      let st1 = record x.state { made = x.state.made + 1 } in
+      let y = filled g c a lengths (element + 1) items st1 in
+      let within1 = within_grown (λ i. Unit {0}) st1 y.state f (filled_grown a lengths (element + 1) items r st1) within in
+      let within_x : IsWithin x.state f = record { variables = within1.variables; arrays = within1.arrays } in
+      let scene_x = scene_later f here c S Homes0 Lives0 kinds fresh_ base frame r seen st x.state (expression_later unary_fits binary_fits f k here c S Homes0 Lives0 kinds fresh_ base frame cc g callees calls r seen st scene v) scene in
+      let put_ = tree.put a (subscripts_at lengths element) x.value c.body_at in
+      on_same f k (HasValue unary_fits binary_fits f k here c S Homes0 Lives0 kinds fresh_ base frame cc g callees calls true v x.value r seen) Q x.pieces ((put_ ∷ []) ++ y.pieces) (ce.expression cc true v here s n) (λ w1 s1 n1. ks.initialise cc d kd items (element + 1) here (ce.written d element (convert kd w1) s1) n1) t n
+      (evaluated unary_fits binary_fits f k here c S Homes0 Lives0 kinds fresh_ base frame cc g callees calls true v r seen st scene sound.0 within_x s t n le_n rel) (λ w1 s1 w t1 q. q.on_)
+      (λ w1 s1 w t1 n1 le1 q.
+      let t2 = with_element a.0 element (convert kd w1) t1 in
+      goes_first f k Q (put_ ∷ []) y.pieces (ks.initialise cc d kd items (element + 1) here (ce.written d element (convert kd w1) s1) n1) t1 t2 n1 (goes_put f a kd lengths element x.value w1 c.body_at t1 type long (omega (arith, le)) few (q.value tt).0)
+      (filled_same d a kd lengths r seen items (element + 1) st1 (scene_made (x.state.made + 1) r seen x.state scene_x) stands lives type long (omega (arith, le)) few sound.1 within (ce.written d element (convert kd w1) s1) t2 n1 le1
+      (relates_written r seen st d a element kd w1 s1 t1 scene stands lives type q.relates)))
 
   -- an array, which is made when its declaration is reached
-  array_at : (object : ℕ) (init : CoreInitTree) (r : Reach) (seen : ℕ → Option ArrayId) (st : State) (o : CoreObjectTree) (slot : Slot) → InitCovered init → InitSound S (reach object r) o init → IsScene f c S Homes0 base r seen st → S.params ≤ object → r.Lives object → (r.Ready object → ⊥)
+  array_at : (object : ℕ) (init : CoreInitTree) (r : Reach) (seen : ℕ → Option ArrayId) (st : State) (o : CoreObjectTree) (slot : Slot) → InitSound S (reach object r) o init → IsScene f c S Homes0 base r seen st → S.params ≤ object → r.Lives object → (r.Ready object → ⊥)
       → slice_get S.objects object ≡ Some o → IsArray o → slice_get c.homes object ≡ Some (home.Local slot) → IsWithin (declared_as g c (Some (home.Local slot)) (Some o) init st).state f
       → IsScene f c S Homes0 base (reach object r) (with_seen seen object (made_for (slice_get c.homes object) st)) (declared_as g c (Some (home.Local slot)) (Some o) init st).state
       × ((s : Cells) (t : Store) (n : ℕ) → n ≤ k → I r seen s t → Same false k (λ (u : Unit {0}) s1 w t1. (w ≡ on) × I (reach object r) (with_seen seen object (made_for (slice_get c.homes object) st)) s1 t1)
       (ks.declare cc (here.spots object) (ks.kind_in (slice_get here.objects object)) init here s n) (run_of f (declared_as g c (Some (home.Local slot)) (Some o) init st).pieces t n))
   unfolding then_ declared add_array note_array
-  array_at object core.unwritten r seen st o slot covered sound scene le lives no_ e is_array at within =
-      let a = array_like o None None false in
+  array_at object core.unwritten r seen st o slot sound scene le lives no_ e is_array at within =
       let seen1 = with_seen seen object (made_for (slice_get c.homes object) st) in
-      let number = array_number (length st.arrays) in
-      let longer = length-append st.arrays (a ∷ []) in
       let Q = λ (u : Unit {0}) (s1 : Cells) (w : Way) (t1 : Store). (w ≡ on) × I (reach object r) seen1 s1 t1 in
-      let in_frame : slice_get f.arrays (length st.arrays) ≡ Some a = within.arrays (length st.arrays) a (last_one st.arrays a) in (
-        scene_reached object r seen st (declared_as g c (Some (home.Local slot)) (Some o) core.unwritten st).state scene no_ within
-            (record { variables = λ i x e. e; more = le_refl _; arrays = begins_more st.arrays (a ∷ []); more_arrays = omega (arith, longer); slots = λ i x p e1. slots_there st.slots slot.0 i (Some number) (p slot at) ∙ e1; more_slots = (let q = slots_length st.slots slot.0 (Some number) in omega (arith, q)); calls = le_refl _ })
-            (λ slot' e'.
-            let same : slot ≡ slot' = ap (slot_of_home slot) (same_Some (home.Local slot) (home.Local slot') (sym at ∙ e')) in (
-              subst (λ (z : Slot). slice_get (slice_set st.slots slot.0 (Some number)) z.0 ≡ Some (Some number)) same (slots_here st.slots slot.0 (Some number) (scene.slots object slot at)),
-              (let z : length st.arrays < length (st.arrays ++ a ∷ []) = omega (arith, longer) in z),
-              λ o1 e1. in_frame ∙ ap (λ (z : CoreObjectTree). Some (array_like z None None false)) (same_Some o o1 (sym e ∙ e1)),
-            )),
+      let in_frame = array_there r st o slot core.unwritten within in (
+        scene_noted object core.unwritten r seen st o slot scene no_ e at within,
         λ s t n le_n rel.
             goes_same k Q tt (put s (here.spots object) (forgotten (s (here.spots object)))) on t n le_n
             (refl, relates_reached f here c S Homes0 Lives0 kinds fresh_ base frame object r seen st (put s (here.spots object) (forgotten (s (here.spots object)))) t scene le lives no_ o e (λ slot' e'. in_frame) (relates_forgotten object r seen s t le rel)),
       )
-  array_at object (core.single v) r seen st o slot covered sound scene le lives no_ e is_array at within = absurd (is_array sound.0)
-  array_at object (core.elements items) r seen st o slot covered sound scene le lives no_ e is_array at within = absurd covered
+  array_at object (core.single v) r seen st o slot sound scene le lives no_ e is_array at within = absurd (is_array sound.0)
+  array_at object (core.elements items) r seen st o slot sound scene le lives no_ e is_array at within =
+      let r1 = reach object r in
+      let seen1 = with_seen seen object (made_for (slice_get c.homes object) st) in
+      let number = array_number (length st.arrays) in
+      let d = here.spots object in
+      let there = frame.spots object le in
+      let Q = λ (u : Unit {0}) (s1 : Cells) (w : Way) (t1 : Store). (w ≡ on) × I r1 seen1 s1 t1 in
+      let in_frame = array_there r st o slot (core.elements items) within in
+      let st1 = noted_in o slot st in
+      let scene1 = scene_noted object (core.elements items) r seen st o slot scene no_ e at within in
+      let is_seen : seen1 object ≡ Some number = with_here seen object (made_for (slice_get c.homes object) st) ∙ ap (λ z. made_for z st) at in
+      let stands : HomesIn here c Homes0 Lives0 seen1 d (home.Array number) = inr (object, there, subst (λ z. OwnHome (seen1 object) z (home.Array number)) (sym at) (sym (ap (λ z. local_home z slot) is_seen))) in
+      let lives1 : LivesIn here c Homes0 Lives0 r1 d = inr (object, there, lives) in
+      let kind_ : ks.kind_in (slice_get here.objects object) ≡ o.kind = ap ks.kind_in (ap (λ os. slice_get os object) frame.objects ∙ e) in (
+        scene_grown f here c S Homes0 Lives0 kinds fresh_ base frame (λ i. Unit {0}) r1 seen1 st1 (filled g c number o.lengths 0 items st1).state (λ i slot1 a1 e1 z. tt) (filled_grown number o.lengths 0 items r st1) scene1,
+        λ s t n le_n rel.
+            subst (λ kd. Same false k Q (ks.initialise cc d kd items 0 here s n) (run_of f (filled g c number o.lengths 0 items st1).pieces t n)) (sym kind_)
+            (filled_same d number o.kind o.lengths r1 seen1 items 0 st1 scene1 stands lives1 (ap kind_in in_frame) (ap lengths_in in_frame) (let fit = sound.1 in omega (arith, fit)) sound.3 sound.2 within s t n le_n
+            (relates_reached f here c S Homes0 Lives0 kinds fresh_ base frame object r seen st s t scene le lives no_ o e (λ slot' e'. in_frame) rel)),
+      )
 
-  pub declare_same : (object : ℕ) (init : CoreInitTree) (r : Reach) (seen : ℕ → Option ArrayId) (Own : ℕ → Type 0) (labels breaks continues : Bool) (st : State) → InitCovered init → StmtSound S r Own labels breaks continues (core.declare object init) → IsScene f c S Homes0 base r seen st
+  pub declare_same : (object : ℕ) (init : CoreInitTree) (r : Reach) (seen : ℕ → Option ArrayId) (Own : ℕ → Type 0) (labels breaks continues : Bool) (st : State) → StmtSound S r Own labels breaks continues (core.declare object init) → IsScene f c S Homes0 base r seen st
       → IsWithin (declare g c object init st).state f → IsDeclared object init r seen st
-  declare_same object init r seen Own labels breaks continues st covered sound scene within =
+  declare_same object init r seen Own labels breaks continues st sound scene within =
       let o = sound.4.0 in
       let e = sound.4.1 in
       let object_ : slice_get c.objects object ≡ Some o = ap (λ os. slice_get os object) frame.call_objects ∙ e in
@@ -302,11 +416,21 @@ module _ (unary_fits : UnaryFits) (binary_fits : BinaryFits) (f : Frame) (k : �
       × ((s : Cells) (t : Store) (n : ℕ) → n ≤ k → I r seen s t → Same false k (λ (u : Unit {0}) s1 w t1. (w ≡ on) × I (reach object r) (with_seen seen object (made_for (slice_get c.homes object) st)) s1 t1)
       (ks.declare cc (here.spots object) (ks.kind_in (slice_get here.objects object)) init here s n) (run_of f (declared_as g c at ob init st).pieces t n)) in
       let whole : Goal (slice_get c.homes object) (slice_get c.objects object) = elim (frame.own object o e) [
-        | inl p ↦ subst (λ z. Goal z (slice_get c.objects object)) (sym p.2) (λ within1. scalar_at object init r seen st o p.1 covered sound.4.2 scene sound.1 sound.2 sound.3 e p.0 p.2 p.3 within1)
+        | inl p ↦ subst (λ z. Goal z (slice_get c.objects object)) (sym p.2) (λ within1. scalar_at object init r seen st o p.1 sound.4.2 scene sound.1 sound.2 sound.3 e p.0 p.2 p.3 within1)
         | inr p ↦ elim p [
           | inl q ↦ absurd (let lt = q.1 in let ge = sound.1 in omega (arith, lt, ge))
-          | inr q ↦ subst (λ z. Goal (slice_get c.homes object) z) (sym object_) (subst (λ z. Goal z (Some o)) (sym q.3) (λ within1. array_at object init r seen st o q.2 covered sound.4.2 scene sound.1 sound.2 sound.3 e q.0 q.3 within1))
+          | inr q ↦ subst (λ z. Goal (slice_get c.homes object) z) (sym object_) (subst (λ z. Goal z (Some o)) (sym q.3) (λ within1. array_at object init r seen st o q.2 sound.4.2 scene sound.1 sound.2 sound.3 e q.0 q.3 within1))
         ]
       ] in
       let w = whole within in
       record { scene = w.0; same = w.1 }
+
+  -- A declaration that is skipped by a jump is reached as if it had no initialiser, since nothing is written of its object.
+  pub skip_declared : (object : ℕ) (init : CoreInitTree) (r : Reach) (seen : ℕ → Option ArrayId) (Own : ℕ → Type 0) (labels breaks continues : Bool) (st : State) → StmtSound S r Own labels breaks continues (core.declare object init) → IsScene f c S Homes0 base r seen st
+      → IsWithin (declare g c object init st).state f → (s : Cells) (t : Store) → I r seen s t → I (reach object r) (with_seen seen object (made_for (slice_get c.homes object) st)) s t
+  skip_declared object init r seen Own labels breaks continues st sound scene within s t rel =
+      let o = sound.4.0 in
+      let e = sound.4.1 in
+      let object_ : slice_get c.objects object ≡ Some o = ap (λ os. slice_get os object) frame.call_objects ∙ e in
+      relates_reached f here c S Homes0 Lives0 kinds fresh_ base frame object r seen st s t scene sound.1 sound.2 sound.3 o e
+      (λ slot at. array_there r st o slot init (subst (λ z. IsWithin (declared_as g c z (Some o) init st).state f) at (subst (λ z. IsWithin (declared_as g c (slice_get c.homes object) z init st).state f) object_ within))) rel

@@ -28,7 +28,7 @@ use Rattle.c_expand.specs.Statements.{marked, valued, changed, action, actions, 
 use Rattle.expand_runs.specs.Growing.{Begins, IsLater, IsGrown, LandFrom, LandsFrom}
 use Rattle.expand_runs.specs.Sound.{Changes, AnyChanges}
 use Rattle.expand_runs.specs.Fitting.{CallsFit, AllFit}
-use Rattle.expand_statements.specs.Each.{IfThere, EachItem, InInit, EachAction, InStmt, InElse, InStmts}
+use Rattle.expand_statements.specs.Each.{IfThere, EachItem, InInit, EachAction, InStmt, InElse, InStmts, IfReturned, ReturnsIn, ElseReturnsIn, AllReturnIn}
 use Rattle.expand_runs.proofs.Growing.{later_same, later_emit, begins_more, grown_later, grown_both, slots_there, slots_length}
 use Rattle.expand_runs.proofs.Fine.{Sets, Puts, AreAllowed, allowed_behind, lands_behind, lands_less, IsFine, fine_gives, fine_then, fine_emit, fine_set, fine_put}
 use Rattle.expand_runs.proofs.FineExpressions.{Permits, CalleesFine, expression_fine, operands_fine, target_fine, discarded_fine, store_fine, some_given}
@@ -218,7 +218,7 @@ module _ (f : Frame) (I : Store → Type 0) (P : ℕ → Type 0) where
     item_keeps None s le h = keeps_gives _ s
     item_keeps (Some e) s le h = keeps_expression e s le h
 
-    filled_keeps : (array : ArrayId) (lengths : List ℕ) (n : ℕ) (items : List (Option CoreTree)) (s : State) → low ≤ length s.variables → EachItem May MayDeclare items → Keeps s (filled g c array lengths n items s)
+    pub filled_keeps : (array : ArrayId) (lengths : List ℕ) (n : ℕ) (items : List (Option CoreTree)) (s : State) → low ≤ length s.variables → EachItem May MayDeclare items → Keeps s (filled g c array lengths n items s)
     filled_keeps array lengths n [] s le h = keeps_gives tt s
     filled_keeps array lengths n (item ∷ items) s le h =
         let x = item_value g c item s in
@@ -228,7 +228,7 @@ module _ (f : Frame) (I : Store → Type 0) (P : ℕ → Type 0) where
         keeps_then s x (λ x1 s1. then_ (emit (tree.put array (subscripts_at lengths n) x1 c.body_at) s1) (λ u s2. filled g c array lengths (n + 1) items s2)) q
         (keeps_then x.state e (λ u s2. filled g c array lengths (n + 1) items s2) r (filled_keeps array lengths (n + 1) items e.state (further x.state e r (further s x q le)) h.1))
 
-    initialised_keeps : (array : ArrayId) (lengths : List ℕ) (init : CoreInitTree) (s : State) → low ≤ length s.variables → InInit May MayDeclare init → Keeps s (initialised g c array lengths init s)
+    pub initialised_keeps : (array : ArrayId) (lengths : List ℕ) (init : CoreInitTree) (s : State) → low ≤ length s.variables → InInit May MayDeclare init → Keeps s (initialised g c array lengths init s)
     initialised_keeps array lengths core.unwritten s le h = keeps_gives tt s
     initialised_keeps array lengths (core.single v) s le h = keeps_gives tt s
     initialised_keeps array lengths (core.elements items) s le h = filled_keeps array lengths 0 items s le h
@@ -304,14 +304,14 @@ module _ (f : Frame) (I : Store → Type 0) (P : ℕ → Type 0) where
 
     -- ---- statements
 
-    returned_keeps : (value : Option CoreTree) (tail : Bool) (s : State) → low ≤ length s.variables → Sets f I (result_variable c.result).0 → IfThere May MayDeclare value → Keeps s (returned g c value tail s)
+    returned_keeps : (value : Option CoreTree) (tail : Bool) (s : State) → low ≤ length s.variables → IfReturned (Sets f I (result_variable c.result).0) value → IfThere May MayDeclare value → Keeps s (returned g c value tail s)
     returned_keeps value tail s le set_ h =
         let r = result_set g c value s in
-        keeps_then s r (λ u s1. if tail then gives tt s1 else emit (tree.leave c.call) s1) (result_keeps value h) (left_keeps tail r.state)
+        keeps_then s r (λ u s1. if tail then gives tt s1 else emit (tree.leave c.call) s1) (result_keeps value set_ h) (left_keeps tail r.state)
       where
-        result_keeps : (value : Option CoreTree) → IfThere May MayDeclare value → Keeps s (result_set g c value s)
-        result_keeps None h = keeps_gives tt s
-        result_keeps (Some e) h =
+        result_keeps : (value : Option CoreTree) → IfReturned (Sets f I (result_variable c.result).0) value → IfThere May MayDeclare value → Keeps s (result_set g c value s)
+        result_keeps None set_ h = keeps_gives tt s
+        result_keeps (Some e) set_ h =
             let x = expression g c e s in
             keeps_then s x (λ y s1. emit (tree.set (result_variable c.result) y) s1) (keeps_expression e s le h) (keeps_set (result_variable c.result) x.value x.state set_)
 
@@ -319,57 +319,60 @@ module _ (f : Frame) (I : Store → Type 0) (P : ℕ → Type 0) where
         left_keeps true s1 = keeps_gives tt s1
         left_keeps false s1 = keeps_fine s1 (emit (tree.leave c.call) s1) (fine_emit f I (tree.leave c.call) s1 tt tt)
 
-    module _ (set_result : Sets f I (result_variable c.result).0) where
-      mutual
-        pub statement_keeps : (b : CoreStmtTree) (tail : Bool) (s : State) → low ≤ length s.variables → InStmt May MayDeclare b → Keeps s (statement g c b tail s)
-        statement_keeps (core.block objects body) tail s le h = statements_keep body tail s le h
-        statement_keeps (core.declare object init) tail s le h = declared_keeps (slice_get c.homes object) (slice_get c.objects object) init s le h.0.0 h.0.1 h.1
-        statement_keeps (core.act list) tail s le h = actions_keep list s le h
-        statement_keeps (core.if_ test body other at) tail s le h =
-            let x = expression g c test s in
-            let q1 = keeps_expression test s le h.0 in
-            let le1 = further s x q1 le in
-            let first = branch c at (statement g c body tail) x.state in
-            let q2 = behind_mark point.Arm at (statement g c body tail) x.state le1 (λ s1 le1. statement_keeps body tail s1 le1 h.1) in
-            let le2 = further x.state first q2.outside le1 in
-            let second = other_branch g c other tail first.state in
-            let q3 = other_keeps other tail first.state le2 h.2 in
-            keeps_then s x _ q1
-            (keeps_then x.state first _ q2.outside
-            (keeps_then first.state second _ q3.outside
-            (keeps_fine second.state _ (fine_emit f I (tree.fork x.value (piece_row first.value.pieces) (piece_row second.value.pieces) (point_in c point.End at)) second.state (q2.inner, q3.inner) tt))))
-        statement_keeps (core.switch_ test objects body at) tail s le h =
-            let x = expression g c test s in
-            let q1 = keeps_expression test s le h.0 in
-            let le1 = further s x q1 le in
-            let main = inside_switch (statements g c body false) x.state in
-            let q2 = keeps_switch (statements g c body false) x.state (λ s0 e. statements_keep body false s0 (low_inside x.state s0 e le1) h.1) in
-            keeps_then s x _ q1
-            (keeps_then x.state main _ q2.0
-            (keeps_fine main.state _ (fine_emit f I (tree.pick x.value main.value.1 (piece_row main.value.0) (point_in c point.End at)) main.state q2.1 tt)))
-        statement_keeps (core.case_ value body at) tail s le h =
-            let l = labelled c value at s in
-            let m = label value s in
-            let q = keeps_then s m (λ u s1. marked c point.Arm at s1) (keeps_label value s) (keeps_mark point.Arm at m.state) in
-            keeps_then s l (λ u s1. statement g c body false s1) q (statement_keeps body false l.state (further s l q le) h)
-        statement_keeps (core.while_ test body at) tail s le h = repeat_keeps false (Some test) (statement g c body false) [] at s le h.0 tt (λ s1 le1. statement_keeps body false s1 le1 h.1)
-        statement_keeps (core.do_ body test at) tail s le h = repeat_keeps true (Some test) (statement g c body false) [] at s le h.0 tt (λ s1 le1. statement_keeps body false s1 le1 h.1)
-        statement_keeps (core.for_ objects init test steps body at) tail s le h =
-            let i = statements g c init false s in
-            let q = statements_keep init false s le h.0 in
-            keeps_then s i (λ u s1. repeat g c false test (statement g c body false) steps at s1) q
-            (repeat_keeps false test (statement g c body false) steps at i.state (further s i q le) h.1 h.2 (λ s1 le1. statement_keeps body false s1 le1 h.3))
-        statement_keeps core.break_ tail s le h = keeps_fine s (emit tree.break_ s) (fine_emit f I tree.break_ s tt tt)
-        statement_keeps core.continue_ tail s le h = keeps_fine s (emit tree.next_ s) (fine_emit f I tree.next_ s tt tt)
-        statement_keeps (core.return_ value) tail s le h = returned_keeps value tail s le set_result h
+    -- Where a value is returned, the variable of the result may be set.
+    abbrev pub SetsResult : Type 0
+    SetsResult = Sets f I (result_variable c.result).0
 
-        other_keeps : (other : CoreElseTree) (tail : Bool) (s : State) → low ≤ length s.variables → InElse May MayDeclare other → KeepsWithin s (other_branch g c other tail s)
-        other_keeps core.no_else tail s le h = keeps_inside (λ s0. gives tt s0) s (λ s0 e. keeps_gives tt s0)
-        other_keeps (core.else_ at body) tail s le h = behind_mark point.Arm at (statement g c body tail) s le (λ s1 le1. statement_keeps body tail s1 le1 h)
+    mutual
+      pub statement_keeps : (b : CoreStmtTree) (tail : Bool) (s : State) → low ≤ length s.variables → ReturnsIn SetsResult b → InStmt May MayDeclare b → Keeps s (statement g c b tail s)
+      statement_keeps (core.block objects body) tail s le v h = statements_keep body tail s le v h
+      statement_keeps (core.declare object init) tail s le v h = declared_keeps (slice_get c.homes object) (slice_get c.objects object) init s le h.0.0 h.0.1 h.1
+      statement_keeps (core.act list) tail s le v h = actions_keep list s le h
+      statement_keeps (core.if_ test body other at) tail s le v h =
+          let x = expression g c test s in
+          let q1 = keeps_expression test s le h.0 in
+          let le1 = further s x q1 le in
+          let first = branch c at (statement g c body tail) x.state in
+          let q2 = behind_mark point.Arm at (statement g c body tail) x.state le1 (λ s1 le1. statement_keeps body tail s1 le1 v.0 h.1) in
+          let le2 = further x.state first q2.outside le1 in
+          let second = other_branch g c other tail first.state in
+          let q3 = other_keeps other tail first.state le2 v.1 h.2 in
+          keeps_then s x _ q1
+          (keeps_then x.state first _ q2.outside
+          (keeps_then first.state second _ q3.outside
+          (keeps_fine second.state _ (fine_emit f I (tree.fork x.value (piece_row first.value.pieces) (piece_row second.value.pieces) (point_in c point.End at)) second.state (q2.inner, q3.inner) tt))))
+      statement_keeps (core.switch_ test objects body at) tail s le v h =
+          let x = expression g c test s in
+          let q1 = keeps_expression test s le h.0 in
+          let le1 = further s x q1 le in
+          let main = inside_switch (statements g c body false) x.state in
+          let q2 = keeps_switch (statements g c body false) x.state (λ s0 e. statements_keep body false s0 (low_inside x.state s0 e le1) v h.1) in
+          keeps_then s x _ q1
+          (keeps_then x.state main _ q2.0
+          (keeps_fine main.state _ (fine_emit f I (tree.pick x.value main.value.1 (piece_row main.value.0) (point_in c point.End at)) main.state q2.1 tt)))
+      statement_keeps (core.case_ value body at) tail s le v h =
+          let l = labelled c value at s in
+          let m = label value s in
+          let q = keeps_then s m (λ u s1. marked c point.Arm at s1) (keeps_label value s) (keeps_mark point.Arm at m.state) in
+          keeps_then s l (λ u s1. statement g c body false s1) q (statement_keeps body false l.state (further s l q le) v h)
+      statement_keeps (core.while_ test body at) tail s le v h = repeat_keeps false (Some test) (statement g c body false) [] at s le h.0 tt (λ s1 le1. statement_keeps body false s1 le1 v h.1)
+      statement_keeps (core.do_ body test at) tail s le v h = repeat_keeps true (Some test) (statement g c body false) [] at s le h.0 tt (λ s1 le1. statement_keeps body false s1 le1 v h.1)
+      statement_keeps (core.for_ objects init test steps body at) tail s le v h =
+          let i = statements g c init false s in
+          let q = statements_keep init false s le v.0 h.0 in
+          keeps_then s i (λ u s1. repeat g c false test (statement g c body false) steps at s1) q
+          (repeat_keeps false test (statement g c body false) steps at i.state (further s i q le) h.1 h.2 (λ s1 le1. statement_keeps body false s1 le1 v.1 h.3))
+      statement_keeps core.break_ tail s le v h = keeps_fine s (emit tree.break_ s) (fine_emit f I tree.break_ s tt tt)
+      statement_keeps core.continue_ tail s le v h = keeps_fine s (emit tree.next_ s) (fine_emit f I tree.next_ s tt tt)
+      statement_keeps (core.return_ value) tail s le v h = returned_keeps value tail s le v h
 
-        pub statements_keep : (body : CoreStmtTrees) (tail : Bool) (s : State) → low ≤ length s.variables → InStmts May MayDeclare body → Keeps s (statements g c body tail s)
-        statements_keep core.no_stmt tail s le h = keeps_gives tt s
-        statements_keep (core.more_stmts first rest) tail s le h =
-            let x = statement g c first (tail && is_empty rest) s in
-            let q = statement_keeps first (tail && is_empty rest) s le h.0 in
-            keeps_then s x (λ u s1. statements g c rest tail s1) q (statements_keep rest tail x.state (further s x q le) h.1)
+      other_keeps : (other : CoreElseTree) (tail : Bool) (s : State) → low ≤ length s.variables → ElseReturnsIn SetsResult other → InElse May MayDeclare other → KeepsWithin s (other_branch g c other tail s)
+      other_keeps core.no_else tail s le v h = keeps_inside (λ s0. gives tt s0) s (λ s0 e. keeps_gives tt s0)
+      other_keeps (core.else_ at body) tail s le v h = behind_mark point.Arm at (statement g c body tail) s le (λ s1 le1. statement_keeps body tail s1 le1 v h)
+
+      pub statements_keep : (body : CoreStmtTrees) (tail : Bool) (s : State) → low ≤ length s.variables → AllReturnIn SetsResult body → InStmts May MayDeclare body → Keeps s (statements g c body tail s)
+      statements_keep core.no_stmt tail s le v h = keeps_gives tt s
+      statements_keep (core.more_stmts first rest) tail s le v h =
+          let x = statement g c first (tail && is_empty rest) s in
+          let q = statement_keeps first (tail && is_empty rest) s le v.0 h.0 in
+          keeps_then s x (λ u s1. statements g c rest tail s1) q (statements_keep rest tail x.state (further s x q le) v.1 h.1)

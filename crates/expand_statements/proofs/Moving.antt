@@ -19,7 +19,7 @@ use Rattle.expand_runs.specs.Showing.{Known, IsShown, Stands, IsWhole}
 use Rattle.expand_statements.specs.Scopes.{Setting, Reach, AreNew, enter, reach}
 use Rattle.expand_statements.specs.Frames.{local_home, OwnHome, HomesIn, LivesIn, OwnStands, IsFrame, IsScene, Relates, IsInner, with_seen, made_for}
 use Rattle.expand_runs.proofs.Showing.{put_here, put_other, spot_tells}
-use Rattle.expand_statements.proofs.Scenes.{IsVariableHome, own_variable, own_array, own_constant, apart_frames, apart_lives}
+use Rattle.expand_statements.proofs.Scenes.{IsVariableHome, own_variable, own_array, own_constant, apart_declared, apart_lives}
 use Rattle.hls_base.specs.ArrayAddress.{element_count}
 use Rattle.hls_base.specs.declared.number.VarId.{VarId}
 use Rattle.piece_making.specs.Objects.{array_like}
@@ -77,7 +77,7 @@ module _ (f : Frame) (here : Here) (c : Call) (S : Setting) (Homes0 : Spot → H
             p.0,
             p.1,
             subst (λ z. OwnHome z (slice_get c.homes p.0) g) (sym (inner.same p.0 (elim l [
-              | inl b ↦ absurd (apart_lives f here c S Homes0 Lives0 kinds fresh_ base frame x p.0 b p.1)
+              | inl b ↦ absurd (apart_lives f here c S Homes0 Lives0 kinds fresh_ base frame x p.0 (seen0 p.0) g b p.1 p.2)
               | inr b ↦ subst r0.Lives (ap (λ (z : Spot). z.number) (sym b.1 ∙ p.1)) b.2
             ]))) p.2,
           )
@@ -132,14 +132,14 @@ module _ (f : Frame) (here : Here) (c : Call) (S : Setting) (Homes0 : Spot → H
             | inl same ↦
                 let here_x : put s d u x ≡ unwritten (Some o) = ap (put s d u) (sym same) ∙ put_here s d u ∙ new in
                 subst (λ z. Stands f g z t) (sym here_x) (elim a [
-                  | inl p ↦ absurd (apart_frames f here c S Homes0 Lives0 kinds fresh_ base frame x g i p (sym same ∙ there))
+                  | inl p ↦ absurd (apart_declared f here c S Homes0 Lives0 kinds fresh_ base frame x g i o p (sym same ∙ there) le e)
                   | inr p ↦ stands_new r seen st t scene i le fresh_i o e g (subst (λ j. OwnHome (seen j) (slice_get c.homes j) g) (number_of_spot x p.0 i p.1 (sym same ∙ there)) p.2)
                 ])
             | inr ne ↦ subst (λ z. Stands f g z t) (sym (put_other s d x u ne)) (h.0.objects x g a (lives_before x ne l))
           ];
           kinds = λ x word a l. elim a [
             | inl p ↦
-                let ne : d ≢ x = λ same. apart_frames f here c S Homes0 Lives0 kinds fresh_ base frame x (home.Constant word) i p (sym same ∙ there) in
+                let ne : d ≢ x = λ same. apart_declared f here c S Homes0 Lives0 kinds fresh_ base frame x (home.Constant word) i o p (sym same ∙ there) le e in
                 ap (λ (z : Object). z.kind) (put_other s d x u ne) ∙ h.0.kinds x word (inl p) (lives_before x ne l)
             | inr p ↦ absurd (own_constant (seen p.0) (slice_get c.homes p.0) word p.2)
           ];

@@ -45,6 +45,12 @@ IsConstantHome (home.Array a) = ⊥
 IsConstantHome (home.Constant word) = Unit {0}
 IsConstantHome (home.Local slot) = ⊥
 
+abbrev IsLocalHome : Home → Type 0
+IsLocalHome (home.Variable own) = ⊥
+IsLocalHome (home.Array a) = ⊥
+IsLocalHome (home.Constant word) = ⊥
+IsLocalHome (home.Local slot) = Unit {0}
+
 abbrev array_of_home : ArrayId → Home → ArrayId
 array_of_home d (home.Array a) = a
 array_of_home d (home.Variable own) = d
@@ -74,6 +80,10 @@ own_constant (Some b) (Some (home.Local slot)) word e = absurd (subst IsConstant
 own_constant seen (Some (home.Array b)) word e = absurd e
 own_constant seen (Some (home.Constant w)) word e = absurd e
 own_constant seen None word e = absurd e
+
+-- an array that is given is no object of the call
+pub own_given : (seen : Option ArrayId) (at : Option Home) (h : Home) → (a : ArrayId) × (at ≡ Some (home.Array a)) → OwnHome seen at h → ⊥
+own_given seen at h given own = subst (λ z. OwnHome seen z h) given.1 own
 
 own_one : (seen : Option ArrayId) (at : Option Home) (h g : Home) → OwnHome seen at h → OwnHome seen at g → h ≡ g
 own_one seen (Some (home.Variable own)) h g e e' = e ∙ sym e'
@@ -118,19 +128,31 @@ module _ (f : Frame) (here : Here) (c : Call) (S : Setting) (Homes0 : Spot → H
   Lives r = LivesIn here c Homes0 Lives0 r
 
   -- spots of earlier calls are none of this one
-  pub apart_frames : (x : Spot) (h : Home) (i : ℕ) → Homes0 x h → x ≡ spot here.frame i → ⊥
-  apart_frames x h i a e = (let lt = frame.frames x h a in let q = ap (λ (z : Spot). z.frame) e in omega (arith, lt, q))
+  pub apart_frames : (x : Spot) (h : Home) (i : ℕ) (seen : Option ArrayId) (g : Home) → Homes0 x h → x ≡ spot here.frame i → OwnHome seen (slice_get c.homes i) g → ⊥
+  apart_frames x h i seen g a e own = own_given seen (slice_get c.homes i) g (frame.frames x h i a e) own
 
-  pub apart_lives : (x : Spot) (i : ℕ) → Lives0 x → x ≡ spot here.frame i → ⊥
-  apart_lives x i a e = (let lt = frame.lives x a in let q = ap (λ (z : Spot). z.frame) e in omega (arith, lt, q))
+  pub apart_lives : (x : Spot) (i : ℕ) (seen : Option ArrayId) (g : Home) → Lives0 x → x ≡ spot here.frame i → OwnHome seen (slice_get c.homes i) g → ⊥
+  apart_lives x i seen g a e own = own_given seen (slice_get c.homes i) g (frame.lives x i a e) own
+
+  -- nor is it an object that is no parameter
+  pub apart_declared : (x : Spot) (h : Home) (i : ℕ) (o : CoreObjectTree) → Homes0 x h → x ≡ spot here.frame i → S.params ≤ i → slice_get S.objects i ≡ Some o → ⊥
+  apart_declared x h i o a e le there =
+      let q = frame.frames x h i a e in
+      elim (frame.own i o there) [
+        | inl p ↦ subst IsVariableHome (same_Some (home.Variable p.1) (home.Array q.0) (sym p.2 ∙ q.1)) tt
+        | inr p ↦ elim p [
+          | inl p ↦ (let lt = p.1 in omega (arith, lt, le))
+          | inr p ↦ subst IsLocalHome (same_Some (home.Local p.2) (home.Array q.0) (sym p.3 ∙ q.1)) tt
+        ]
+      ]
 
   module _ (r : Reach) (seen : ℕ → Option ArrayId) (st : State) (scene : IsScene f c S Homes0 base r seen st) where
     pub apart_of : IsApart (Homes seen)
     apart_of = record {
       one = λ x h g p q. elim p [
-        | inl a ↦ elim q [ inl b ↦ frame.apart.one x h g a b | inr b ↦ absurd (apart_frames x h b.0 a b.1) ]
+        | inl a ↦ elim q [ inl b ↦ frame.apart.one x h g a b | inr b ↦ absurd (apart_frames x h b.0 (seen b.0) g a b.1 b.2) ]
         | inr a ↦ elim q [
-          | inl b ↦ absurd (apart_frames x g a.0 b a.1)
+          | inl b ↦ absurd (apart_frames x g a.0 (seen a.0) h b a.1 a.2)
           | inr b ↦ own_one (seen a.0) (slice_get c.homes a.0) h g a.2 (subst (λ i. OwnHome (seen i) (slice_get c.homes i) g) (number_same here.frame b.0 a.0 x b.1 a.1) b.2)
         ]
       ];

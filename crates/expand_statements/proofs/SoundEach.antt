@@ -1,8 +1,9 @@
 -- What holds of each sound expression holds of each expression of a sound statement.
 use Rattle.std.proofs.Common.{◌≡◌, ℕ, ◌≤◌, inr, Bool, List, [], ◌∷◌, Option, Some, None, false, true}
+use Rattle.c_token.specs.declared.ctype.CType.{CType}
 use Rattle.core_program.specs.Core as core
 use Rattle.core_program.specs.Core.{CoreTree, CoreObjectTree, CoreInitTree, CoreActionTree, CoreStmtTree, CoreStmtTrees, CoreElseTree}
-use Rattle.expand_statements.specs.Each.{IfThere, EachItem, InInit, EachAction, InStmt, InElse, InStmts}
+use Rattle.expand_statements.specs.Each.{IfThere, EachItem, InInit, EachAction, InStmt, InElse, InStmts, IfReturned, ReturnsIn, ElseReturnsIn, AllReturnIn}
 use Rattle.expand_statements.specs.Scopes.{Setting, Reach, enter, reach, behind, behind_all, IsSoundIn, TestSound, ReturnSound, ActionsSound, ItemsSound, InitSound, StmtSound, ElseSound, StmtsSound}
 
 module _ (S : Setting) (P : CoreTree → Type 0) (D : ℕ → Type 0) (r0 : Reach) (expressions : (r : Reach) (e : CoreTree) → IsSoundIn S r e → P e)
@@ -74,3 +75,33 @@ module _ (S : Setting) (P : CoreTree → Type 0) (D : ℕ → Type 0) (r0 : Reac
     sounds_each core.no_stmt r Own labels breaks continues over h = tt
     sounds_each (core.more_stmts first rest) r Own labels breaks continues over h =
         (sound_each first r Own labels breaks continues over h.0, sounds_each rest (behind first r) Own labels breaks continues (over_behind first r over) h.1)
+
+-- A value is returned only where the function has a result.
+module _ (S : Setting) (V : Type 0) (values : (k : CType) → S.result ≡ Some k → V) where
+  value_returned : (r : Reach) (value : Option CoreTree) → ReturnSound S r value → IfReturned V value
+  value_returned r None h = tt
+  value_returned r (Some e) h = values h.0.0 h.0.1
+
+  mutual
+    pub sound_returns : (b : CoreStmtTree) (r : Reach) (Own : ℕ → Type 0) (labels breaks continues : Bool) → StmtSound S r Own labels breaks continues b → ReturnsIn V b
+    sound_returns (core.block objects body) r Own labels breaks continues h = sounds_return body (enter objects r) _ false breaks continues h.1
+    sound_returns (core.declare object init) r Own labels breaks continues h = tt
+    sound_returns (core.act actions) r Own labels breaks continues h = tt
+    sound_returns (core.if_ test body other at) r Own labels breaks continues h = (sound_returns body r _ false breaks continues h.1, else_returns other r breaks continues h.2)
+    sound_returns (core.switch_ test objects body at) r Own labels breaks continues h = sounds_return body (enter objects r) _ true true continues h.2
+    sound_returns (core.case_ value body at) r Own labels breaks continues h = sound_returns body r _ labels breaks continues h.1
+    sound_returns (core.while_ test body at) r Own labels breaks continues h = sound_returns body r _ false true true h.1
+    sound_returns (core.do_ body test at) r Own labels breaks continues h = sound_returns body r _ false true true h.1
+    sound_returns (core.for_ objects init test step body at) r Own labels breaks continues h =
+        (sounds_return init (enter objects r) _ false false false h.1.1, sound_returns body (behind_all init (enter objects r)) _ false true true h.4)
+    sound_returns core.break_ r Own labels breaks continues h = tt
+    sound_returns core.continue_ r Own labels breaks continues h = tt
+    sound_returns (core.return_ value) r Own labels breaks continues h = value_returned r value h
+
+    else_returns : (other : CoreElseTree) (r : Reach) (breaks continues : Bool) → ElseSound S r breaks continues other → ElseReturnsIn V other
+    else_returns core.no_else r breaks continues h = tt
+    else_returns (core.else_ at body) r breaks continues h = sound_returns body r _ false breaks continues h
+
+    pub sounds_return : (body : CoreStmtTrees) (r : Reach) (Own : ℕ → Type 0) (labels breaks continues : Bool) → StmtsSound S r Own labels breaks continues body → AllReturnIn V body
+    sounds_return core.no_stmt r Own labels breaks continues h = tt
+    sounds_return (core.more_stmts first rest) r Own labels breaks continues h = (sound_returns first r Own labels breaks continues h.0, sounds_return rest (behind first r) Own labels breaks continues h.1)

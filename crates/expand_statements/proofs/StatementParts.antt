@@ -30,7 +30,7 @@ use Rattle.piece_meaning.specs.Values.{Store, value}
 use Rattle.piece_meaning.specs.Pieces.{Frame, Way, on, behind_fork, behind_loop, left}
 use Rattle.piece_meaning.specs.Pieces as pm
 use Rattle.c_expand.specs.Expressions.{Callee, expression}
-use Rattle.c_expand.specs.Statements.{tested, stepped, actions, repeat, branch, other_branch, statement, statements}
+use Rattle.c_expand.specs.Statements.{tested, stepped, actions, repeat, branch, other_branch, statement, statements, result_variable}
 use Rattle.expand_statements.specs.Ending.{Ends, Turns}
 use Rattle.expand_statements.specs.Results.{HasResult}
 use Rattle.expand_statements.specs.Scopes.{Setting, Reach, Among, enter, behind, behind_all, objects_in, IsSoundIn, TestSound, ActionsSound, StmtSound, ElseSound, StmtsSound, AreNew}
@@ -50,7 +50,7 @@ use Rattle.expand_runs.specs.Growing.{LandsFrom}
 use Rattle.expand_runs.specs.Showing.{Known}
 use Rattle.expand_runs.proofs.Fine.{Sets}
 use Rattle.expand_runs.specs.Calling.{CallsSame}
-use Rattle.expand_statements.proofs.SoundEach.{sound_each, sounds_each}
+use Rattle.expand_statements.proofs.SoundEach.{sound_each, sounds_each, sound_returns, sounds_return}
 use Rattle.hls_base.specs.declared.number.VarId.{VarId}
 use Rattle.expand_runs.specs.Sound.{Changes}
 use Rattle.expand_runs.specs.Fitting.{Anything, CallsFit}
@@ -198,14 +198,14 @@ module _ (unary_fits : UnaryFits) (binary_fits : BinaryFits) (f : Frame) (k : �
 
   pub keeps_stmt : (b : CoreStmtTree) (r : Reach) (Own : ℕ → Type 0) (labels breaks continues tail : Bool) (st : State) → StmtSound S r Own labels breaks continues b → Keeps f (λ t. Unit {0}) (Kept r) st (statement g c b tail st)
   keeps_stmt b r Own labels breaks continues tail st sound =
-      statement_keeps f (λ t. Unit {0}) (Kept r) 0 (λ i le t x u. tt) g c Anything (callees r).any (λ i lt t x u. tt) (λ t a i x u. tt) (λ t x u. tt) b tail st (omega arith)
+      statement_keeps f (λ t. Unit {0}) (Kept r) 0 (λ i le t x u. tt) g c Anything (callees r).any (λ i lt t x u. tt) (λ t a i x u. tt) b tail st (omega arith) (sound_returns S (Sets f (λ t. Unit {0}) (result_variable c.result).0) (λ kd e t x u. tt) b r Own labels breaks continues sound)
       (sound_each S (λ e. CallsFit Anything e × ((x : Cell) → Changes x e → Sets f (λ t. Unit {0}) (variable c x).0))
       (λ i. ((slot : Slot) → slice_get c.homes i ≡ Some (home.Local slot) → Kept r slot.0 → ⊥) × ((name : VarId) → slice_get c.homes i ≡ Some (home.Variable name) → Sets f (λ t. Unit {0}) name.0)) r (may_any r) (λ r1 i up le no_. may_declare r r1 i up le no_)
       b r Own labels breaks continues (λ j a. a) sound)
 
   pub keeps_stmts : (body : CoreStmtTrees) (r : Reach) (Own : ℕ → Type 0) (labels breaks continues tail : Bool) (st : State) → StmtsSound S r Own labels breaks continues body → Keeps f (λ t. Unit {0}) (Kept r) st (statements g c body tail st)
   keeps_stmts body r Own labels breaks continues tail st sound =
-      statements_keep f (λ t. Unit {0}) (Kept r) 0 (λ i le t x u. tt) g c Anything (callees r).any (λ i lt t x u. tt) (λ t a i x u. tt) (λ t x u. tt) body tail st (omega arith)
+      statements_keep f (λ t. Unit {0}) (Kept r) 0 (λ i le t x u. tt) g c Anything (callees r).any (λ i lt t x u. tt) (λ t a i x u. tt) body tail st (omega arith) (sounds_return S (Sets f (λ t. Unit {0}) (result_variable c.result).0) (λ kd e t x u. tt) body r Own labels breaks continues sound)
       (sounds_each S (λ e. CallsFit Anything e × ((x : Cell) → Changes x e → Sets f (λ t. Unit {0}) (variable c x).0))
       (λ i. ((slot : Slot) → slice_get c.homes i ≡ Some (home.Local slot) → Kept r slot.0 → ⊥) × ((name : VarId) → slice_get c.homes i ≡ Some (home.Variable name) → Sets f (λ t. Unit {0}) name.0)) r (may_any r) (λ r1 i up le no_. may_declare r r1 i up le no_)
       body r Own labels breaks continues (λ j a. a) sound)

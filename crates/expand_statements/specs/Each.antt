@@ -44,3 +44,32 @@ module _ (P : CoreTree → Type 0) (D : ℕ → Type 0) where
     pub InStmts : CoreStmtTrees → Type 0
     InStmts core.no_stmt = Unit {0}
     InStmts (core.more_stmts first rest) = InStmt first × InStmts rest
+
+-- V holds where a value is returned.
+module _ (V : Type 0) where
+  abbrev pub IfReturned : Option CoreTree → Type 0
+  IfReturned None = Unit {0}
+  IfReturned (Some e) = V
+
+  abbrev mutual
+    pub ReturnsIn : CoreStmtTree → Type 0
+    ReturnsIn (core.block objects body) = AllReturnIn body
+    ReturnsIn (core.declare object init) = Unit {0}
+    ReturnsIn (core.act actions) = Unit {0}
+    ReturnsIn (core.if_ test body other at) = ReturnsIn body × ElseReturnsIn other
+    ReturnsIn (core.switch_ test objects body at) = AllReturnIn body
+    ReturnsIn (core.case_ value body at) = ReturnsIn body
+    ReturnsIn (core.while_ test body at) = ReturnsIn body
+    ReturnsIn (core.do_ body test at) = ReturnsIn body
+    ReturnsIn (core.for_ objects init test step body at) = AllReturnIn init × ReturnsIn body
+    ReturnsIn core.break_ = Unit {0}
+    ReturnsIn core.continue_ = Unit {0}
+    ReturnsIn (core.return_ value) = IfReturned value
+
+    pub ElseReturnsIn : CoreElseTree → Type 0
+    ElseReturnsIn core.no_else = Unit {0}
+    ElseReturnsIn (core.else_ at body) = ReturnsIn body
+
+    pub AllReturnIn : CoreStmtTrees → Type 0
+    AllReturnIn core.no_stmt = Unit {0}
+    AllReturnIn (core.more_stmts first rest) = ReturnsIn first × AllReturnIn rest

@@ -58,15 +58,15 @@ OwnStands f here c S Homes0 Lives0 i o =
     ⊎ ((IsArray o × (i < S.params) × (a : ArrayId) × (slice_get c.homes i ≡ Some (home.Array a)) × Homes0 (here.spots i) (home.Array a) × Lives0 (here.spots i) × (kind_at f.arrays a.0 ≡ o.kind))
     ⊎ (IsArray o × (S.params ≤ i) × (slot : Slot) × (slice_get c.homes i ≡ Some (home.Local slot))))
 
--- The call has variables of its own, from `fresh` on, and its frame is above those of the calls that lead to it.
+-- The call has variables of its own, from `fresh` on. No other object stands in its frame, but for the arrays that the host gives the top function.
 pub record IsFrame (f : Frame) (here : Here) (c : Call) (S : Setting) (Homes0 : Spot → Home → Type 0) (Lives0 : Spot → Type 0) (kinds : Known) (fresh base : ℕ) : Type 0 where
   pub path : c.path ≡ here.path
   pub file_low : c.file_variables ≤ fresh
   pub low : fresh ≤ base
   pub apart : IsApart Homes0
   pub below : AreBelow Homes0 fresh
-  pub frames : (x : Spot) (h : Home) → Homes0 x h → x.frame < here.frame
-  pub lives : (x : Spot) → Lives0 x → x.frame < here.frame
+  pub frames : (x : Spot) (h : Home) (i : ℕ) → Homes0 x h → x ≡ spot here.frame i → (a : ArrayId) × (slice_get c.homes i ≡ Some (home.Array a))
+  pub lives : (x : Spot) (i : ℕ) → Lives0 x → x ≡ spot here.frame i → (a : ArrayId) × (slice_get c.homes i ≡ Some (home.Array a))
   pub file : (i : ℕ) (o : FileObjectTree) → slice_get S.file i ≡ Some o → FileStands f kinds c Homes0 i o × Lives0 (spot 0 i)
   pub file_names : (i j : ℕ) (own own' : VarId) → slice_get c.file i ≡ Some (home.Variable own) → slice_get c.file j ≡ Some (home.Variable own') → own.0 ≡ own'.0 → i ≡ j
   pub file_bounded : (i : ℕ) (own : VarId) → slice_get c.file i ≡ Some (home.Variable own) → own.0 < fresh

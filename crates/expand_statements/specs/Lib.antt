@@ -3,4 +3,4 @@ pub mod Each
 pub mod Scopes
 pub mod Frames
 pub mod Results
-pub mod Covered
+pub mod Laws

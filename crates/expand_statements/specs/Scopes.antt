@@ -1,8 +1,7 @@
 -- Statements as elaboration makes them: what their names may stand for where they stand.
-use Rattle.std.specs.Prelude.{◌≡◌, ℕ, ◌<◌, ◌≤◌, ◌⊎◌, Bool, true, false, List, [], ◌∷◌, length, take, slice_get, Option, Some, None}
+use Rattle.std.specs.Prelude.{◌≡◌, ℕ, ◌^◌, ◌<◌, ◌≤◌, ◌⊎◌, Bool, true, false, List, [], ◌∷◌, length, take, slice_get, Option, Some, None}
 use Rattle.hls_base.specs.ArrayAddress.{element_count}
 use Rattle.c_token.specs.declared.ctype.CType.{CType}
-use Rattle.core_program.specs.declared.expression.Cell.{Cell}
 use Rattle.core_program.specs.declared.expression.Scope.{Scope}
 use Rattle.core_program.specs.declared.expression.Scope.TheVariants as scope
 use Rattle.core_program.specs.Core as core
@@ -137,11 +136,11 @@ module _ (S : Setting) where
   ItemsSound r [] = Unit {0}
   ItemsSound r (item ∷ items) = TestSound r item × ItemsSound r items
 
-  -- a scalar is given a value, and an array its first elements
+  -- A scalar is given a value, and an array its first elements. It has no more of them than int has numbers from 0 on.
   abbrev pub InitSound : Reach → CoreObjectTree → CoreInitTree → Type 0
   InitSound r o core.unwritten = Unit {0}
   InitSound r o (core.single v) = IsScalar o × IsSoundIn r v
-  InitSound r o (core.elements items) = IsArray o × (length items ≤ element_count o.lengths) × ItemsSound r items
+  InitSound r o (core.elements items) = IsArray o × (length items ≤ element_count o.lengths) × ItemsSound r items × (element_count o.lengths ≤ 2 ^ 31)
 
   abbrev mutual
     -- Own are the objects that may be declared here. The flags say whether a label, a `break` and a `continue` may stand here: labels stand only in front of what is directly in a switch.

@@ -1,2 +1,4 @@
 //! The pieces of statements do what the statements do.
 #![tactic(auto)]
+
+pub mod laws;

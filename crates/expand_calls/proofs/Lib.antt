@@ -1,0 +1,11 @@
+pub mod Lists
+pub mod Owning
+pub mod Homes
+pub mod Returning
+pub mod Callees
+pub mod Giving
+pub mod Starting
+pub mod Bodies
+pub mod Opening
+pub mod Frames
+pub mod Calls

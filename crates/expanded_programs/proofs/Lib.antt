@@ -1,0 +1,12 @@
+pub mod Plain
+pub mod Outlines
+pub mod Entries
+pub mod Words
+pub mod Started
+pub mod TopStores
+pub mod Distincts
+pub mod Filled
+pub mod TopFrames
+pub mod Ends
+pub mod Whole
+pub mod Examples
