@@ -6,7 +6,8 @@ use Rattle.hls_base.specs.declared.number.VarId.{VarId}
 use Rattle.block_meaning.specs.Bodies.{with_word}
 use Rattle.block_meaning.specs.FirstContents.{with_kept, with_arguments}
 use Rattle.machine_memory.proofs.Banks.{word_set, zero_words}
-use Rattle.clock_machine.specs.Starts.{held, KeptThere, ParametersThere}
+use Rattle.clock_lines.specs.Registers.{held}
+use Rattle.clock_machine.specs.Starts.{KeptThere, ParametersThere}
 
 pub held_set : (vs : List ℕ) (v w : ℕ) → v < length vs → held (set vs v w) ≡ with_word (held vs) v w
 held_set vs v w h = λ j. λ i. word_set vs v w i h j

@@ -1,4 +1,6 @@
 pub mod FirstWords
 pub mod Acting
-pub mod Rings
 pub mod TakenWords
+pub mod Made
+pub mod Ready
+pub mod Ticks

@@ -4,11 +4,11 @@ use Rattle.hls_base.specs.declared.number.ArrayId.{ArrayId}
 use Rattle.ir_core.specs.declared.body.OpKind.{OpKind}
 use Rattle.ir_core.specs.declared.body.OpKind.TheVariants as o
 use Rattle.block_meaning.specs.Bodies.{OpTree, Shapes}
-use Rattle.clock_machine.specs.declared.program.Action.{Action}
-use Rattle.clock_machine.specs.declared.program.Line.{Line}
-use Rattle.clock_machine.specs.declared.program.Read.{Read}
-use Rattle.clock_machine.specs.declared.registers.Registers.{Registers}
-use Rattle.clock_machine.specs.Registers.{ReadIsWithin, word_read}
+use Rattle.clock_lines.specs.declared.program.Action.{Action}
+use Rattle.clock_lines.specs.declared.program.Line.{Line}
+use Rattle.clock_lines.specs.declared.program.Read.{Read}
+use Rattle.clock_lines.specs.declared.registers.Registers.{Registers}
+use Rattle.clock_lines.specs.Registers.{ReadIsWithin, word_read}
 
 abbrev pub shapes : List ℕ → List (List ℕ) → Shapes
 shapes widths dims = record { widths = widths; dims = dims }
@@ -34,14 +34,13 @@ abbrev pub is_store : OpKind → Bool
 is_store o.Store = true
 is_store _ = false
 
--- Whether an operation's iteration runs, where a test was first known to fail so many cycles ago: only of a store does it matter.
-abbrev pub is_open : Option ℕ → Action → Bool
-is_open None action = true
-is_open (Some ago) action = not (is_store action.kind) || nat_lt ago action.gate
+-- Whether an operation's iteration runs, where so many of the last ones were found not to run: only of a store does it matter.
+abbrev pub is_open : ℕ → Action → Bool
+is_open failed action = not (is_store action.kind) || not (nat_lt action.gate failed)
 
 abbrev pub guard_holds : Registers → List Line → Option Read → Bool
 guard_holds r lines None = true
 guard_holds r lines (Some x) = not (word_read r lines x == 0)
 
-abbrev pub allows : Registers → List Line → Option ℕ → Action → Bool
-allows r lines stopped action = is_open stopped action && guard_holds r lines action.guard
+abbrev pub allows : Registers → List Line → ℕ → Action → Bool
+allows r lines failed action = is_open failed action && guard_holds r lines action.guard

@@ -3,18 +3,18 @@ use Rattle.std.specs.Prelude.{ℕ, ◌<◌, ◌==◌, not, if◌then◌else◌, 
 use Rattle.std.specs.Option.{option_map}
 use Rattle.hls_base.specs.declared.number.NodeId.{NodeId}
 use Rattle.block_meaning.specs.Bodies.{with_word}
-use Rattle.clock_machine.specs.declared.program.Assignment.{Assignment}
-use Rattle.clock_machine.specs.declared.program.Case.{Case}
-use Rattle.clock_machine.specs.declared.program.Line.{Line}
-use Rattle.clock_machine.specs.declared.program.Read.{Read}
-use Rattle.clock_machine.specs.declared.program.Stage.{Stage}
-use Rattle.clock_machine.specs.declared.program.Stage.TheVariants as stage
-use Rattle.clock_machine.specs.declared.program.Way.{Way}
-use Rattle.clock_machine.specs.declared.program.Way.TheVariants as way
-use Rattle.clock_machine.specs.declared.registers.Registers.{Registers}
+use Rattle.clock_lines.specs.declared.program.Assignment.{Assignment}
+use Rattle.clock_lines.specs.declared.program.Case.{Case}
+use Rattle.clock_lines.specs.declared.program.Line.{Line}
+use Rattle.clock_lines.specs.declared.program.Read.{Read}
+use Rattle.clock_lines.specs.declared.program.Stage.{Stage}
+use Rattle.clock_lines.specs.declared.program.Stage.TheVariants as stage
+use Rattle.clock_lines.specs.declared.program.Way.{Way}
+use Rattle.clock_lines.specs.declared.program.Way.TheVariants as way
+use Rattle.clock_lines.specs.declared.registers.Registers.{Registers}
 use Rattle.clock_machine.specs.declared.state.Position.{Position}
 use Rattle.clock_machine.specs.declared.state.Position.TheVariants as position
-use Rattle.clock_machine.specs.Registers.{ReadIsWithin}
+use Rattle.clock_lines.specs.Registers.{ReadIsWithin}
 
 abbrev pub AssignmentsAreWithin : Registers → List Line → List Assignment → Type 0
 AssignmentsAreWithin r lines [] = Unit {0}
@@ -46,9 +46,9 @@ chosen_in read (x ∷ xs) other = if not (read x.test == 0) then x.to else chose
 
 -- the first cycle of a block, or the one before that of a loop
 abbrev pub entered_at : NodeId → Option Stage → Position
-entered_at node None = position.Inside node
-entered_at node (Some (stage.Block work way length)) = position.Inside node
-entered_at node (Some (stage.Loop work entries pace next)) = position.Loading node
+entered_at node None = position.Loading node
+entered_at node (Some (stage.Block work way)) = position.Inside node
+entered_at node (Some (stage.Loop work exit)) = position.Loading node
 
 abbrev pub entered : List Stage → NodeId → Position
 entered stages node = entered_at node (slice_get stages node.0)

@@ -1,15 +1,13 @@
 -- A machine that stands before the first edge of a run.
-use Rattle.std.specs.Prelude.{◌≡◌, ℕ, ◌<◌, List, [], ◌∷◌, length, get_or}
+use Rattle.std.specs.Prelude.{◌≡◌, ℕ, ◌<◌, List, [], ◌∷◌, length}
 use Rattle.hls_base.specs.declared.number.Kept.{Kept}
 use Rattle.hls_base.specs.declared.number.VarId.{VarId}
 use Rattle.ir_core.specs.declared.cfg.Frame.{Frame}
 use Rattle.block_meaning.specs.Bodies.{Words}
 use Rattle.machine_memory.specs.Contents.{words_in}
+use Rattle.clock_lines.specs.Registers.{held}
 use Rattle.clock_machine.specs.declared.state.State.{State}
 use Rattle.clock_machine.specs.declared.state.Position.TheVariants as position
-
-abbrev pub held : List ℕ → ℕ → ℕ
-held xs i = get_or xs i 0
 
 -- what the variables and memories of a state hold
 abbrev pub words_of : State → Words

@@ -3,11 +3,11 @@ ghost use Rattle.std.specs.Prelude.{◌≡◌, ◌≤◌, ◌<◌, ℕ, List, ma
 ghost use Rattle.block_meaning.specs.Bodies as bodies;
 ghost use Rattle.machine_memory.specs.Contents.{dims_in, words_in};
 ghost use Rattle.clock_machine.specs.Acts.{shapes, op_in, IsThere, ReadsAreWithin, ReadIsWithinIf, allows, is_open, guard_holds};
-ghost use Rattle.clock_machine.specs.Registers.{word_read};
+ghost use Rattle.clock_lines.specs.Registers.{word_read};
 
-use crate::first::{set_word, word_at};
-use crate::program::{Action, Line, Read};
-use crate::registers::Registers;
+use clock_lines::program::{Action, Line, Read};
+use clock_lines::registers::Registers;
+use clock_lines::words::{set_word, word_at};
 use hls_base::number::ArrayId;
 use ir_core::body::OpKind;
 use ir_operation::value::evaluate;
@@ -23,20 +23,17 @@ pub fn read_all(registers: &Registers, lines: &[Line], reads: &[Read], into: &mu
     }
 }
 
-/// Whether an operation's iteration runs, where a test was first known to fail so many cycles ago. Only of a store does it matter.
-fn is_open_for(stopped: Option<u64>, action: &Action) -> bool
-    ensures { result ≡ is_open stopped action.now }
+/// Whether an operation's iteration runs, where so many of the last ones were found not to run. Only of a store does it matter.
+fn is_open_for(failed: u64, action: &Action) -> bool
+    ensures { result ≡ is_open failed action.now }
 {
-    match stopped {
-        Some(ago) => match action.kind {
-            OpKind::Store => ago < action.gate,
-            _ => true,
-        },
-        None => true,
+    match action.kind {
+        OpKind::Store => action.gate >= failed,
+        _ => true,
     }
 }
 
-fn does_guard_hold(registers: &Registers, lines: &[Line], guard: Option<Read>) -> bool
+pub fn does_guard_hold(registers: &Registers, lines: &[Line], guard: Option<Read>) -> bool
     ensures { ReadIsWithinIf registers.now lines.now guard → result ≡ guard_holds registers.now lines.now guard }
 {
     match guard {
@@ -46,16 +43,11 @@ fn does_guard_hold(registers: &Registers, lines: &[Line], guard: Option<Read>) -
 }
 
 /// Whether the guard of an operation lets it act, and for a store also its iteration's gate.
-pub fn is_allowed(
-    registers: &Registers,
-    lines: &[Line],
-    stopped: Option<u64>,
-    action: &Action,
-) -> bool
+pub fn is_allowed(registers: &Registers, lines: &[Line], failed: u64, action: &Action) -> bool
     ensures { ReadIsWithinIf registers.now lines.now action.now.guard →
-        result ≡ allows registers.now lines.now stopped action.now }
+        result ≡ allows registers.now lines.now failed action.now }
 {
-    is_open_for(stopped, action) && does_guard_hold(registers, lines, action.guard)
+    is_open_for(failed, action) && does_guard_hold(registers, lines, action.guard)
 }
 
 /// The subscripts of a store, which are all its arguments but the last.
@@ -92,6 +84,31 @@ fn store(memories: &mut Memories, array: Option<ArrayId>, args: &[u64])
 {
     if let Some(array) = array {
         memories.store(array, subscripts(args), stored(args));
+    }
+}
+
+/// What an operation gives at these arguments; a store gives 0.
+pub fn given(memories: &Memories, action: &Action, allowed: bool, args: &[u64]) -> u64
+    ensures { (widths : List ℕ) (variables : ℕ → ℕ) → result ≡
+        (bodies.effect (shapes widths (dims_in memories.now)) (op_in action.now) action.now.kind allowed
+        action.now.from_bits args.now (record { variables = variables; memories = words_in memories.now })).result }
+{
+    match action.kind {
+        OpKind::Load => {
+            if allowed {
+                load(memories, action.array, args)
+            } else {
+                0
+            }
+        }
+        OpKind::Store => 0,
+        _ => evaluate(
+            action.kind,
+            action.signed,
+            action.bits,
+            action.from_bits,
+            args,
+        ),
     }
 }
 

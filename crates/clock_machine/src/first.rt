@@ -1,26 +1,14 @@
 //! What the variables of a program hold as a run begins.
 ghost use Rattle.std.specs.Prelude.{◌≡◌, ℕ, length, get_or, slice_set, IfOk};
 ghost use Rattle.block_meaning.specs.FirstContents as first;
-ghost use Rattle.clock_machine.specs.Starts.{held, KeptThere, ParametersThere};
+ghost use Rattle.clock_lines.specs.Registers.{held};
+ghost use Rattle.clock_machine.specs.Starts.{KeptThere, ParametersThere};
 
+use clock_lines::words::set_word;
 use hls_base::inputs::Inputs;
 use hls_base::number::{Kept, VarId};
 use ir_core::cfg::Frame;
 use std::alloc::{AllocError, Global};
-
-pub fn word_at(words: &[u64], index: usize) -> u64
-    ensures { result ≡ get_or words.now index 0 }
-{
-    if index < words.len() { words[index] } else { 0 }
-}
-
-pub fn set_word(words: &mut [u64], index: usize, word: u64)
-    ensures { words.new ≡ slice_set words.old index word }
-{
-    if index < words.len() {
-        words[index] = word;
-    }
-}
 
 fn set_kept(variables: &mut [u64], kept: &[Kept])
     ensures { KeptThere kept.now (length variables.old) →

@@ -3,12 +3,12 @@ ghost use Rattle.std.specs.Prelude.{◌≡◌, ◌≤◌, length, map, take};
 ghost use Rattle.std.specs.Option.{option_map};
 ghost use Rattle.clock_machine.specs.Acts.{ReadIsWithinIf};
 ghost use Rattle.clock_machine.specs.Leaving as spec;
-ghost use Rattle.clock_machine.specs.Registers.{word_read};
-ghost use Rattle.clock_machine.specs.Starts.{held};
+ghost use Rattle.clock_lines.specs.Registers.{word_read};
+ghost use Rattle.clock_lines.specs.Registers.{held};
 
-use crate::first::{set_word, word_at};
-use crate::program::{Assignment, Case, Line, Read};
-use crate::registers::Registers;
+use clock_lines::program::{Assignment, Case, Line, Read};
+use clock_lines::registers::Registers;
+use clock_lines::words::{set_word, word_at};
 use hls_base::number::NodeId;
 
 /// Puts what variables take at the front of a buffer.

@@ -3,9 +3,7 @@
 
 mod acts;
 mod first;
+mod keeping;
 mod leaving;
 pub mod machine;
-mod program;
-mod reads;
-mod registers;
 mod state;

@@ -3,13 +3,16 @@ ghost use Rattle.hls_base.specs.ArrayAddress.{addresses};
 ghost use Rattle.block_meaning.specs.FirstContents.{first_words};
 ghost use Rattle.machine_laws.specs.Halts.{HasHalted, is_ended};
 ghost use Rattle.machine_memory.specs.Contents.{dims_in, dims_at, element_in};
+ghost use Rattle.clock_meaning.specs.ClockRuns.{timed_program};
+ghost use Rattle.clock_lines.specs.Forms.{IsProgramOf};
+ghost use Rattle.clock_lines.specs.Regions.{IsOrderlyProgram};
 ghost use Rattle.clock_machine.specs.Halts.{halt_at};
 ghost use Rattle.clock_machine.specs.Starts.{IsNamed, IsStarting};
 
-use crate::program::Program;
-use crate::reads::program_of;
 use crate::state::{Position, State};
 use clock_ir::timed::Timed;
+use clock_lines::making::program_of;
+use clock_lines::program::Program;
 use hls_base::inputs::Inputs;
 use hls_base::number::ArrayId;
 use ir_core::cfg::Cfg;
@@ -28,6 +31,8 @@ impl ClockMachine {
     pub fn new(alloc: Global, cfg: &Cfg<Timed>, inputs: &Inputs) -> Result<ClockMachine, AllocError>
         ensures void { IfOk result (λ m. m.program.is_void ≡ (cfg.now.frame.ret == 0)) }
         ensures dims { IfOk result (λ m. dims_in m.state.memories ≡ map (λ d. d.dims.items) cfg.now.frame.memories.items) }
+        ensures program { IfOk result (λ m. IsOrderlyProgram cfg.now →
+            IsProgramOf (timed_program cfg.now) m.program) }
         ensures begins { IfOk result (λ m. IsNamed cfg.now.frame →
             IsStarting (first_words cfg.now.frame inputs.now) m.state) }
     {

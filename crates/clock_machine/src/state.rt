@@ -1,20 +1,27 @@
 //! What changes as a timed program runs.
-ghost use Rattle.std.specs.Prelude.{◌≡◌, ◌≤◌, ℕ, List, length, map, take, drop, slice_get, IfOk};
+ghost use Rattle.std.specs.Prelude.{◌≡◌, ◌≤◌, ◌<◌, ℕ, List, length, map, take, drop, slice_get, IfOk};
 ghost use Rattle.block_meaning.specs.Bodies.{effect, performed};
 ghost use Rattle.block_meaning.specs.FirstContents.{first_words};
 ghost use Rattle.machine_memory.specs.Contents.{dims_in, words_in};
 ghost use Rattle.clock_machine.specs.Leaving.{AssignmentsAreWithin, AssignmentsAreThere, WayIsWithin, assigned, entered_at, position_behind, result_behind};
-ghost use Rattle.clock_machine.specs.Starts.{held, IsNamed, IsStarting, words_of};
-ghost use Rattle.clock_machine.specs.Acts.{shapes, op_in, IsThere, ReadsAreWithin, ReadIsWithinIf, allows};
-ghost use Rattle.clock_machine.specs.Registers.{word_read};
-ghost use Rattle.clock_machine.specs.Starting.{IsReadyFor, IsReadyForAll, memory_behind, memories_behind};
+ghost use Rattle.clock_machine.specs.Starts.{IsNamed, IsStarting, words_of};
+ghost use Rattle.clock_machine.specs.Acts.{shapes, op_in, IsThere, ReadsAreWithin, ReadIsWithinIf, allows, guard_holds};
+ghost use Rattle.clock_lines.specs.Registers.{held, word_read};
+ghost use Rattle.block_meaning.specs.Bodies.{Shapes};
+ghost use Rattle.clock_meaning.specs.Flows.{TimedBody, Flow, tick};
+ghost use Rattle.clock_lines.specs.Showing.{Shows};
+ghost use Rattle.clock_machine.specs.Keeping.{IsForm, IsMoment, IsNextMoment, HasGiven};
+ghost use Rattle.clock_machine.specs.Starting.{value_of};
 
-use crate::acts::{is_allowed, perform, read_all};
-use crate::first::{first_variables, set_word, word_at};
+use crate::acts::{does_guard_hold, given, is_allowed, perform, read_all};
+use crate::first::first_variables;
+use crate::keeping::{begin_lines, keep_made, keep_ready};
 use crate::leaving::{chosen, read_assigned, result_of, set_assigned};
-use crate::program::{Action, Entry, Line, Pace, Program, Stage, Way, Work, work_of};
-use crate::registers::Registers;
 use clock_ir::timed::Timed;
+use clock_lines::agenda::phase_of;
+use clock_lines::program::{Action, Exit, Line, Pace, Program, Read, Stage, Way, Work, work_of};
+use clock_lines::registers::{Registers, extent};
+use clock_lines::words::set_word;
 use hls_base::inputs::Inputs;
 use hls_base::number::NodeId;
 use ir_core::body::OpKind;
@@ -31,20 +38,18 @@ pub enum Position {
     Ended,
 }
 
-/// The time within a block or loop, and its place in the schedule. `next` is the first operation of this phase or a later one; `stopped` is how many cycles ago a test was first known to fail.
+/// The time within a block or loop, its phase, and how many iterations were found not to run.
 #[derive(Clone, Copy, Debug)]
 pub struct Moment {
     pub time: u64,
     pub phase: u64,
-    pub next: usize,
-    pub stopped: Option<u64>,
+    pub failed: u64,
 }
 
 const FIRST_MOMENT: Moment = Moment {
     time: 0,
     phase: 0,
-    next: 0,
-    stopped: None,
+    failed: 0,
 };
 
 /// `args` and `fresh` are buffers.
@@ -58,15 +63,6 @@ pub struct State {
     fresh: Vec<u64>,
     pub moment: Moment,
     first: NodeId,
-}
-
-/// The words that lines take together.
-fn word_count(lines: &[Line]) -> usize {
-    let mut count = 0usize;
-    for line in lines {
-        count = count.saturating_add(line.length);
-    }
-    count
 }
 
 fn most_args(actions: &[Action]) -> usize {
@@ -95,23 +91,13 @@ fn sizes_of(program: &Program) -> Sizes {
     };
     for stage in &program.stages {
         let work = work_of(stage);
-        sizes.words = sizes.words.max(word_count(&work.lines));
+        sizes.words = sizes.words.max(extent(&work.lines));
         sizes.lines = sizes.lines.max(work.lines.len());
         sizes.args = sizes.args.max(most_args(&work.actions));
         let most = work.actions.len().max(work.assignments.len());
         sizes.fresh = sizes.fresh.max(most);
     }
     sizes
-}
-
-/// The first operation from one on that is of a later phase.
-fn end_of_phase(actions: &[Action], from: usize, phase: u64) -> usize {
-    for index in from..actions.len() {
-        if actions[index].phase != phase {
-            return index;
-        }
-    }
-    actions.len()
 }
 
 impl State {
@@ -149,7 +135,7 @@ impl State {
             ReadIsWithinIf self.old.registers lines.now action.now.guard →
             IsThere action.now.array (dims_in self.old.memories) →
             effect (shapes widths (dims_in self.old.memories)) (op_in action.now) action.now.kind
-            (allows self.old.registers lines.now self.old.moment.stopped action.now) action.now.from_bits
+            (allows self.old.registers lines.now self.old.moment.failed action.now) action.now.from_bits
             (map (word_read self.old.registers lines.now) action.now.args.items) (words_of self.old)
             ≡ performed result (words_of self.new) }
         ensures dims { dims_in self.new.memories ≡ dims_in self.old.memories }
@@ -159,50 +145,61 @@ impl State {
     {
         let count = action.args.len().min(self.args.len());
         read_all(&self.registers, lines, &action.args, &mut self.args);
-        let allowed = is_allowed(&self.registers, lines, self.moment.stopped, action);
+        let allowed = is_allowed(&self.registers, lines, self.moment.failed, action);
         perform(&mut self.memories, action, allowed, &self.args[..count])
     }
 
-    /// Starts an operation, if its first iteration has come to it.
-    fn start(&mut self, lines: &[Line], index: usize, action: &Action)
-        ensures memories { (widths : List ℕ) → IsReadyFor self.old lines.now action.now →
-            words_in self.new.memories ≡ memory_behind (shapes widths (dims_in self.old.memories))
-            self.old.registers lines.now self.old.moment.stopped self.old.moment.time action.now
+    /// What an operation gives that starts in this cycle.
+    fn value(&mut self, lines: &[Line], action: &Action) -> u64
+        ensures gives { (widths : List ℕ) → length action.now.args.items ≤ length self.old.args.items →
+            ReadsAreWithin self.old.registers lines.now action.now.args.items →
+            ReadIsWithinIf self.old.registers lines.now action.now.guard →
+            result ≡ value_of (shapes widths (dims_in self.old.memories)) self.old.registers lines.now action.now
             (words_in self.old.memories) }
+        ensures memories { self.new.memories ≡ self.old.memories }
+        ensures registers { self.new.registers ≡ self.old.registers }
+        ensures moment { self.new.moment ≡ self.old.moment }
+        ensures args { length self.new.args.items ≡ length self.old.args.items }
+    {
+        let count = action.args.len().min(self.args.len());
+        read_all(&self.registers, lines, &action.args, &mut self.args);
+        let allowed = does_guard_hold(&self.registers, lines, action.guard);
+        given(&self.memories, action, allowed, &self.args[..count])
+    }
+
+    /// What the operations give that start in this cycle, all from what was held before it; a store gives 0.
+    fn start_values(&mut self, work: &Work)
+        ensures words { words_of self.new ≡ words_of self.old }
         ensures dims { dims_in self.new.memories ≡ dims_in self.old.memories }
         ensures registers { self.new.registers ≡ self.old.registers }
         ensures moment { self.new.moment ≡ self.old.moment }
         ensures args { length self.new.args.items ≡ length self.old.args.items }
     {
-        if action.start <= self.moment.time {
-            let word = self.act(lines, action);
-            set_word(&mut self.fresh, index, word);
+        let mut number = work.starts.first(self.moment.phase);
+        while number < work.actions.len() {
+            let action = &work.actions[number];
+            if action.start <= self.moment.time {
+                let word = self.value(&work.lines, action);
+                set_word(&mut self.fresh, number, word);
+            }
+            number = work.starts.next(number);
         }
     }
 
-    /// Starts the operations of this cycle, which read the values from before it; the stores come last.
-    fn start_actions(&mut self, work: &Work, end: usize)
-        ensures memories { (widths : List ℕ) → IsReadyForAll self.old work.now.lines.items work.now.actions.items →
-            words_in self.new.memories ≡ memories_behind (shapes widths (dims_in self.old.memories))
-            self.old.registers work.now.lines.items self.old.moment.stopped self.old.moment.time
-            (drop self.old.moment.next (take end work.now.actions.items)) (words_in self.old.memories) }
+    /// Does the stores of this cycle.
+    fn start_stores(&mut self, work: &Work)
         ensures dims { dims_in self.new.memories ≡ dims_in self.old.memories }
         ensures registers { self.new.registers ≡ self.old.registers }
         ensures moment { self.new.moment ≡ self.old.moment }
+        ensures args { length self.new.args.items ≡ length self.old.args.items }
     {
-        for index in self.moment.next..end.min(work.actions.len()) {
-            self.start(&work.lines, index, &work.actions[index]);
-        }
-    }
-
-    /// Puts the values of the operations of this cycle into their lines.
-    fn push_values(&mut self, work: &Work, end: usize) {
-        for index in self.moment.next..end.min(work.actions.len()) {
-            let action = &work.actions[index];
-            if action.start <= self.moment.time && action.kind != OpKind::Store {
-                let word = word_at(&self.fresh, index);
-                self.registers.push(&work.lines, action.line, word);
+        let mut number = work.starts.first(self.moment.phase);
+        while number < work.actions.len() {
+            let action = &work.actions[number];
+            if action.start <= self.moment.time && action.kind == OpKind::Store {
+                self.act(&work.lines, action);
             }
+            number = work.starts.next(number);
         }
     }
 
@@ -230,30 +227,30 @@ impl State {
         );
     }
 
+    /// Begins a body in its first cycle.
+    fn begin(&mut self, node: NodeId, work: &Work)
+        ensures position { self.new.position ≡ Position.Inside node }
+        ensures words { words_of self.new ≡ words_of self.old }
+        ensures returned { self.new.returned ≡ self.old.returned }
+    {
+        begin_lines(&mut self.registers, work);
+        self.moment = FIRST_MOMENT;
+        self.position = Position::Inside(node);
+    }
+
     /// Goes to the first cycle of a block, or to the one in which the first values of a loop are loaded.
     fn enter(&mut self, program: &Program, node: NodeId)
         ensures position { self.new.position ≡ entered_at node (slice_get program.now.stages.items node.0) }
         ensures words { words_of self.new ≡ words_of self.old }
         ensures returned { self.new.returned ≡ self.old.returned }
     {
-        self.moment = FIRST_MOMENT;
-        self.position = Position::Inside(node);
+        self.position = Position::Loading(node);
         let index = node.0 as usize;
         if index < program.stages.len() {
-            self.registers.reset_heads();
-            if let Stage::Loop { .. } = &program.stages[index] {
-                self.position = Position::Loading(node);
+            if let Stage::Block { work, .. } = &program.stages[index] {
+                self.begin(node, work);
             }
         }
-    }
-
-    /// Loads the first values of a loop.
-    fn load_entries(&mut self, node: NodeId, work: &Work, entries: &[Entry]) {
-        self.registers.clear();
-        for entry in entries {
-            self.registers.fill(&work.lines, *entry);
-        }
-        self.position = Position::Inside(node);
     }
 
     /// Leaves a block.
@@ -286,51 +283,87 @@ impl State {
     }
 
     /// Goes on to the next cycle of a block or loop.
-    fn pass(&mut self, end: usize, interval: u64) {
+    fn pass(&mut self, interval: u64)
+        ensures moment { (b : TimedBody) (f : Flow) → b.interval ≡ interval → 0 < b.interval →
+            IsMoment b f self.old.moment.phase self.old.moment.time →
+            IsNextMoment b f self.new.moment.phase self.new.moment.time }
+        ensures failed { self.new.moment.failed ≡ self.old.moment.failed }
+        ensures registers { self.new.registers ≡ self.old.registers }
+    {
         let phase = self.moment.phase.saturating_add(1);
-        let wraps = phase >= interval;
-        self.moment = Moment {
-            time: self.moment.time.saturating_add(1),
-            phase: if wraps { 0 } else { phase },
-            next: if wraps { 0 } else { end },
-            stopped: self.moment.stopped.map(|ago| ago.saturating_add(1)),
-        };
-    }
-
-    fn block_cycle(&mut self, program: &Program, work: &Work, way: &Way, length: u64) {
-        let end = end_of_phase(&work.actions, self.moment.next, self.moment.phase);
-        self.start_actions(work, end);
-        self.push_values(work, end);
-        if self.moment.time.saturating_add(1) < length {
-            self.pass(end, length);
-        } else {
-            self.leave_block(program, work, way);
-        }
+        self.moment.time = self.moment.time.saturating_add(1);
+        self.moment.phase = if phase < interval { phase } else { 0 };
     }
 
     /// Looks at the test that is known in this cycle, if there is one.
     fn see_test(&mut self, lines: &[Line], pace: Pace) {
-        let is_known = self.moment.phase == pace.phase && self.moment.time >= pace.known;
-        if let Some(test) = pace.test {
-            if is_known && self.moment.stopped.is_none() && self.registers.read(lines, test) == 0 {
-                self.moment.stopped = Some(0);
-            }
+        let is_known = pace.known <= self.moment.time
+            && phase_of(pace.known, pace.interval) == self.moment.phase;
+        if is_known && (self.moment.failed > 0 || !self.holds(lines, pace.test)) {
+            self.moment.failed = self.moment.failed.saturating_add(1);
         }
     }
 
-    fn loop_cycle(&mut self, program: &Program, work: &Work, pace: Pace, next: NodeId) {
-        let end = end_of_phase(&work.actions, self.moment.next, self.moment.phase);
-        self.see_test(&work.lines, pace);
-        self.start_actions(work, end);
-        match self.moment.stopped {
-            Some(ago) if ago >= pace.exit.saturating_sub(pace.known) => {
-                self.assign(work);
-                self.enter(program, next);
-            }
-            _ => {
-                self.push_values(work, end);
-                self.pass(end, pace.interval);
-            }
+    fn holds(&self, lines: &[Line], test: Option<Read>) -> bool
+        ensures { ReadIsWithinIf self.now.registers lines.now test → result ≡ guard_holds self.now.registers lines.now test }
+    {
+        does_guard_hold(&self.registers, lines, test)
+    }
+
+    /// Does what the operations do that start in this cycle.
+    fn start(&mut self, work: &Work) {
+        self.see_test(&work.lines, work.pace);
+        self.start_values(work);
+        self.start_stores(work);
+    }
+
+    /// Puts the values of this cycle into their lines, and goes on to the next one.
+    fn keep(&mut self, work: &Work)
+        ensures ticks { (shapes : Shapes) (b : TimedBody) (f : Flow) →
+            IsForm shapes.widths b work.now self.old.registers →
+            IsMoment b f self.old.moment.phase self.old.moment.time → HasGiven shapes b f self.old.fresh.items →
+            Shows b work.now.lines.items self.old.registers f →
+            Shows b work.now.lines.items self.new.registers (tick shapes b f) }
+    {
+        let moment = self.moment;
+        keep_made(
+            &mut self.registers,
+            work,
+            &self.fresh,
+            moment.phase,
+            moment.time,
+        );
+        self.pass(work.pace.interval);
+        keep_ready(
+            &mut self.registers,
+            work,
+            self.moment.phase,
+            self.moment.time,
+        );
+    }
+
+    fn block_cycle(&mut self, program: &Program, work: &Work, way: &Way) {
+        self.start(work);
+        self.keep(work);
+        if self.moment.time >= work.pace.interval {
+            self.leave_block(program, work, way);
+        }
+    }
+
+    /// Whether an iteration that does not run is at the exit of its loop.
+    fn is_over(&self, interval: u64, exit: Exit) -> bool {
+        exit.exit <= self.moment.time
+            && phase_of(exit.exit, interval) == self.moment.phase
+            && exit.gate < self.moment.failed
+    }
+
+    fn loop_cycle(&mut self, program: &Program, work: &Work, exit: Exit) {
+        self.start(work);
+        if self.is_over(work.pace.interval, exit) {
+            self.assign(work);
+            self.enter(program, exit.next);
+        } else {
+            self.keep(work);
         }
     }
 
@@ -338,15 +371,8 @@ impl State {
         let index = node.0 as usize;
         if index < program.stages.len() {
             match &program.stages[index] {
-                Stage::Block { work, way, length } => {
-                    self.block_cycle(program, work, way, *length);
-                }
-                Stage::Loop {
-                    work,
-                    pace,
-                    next,
-                    ..
-                } => self.loop_cycle(program, work, *pace, *next),
+                Stage::Block { work, way } => self.block_cycle(program, work, way),
+                Stage::Loop { work, exit } => self.loop_cycle(program, work, *exit),
             }
         }
     }
@@ -354,8 +380,8 @@ impl State {
     fn load_loop(&mut self, program: &Program, node: NodeId) {
         let index = node.0 as usize;
         if index < program.stages.len() {
-            if let Stage::Loop { work, entries, .. } = &program.stages[index] {
-                self.load_entries(node, work, entries);
+            if let Stage::Loop { work, .. } = &program.stages[index] {
+                self.begin(node, work);
             }
         }
     }

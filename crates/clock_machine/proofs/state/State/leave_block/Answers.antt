@@ -1,8 +1,8 @@
 use Rattle.std.proofs.Common.{◌≡◌, List, sym, ap, ◌∙◌, subst}
-use Rattle.clock_machine.specs.declared.program.Case.{Case}
-use Rattle.clock_machine.specs.declared.program.Line.{Line}
+use Rattle.clock_lines.specs.declared.program.Case.{Case}
+use Rattle.clock_lines.specs.declared.program.Line.{Line}
 use Rattle.clock_machine.specs.Leaving.{CasesAreWithin, WayIsWithin, chosen_in, entered, position_behind}
-use Rattle.clock_machine.specs.Registers.{word_read}
+use Rattle.clock_lines.specs.Registers.{word_read}
 use Rattle.clock_machine.proofs.state.State.leave_block.Goals as goal
 
 pub returns-in-Choose-clause-position : goal.returns-in-Choose-clause-position
