@@ -1,0 +1,5 @@
+pub mod Elements
+pub mod Examples
+pub mod Fixpoint
+pub mod Members
+pub mod Words
