@@ -2,8 +2,6 @@
 #![tactic(auto)]
 
 pub mod copies;
-pub mod draft;
-pub mod emit;
 pub mod frame;
 pub mod line;
 pub mod lower;

@@ -1,5 +1,5 @@
 //! A sequence of blocks while it grows.
-use crate::draft::Draft;
+use block_draft::draft::{Done, Draft};
 use hls_base::point::Point;
 use ir_core::tree::{BasicBlock, Exit, Part, Sequence, Shape};
 use std::alloc::{AllocError, Global};
@@ -74,7 +74,7 @@ impl Line {
             point,
             exit,
         } = self;
-        let (ops, outs) = draft.close()?;
+        let Done { ops, outs } = draft.close()?;
         let block = BasicBlock {
             point,
             ops,

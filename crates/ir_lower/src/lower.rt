@@ -3,17 +3,11 @@ ghost use Rattle.std.specs.Prelude.{◌≡◌, IfOk};
 ghost use Rattle.ir_lower.specs.Frames.{frame_view, frame_of};
 
 use crate::copies::with_copies;
-use crate::draft::{Draft, plain};
-use crate::emit::{emit_as, emit_cases, emit_stored, emit_test};
 use crate::frame::frame_of;
 use crate::line::Line;
-use c_token::ctype::CType;
-use c_value::kind::{INT, width};
-use hls_base::number::{ArrayId, VarId};
-use hls_base::place::Place;
+use block_draft::draft::Draft;
 use hls_base::point::Point;
 use hls_base::refusal::impossible;
-use ir_core::body::OpKind;
 use ir_core::tree::{BlockTree, Exit, LandId, Part, Sequence, Shape};
 use pieces::expanded::Expanded;
 use pieces::piece::{Label, Piece};
@@ -26,7 +20,7 @@ pub fn lower(alloc: Global, expanded: &Expanded) -> Result<BlockTree, AllocError
     ensures frame { IfOk result (λ t. frame_view t.frame ≡ frame_of expanded.now) }
     ensures returned { IfOk result (λ t. t.result ≡ expanded.now.result) }
 {
-    let mut draft = Draft::new(alloc, expanded.variables.len())?;
+    let mut draft = Draft::new(alloc);
     match lower_side(expanded, &mut draft, &expanded.pieces)? {
         Some(blocks) => Ok(BlockTree {
             frame: frame_of(alloc, expanded)?,
@@ -35,49 +29,6 @@ pub fn lower(alloc: Global, expanded: &Expanded) -> Result<BlockTree, AllocError
         }),
         None => Err(impossible()),
     }
-}
-
-fn variable_kind(expanded: &Expanded, variable: VarId) -> CType {
-    let index = variable.0 as usize;
-    if index < expanded.variables.len() {
-        expanded.variables[index]
-    } else {
-        INT
-    }
-}
-
-fn element_kind(expanded: &Expanded, array: ArrayId) -> CType {
-    let index = array.0 as usize;
-    if index < expanded.arrays.len() {
-        expanded.arrays[index].kind
-    } else {
-        INT
-    }
-}
-
-fn lower_set(
-    expanded: &Expanded,
-    draft: &mut Draft,
-    variable: VarId,
-    value: &Pure,
-) -> Result<(), AllocError> {
-    let operand = emit_as(draft, value, variable_kind(expanded, variable))?;
-    draft.set(variable, operand)
-}
-
-fn lower_put(
-    expanded: &Expanded,
-    draft: &mut Draft,
-    array: ArrayId,
-    subscripts: &[Pure],
-    value: &Pure,
-    at: Place,
-) -> Result<(), AllocError> {
-    let kind = element_kind(expanded, array);
-    let args = emit_stored(draft, subscripts, value, kind)?;
-    let form = plain(OpKind::Store, width(kind));
-    draft.flagged(form, args, Some(array), at)?;
-    Ok(())
 }
 
 /// Pieces behind what the line has. What is never reached has its blocks, but makes no operation.
@@ -105,7 +56,7 @@ fn lower_piece(
     match piece {
         Piece::Set { variable, value } => {
             if line.is_live() {
-                lower_set(expanded, draft, *variable, value)?;
+                draft.set(expanded, *variable, value)?;
             }
             Ok(line)
         }
@@ -116,7 +67,7 @@ fn lower_piece(
             at,
         } => {
             if line.is_live() {
-                lower_put(expanded, draft, *array, subscripts, value, *at)?;
+                draft.put(expanded, *array, subscripts, value, *at)?;
             }
             Ok(line)
         }
@@ -170,7 +121,7 @@ fn end_fork(
 ) -> Result<Line, AllocError> {
     match fork {
         Piece::Fork { test, yes, no, .. } if line.is_live() => {
-            let test = emit_test(draft, test)?;
+            let test = draft.condition(test)?;
             lower_numbers(expanded, draft, yes)?;
             lower_numbers(expanded, draft, no)?;
             Ok(line.with_exit(Exit::Branch(test)))
@@ -190,7 +141,7 @@ fn lower_numbers(
     }
     for piece in branch {
         if let Piece::Set { variable, value } = piece {
-            lower_set(expanded, draft, *variable, value)?;
+            draft.set(expanded, *variable, value)?;
         }
     }
     Ok(())
@@ -270,7 +221,7 @@ fn lower_repeat(
 /// Ends the blocks before a loop's test by the test.
 fn finish_test(draft: &mut Draft, line: Line, test: &Pure) -> Result<Sequence, AllocError> {
     let line = if line.is_live() {
-        let test = emit_test(draft, test)?;
+        let test = draft.condition(test)?;
         line.with_exit(Exit::Branch(test))
     } else {
         line
@@ -362,7 +313,7 @@ fn end_pick(
     if !line.is_live() {
         return Ok(line);
     }
-    let cases = emit_cases(draft, test, labels)?;
+    let cases = draft.cases(test, labels)?;
     Ok(line.with_exit(Exit::Choose(cases)))
 }
 

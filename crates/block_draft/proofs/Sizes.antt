@@ -1,5 +1,5 @@
 -- Operators whose operands are still to come are no larger than the expression round them.
-use Rattle.std.proofs.Common.{◌≡◌, ℕ, ◌≤◌, List, [], ◌∷◌, ◌++◌, subst, ap, sym}
+use Rattle.std.proofs.Common.{ℕ, ◌≤◌, List, [], ◌∷◌, ◌++◌}
 use Rattle.std.specs.Borrow.{Bor}
 use Rattle.pieces.specs.declared.pure_expr.Pure.{Pure, size-Pure}
 

@@ -1,0 +1,4 @@
+pub mod Views
+pub mod Settings
+pub mod Operators
+pub mod Drafts
