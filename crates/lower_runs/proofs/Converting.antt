@@ -16,7 +16,7 @@ use Rattle.run_steps.specs.Valued.{is}
 use Rattle.block_meaning.specs.Bodies.{OpTree, Shapes, Words, Ranged, word, operand, operand_bits}
 use Rattle.lowering.specs.Operations as lower
 use Rattle.lowering.specs.Operations.{Emitted, Given, added, constant, plain, defined, conversion, resized, converted, converted_from, valued, tested, assigned, promoted_value, balanced, kind_of}
-use Rattle.lower_runs.specs.Words.{IsType, IsWord, conversion_word, resized_word, ConversionsAgree}
+use Rattle.operator_words.specs.Words.{IsType, IsWord, conversion_word, resized_word, ConversionsAgree}
 use Rattle.lower_runs.proofs.Growing.{Grows, grows_on, fits_grow, word_grows}
 use Rattle.lower_runs.proofs.Adding.{Adds, adds, adds_nothing}
 use Rattle.lower_runs.specs.Standing.{HasBits, Stands, Fits}

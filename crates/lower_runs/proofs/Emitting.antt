@@ -24,7 +24,7 @@ use Rattle.lowering.specs.Operations.{added, flagged, kind_of, valued}
 use Rattle.lowering.specs.Guards.{Guard, guarded}
 use Rattle.lowering.specs.Expressions.{Evaluated, Subscripts, loaded, subscript, left_type, right_type}
 use Rattle.lower_runs.specs.Early.{AreEarly}
-use Rattle.lower_runs.specs.Words.{IsType, IsWord, ConversionsAgree, OperatorsAgree, count_type, NaturalsAreWords}
+use Rattle.operator_words.specs.Words.{IsType, IsWord, ConversionsAgree, OperatorsAgree, count_type, NaturalsAreWords}
 use Rattle.lower_runs.specs.Suits.{shapes_of}
 use Rattle.lower_runs.proofs.Growing.{Grows, grows_on, word_grows, early_grows}
 use Rattle.lower_runs.proofs.Adding.{adds}

@@ -18,7 +18,7 @@ use Rattle.lowering.specs.Operations.{added, plain, balanced, tested}
 use Rattle.lowering.specs.Guards.{Guard, only_where, outside}
 use Rattle.lowering.specs.Expressions.{Evaluated, Next, with_value, with_truth, junction, joined, choice, operated}
 use Rattle.lower_runs.specs.Early.{AreEarly}
-use Rattle.lower_runs.specs.Words.{IsType, IsWord, ConversionsAgree, OperatorsAgree}
+use Rattle.operator_words.specs.Words.{IsType, IsWord, ConversionsAgree, OperatorsAgree}
 use Rattle.lower_runs.proofs.Growing.{Grows, grows_on, fits_grow, word_grows, early_grows}
 use Rattle.lower_runs.proofs.Adding.{Adds, adds}
 use Rattle.lower_runs.proofs.Converting.{bit, given_is, balanced_makes, tested_makes}

@@ -11,7 +11,3 @@ pub mod Straight
 pub mod Storing
 pub mod Writing
 pub mod Whole
-pub mod Remainders
-pub mod Conversions
-pub mod Resizing
-pub mod Operators

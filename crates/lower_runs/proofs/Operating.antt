@@ -18,7 +18,7 @@ use Rattle.lowering.specs.Operations.{Emitted, added, plain, defined, flagged, k
 use Rattle.lowering.specs.Guards.{Guard, guarded}
 use Rattle.lowering.specs.Expressions.{Evaluated, with_value, with_truth, under_guard, is_total, computed, operation, operated}
 use Rattle.lower_runs.specs.Early.{AreEarly}
-use Rattle.lower_runs.specs.Words.{IsWord, Agrees, ConversionsAgree}
+use Rattle.operator_words.specs.Words.{IsWord, Agrees, ConversionsAgree}
 use Rattle.lower_runs.proofs.Growing.{Grows, grows_on, words_more}
 use Rattle.lower_runs.proofs.Adding.{Adds, adds}
 use Rattle.lower_runs.proofs.Converting.{bit, GivenFits, GivenHas}

@@ -10,7 +10,7 @@ use Rattle.piece_meaning.specs.Values.{Store, lengths_in}
 use Rattle.piece_meaning.specs.Pieces.{Frame}
 use Rattle.block_meaning.specs.Bodies.{OpTree, Ranged, is_within}
 use Rattle.lowering.specs.Outs.{held}
-use Rattle.lower_runs.specs.Words.{IsWord, NaturalsAreWords}
+use Rattle.operator_words.specs.Words.{IsWord, NaturalsAreWords}
 use Rattle.lower_runs.specs.Suits.{shapes_of}
 use Rattle.lower_runs.proofs.Growing.{Grows, fits_grow, word_grows}
 use Rattle.lower_runs.specs.Showing.{ArraysShown, Shows}

@@ -21,7 +21,7 @@ use Rattle.lowering.specs.Operations.{Emitted, entry_value}
 use Rattle.lowering.specs.Outs.{operand_eq, held, without, own_out, with_out}
 use Rattle.lowering.specs.Expressions.{emitted}
 use Rattle.lowering.specs.Blocks.{type_of, value_as, set, condition}
-use Rattle.lower_runs.specs.Words.{IsWord, ConversionsAgree, OperatorsAgree, NaturalsAreWords}
+use Rattle.operator_words.specs.Words.{IsWord, ConversionsAgree, OperatorsAgree, NaturalsAreWords}
 use Rattle.lower_runs.specs.Suits.{Suits, shapes_of, scope_of}
 use Rattle.lower_runs.proofs.Growing.{Grows, grows_on}
 use Rattle.lower_runs.proofs.Converting.{bit, assigned_makes, tested_makes}

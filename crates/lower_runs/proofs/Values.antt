@@ -26,7 +26,7 @@ use Rattle.lowering.specs.Operations.{Emitted, added, constant, plain, kind_of, 
 use Rattle.lowering.specs.Outs.{held}
 use Rattle.lowering.specs.Guards.{Guard}
 use Rattle.lowering.specs.Expressions.{Evaluated, Next, with_truth, emitted, emitted_all, left_type, right_type, unary, unary_of, binary, joined, cast_to}
-use Rattle.lower_runs.specs.Words.{IsType, IsWord, ConversionsAgree, OperatorsAgree, NaturalsAreWords}
+use Rattle.operator_words.specs.Words.{IsType, IsWord, ConversionsAgree, OperatorsAgree, NaturalsAreWords}
 use Rattle.lower_runs.specs.Suits.{Suits, EachSuits, shapes_of}
 use Rattle.lower_runs.proofs.Growing.{grows_nothing, grows_on}
 use Rattle.lower_runs.proofs.Adding.{adds, adds_nothing}

@@ -6,24 +6,25 @@ use Rattle.piece_meaning.specs.Pieces as piece
 use Rattle.block_meaning.specs.Bodies.{Ranged}
 use Rattle.lowering.specs.Blocks as block
 use Rattle.lower_runs.specs.Laws.{ValuesAreComputed, ConditionsAreComputed, SetsAreShown, PutsAreShown}
-use Rattle.lower_runs.proofs.Conversions.{naturals_are_words}
-use Rattle.lower_runs.proofs.Resizing.{conversions_agree}
+use Rattle.operator_words.proofs.Conversions.{naturals_are_words}
+use Rattle.operator_words.proofs.Resizing.{conversions_agree}
+use Rattle.operator_words.proofs.Whole.{operators_agree}
 use Rattle.lower_runs.proofs.Straight.{value_computed, condition_computed, set_shown}
 use Rattle.lower_runs.proofs.Writing.{put_shown}
 
 pub values_computed : ValuesAreComputed
-values_computed agree f hidden t b r s at x k n suits is_ =
-    let h = value_computed f hidden t conversions_agree agree naturals_are_words b r s at.stands at.shows x k n suits is_ in
+values_computed f hidden t b r s at x k n suits is_ =
+    let h = value_computed f hidden t conversions_agree operators_agree naturals_are_words b r s at.stands at.shows x k n suits is_ in
     (h.next, h.stands, ap (λ (y : Ranged). y.words) h.grows.same, h.holds)
 
 pub conditions_computed : ConditionsAreComputed
-conditions_computed agree f hidden t b r s at x n suits is_ =
-    let h = condition_computed f hidden t conversions_agree agree naturals_are_words b r s at.stands at.shows x n suits is_ in
+conditions_computed f hidden t b r s at x n suits is_ =
+    let h = condition_computed f hidden t conversions_agree operators_agree naturals_are_words b r s at.stands at.shows x n suits is_ in
     (h.next, h.stands, ap (λ (y : Ranged). y.words) h.grows.same, h.holds)
 
 pub sets_shown : SetsAreShown
-sets_shown agree f hidden t b r s at v x k n there suits is_ =
-    let h = set_shown f hidden t conversions_agree agree naturals_are_words b r s at.stands at.shows v x k n there suits is_ in
+sets_shown f hidden t b r s at v x k n there suits is_ =
+    let h = set_shown f hidden t conversions_agree operators_agree naturals_are_words b r s at.stands at.shows v x k n there suits is_ in
     (h.next, record { stands = h.stands; shows = h.shows })
 
 same_kind : (a : Option ArrayTree) → block.kind_in a ≡ piece.kind_in a
@@ -31,6 +32,6 @@ same_kind None = refl
 same_kind (Some a) = refl
 
 pub puts_shown : PutsAreShown
-puts_shown agree f hidden t b r s at array subs x place is_ i n short suits_subs suits_x subs_are x_is there =
-    let h = put_shown f hidden t conversions_agree agree naturals_are_words b r s at.stands at.shows array subs x place (piece.kind_at f.arrays array.0) is_ i n refl (same_kind (slice_get f.arrays array.0)) short suits_subs suits_x subs_are x_is there in
+puts_shown f hidden t b r s at array subs x place is_ i n short suits_subs suits_x subs_are x_is there =
+    let h = put_shown f hidden t conversions_agree operators_agree naturals_are_words b r s at.stands at.shows array subs x place (piece.kind_at f.arrays array.0) is_ i n refl (same_kind (slice_get f.arrays array.0)) short suits_subs suits_x subs_are x_is there in
     (h.next, record { stands = h.stands; shows = h.shows })

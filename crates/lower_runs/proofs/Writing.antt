@@ -23,7 +23,7 @@ use Rattle.lowering.specs.Outs.{held}
 use Rattle.lowering.specs.Expressions.{emitted, emitted_all}
 use Rattle.lowering.specs.Blocks.{element_type, put}
 use Rattle.lower_runs.specs.Early.{IsEarly}
-use Rattle.lower_runs.specs.Words.{IsWord, ConversionsAgree, OperatorsAgree, NaturalsAreWords}
+use Rattle.operator_words.specs.Words.{IsWord, ConversionsAgree, OperatorsAgree, NaturalsAreWords}
 use Rattle.lower_runs.specs.Suits.{Suits, EachSuits, shapes_of, scope_of}
 use Rattle.lower_runs.proofs.Growing.{early_more, word_more, bits_more, grows_on}
 use Rattle.lower_runs.proofs.Adding.{stands_more}

@@ -1,4 +1,4 @@
--- What the block that is open keeps as pieces without control of their own add to it, where operators give on words what they give on numbers.
+-- What the block that is open keeps as pieces without control of their own add to it.
 use Rattle.std.specs.Prelude.{◌≡◌, ℕ, Bool, ℤ, List, slice_get, Some}
 use Rattle.hls_base.specs.declared.place.Place.{Place}
 use Rattle.hls_base.specs.declared.number.ArrayId.{ArrayId}
@@ -15,7 +15,7 @@ use Rattle.block_meaning.specs.Bodies.{Words, Ranged, operand}
 use Rattle.block_meaning.specs.Trees.{BlockTree}
 use Rattle.lowering.specs.Operations.{Emitted}
 use Rattle.lowering.specs.Blocks.{value_as, condition, set, put}
-use Rattle.lower_runs.specs.Words.{IsWord, OperatorsAgree}
+use Rattle.operator_words.specs.Words.{IsWord}
 use Rattle.lower_runs.specs.Suits.{Suits, EachSuits, shapes_of, scope_of}
 use Rattle.lower_runs.specs.Standing.{Stands}
 use Rattle.lower_runs.specs.Showing.{IsAt, AreShort, without_number}
@@ -26,23 +26,23 @@ Performs f t r x P = (next : Ranged) × Stands (shapes_of f) t x.ops next × (ne
 
 -- Where an expression has a value, its operations give it, as one of the type to which it is converted.
 abbrev pub ValuesAreComputed : Type 0
-ValuesAreComputed = OperatorsAgree → (f : Frame) (hidden : ℕ → Bool) (t : Words) (b : BlockTree) (r : Ranged) (s : Store) → IsAt f hidden t b r s
+ValuesAreComputed = (f : Frame) (hidden : ℕ → Bool) (t : Words) (b : BlockTree) (r : Ranged) (s : Store) → IsAt f hidden t b r s
     → (x : PureTree) (k : CType) (n : ℤ) → Suits f hidden x → value f.arrays x s ≡ is n → Performs f t r (value_as b x k) (IsWord k (convert k n))
 
 -- As a condition they give the bit that says whether it is other than 0.
 abbrev pub ConditionsAreComputed : Type 0
-ConditionsAreComputed = OperatorsAgree → (f : Frame) (hidden : ℕ → Bool) (t : Words) (b : BlockTree) (r : Ranged) (s : Store) → IsAt f hidden t b r s
+ConditionsAreComputed = (f : Frame) (hidden : ℕ → Bool) (t : Words) (b : BlockTree) (r : Ranged) (s : Store) → IsAt f hidden t b r s
     → (x : PureTree) (n : ℤ) → Suits f hidden x → value f.arrays x s ≡ is n → Performs f t r (condition x b) (λ w. w ≡ truth (is_true n))
 
 -- Behind a variable that is set the block shows the store in which it has the value.
 abbrev pub SetsAreShown : Type 0
-SetsAreShown = OperatorsAgree → (f : Frame) (hidden : ℕ → Bool) (t : Words) (b : BlockTree) (r : Ranged) (s : Store) → IsAt f hidden t b r s
+SetsAreShown = (f : Frame) (hidden : ℕ → Bool) (t : Words) (b : BlockTree) (r : Ranged) (s : Store) → IsAt f hidden t b r s
     → (variable : VarId) (x : PureTree) (k : CType) (n : ℤ) → slice_get f.variables variable.0 ≡ Some k → Suits f hidden x → value f.arrays x s ≡ is n
     → (next : Ranged) × IsAt f (without_number hidden variable.0) t (set (scope_of f) variable x b) next (with_variable variable.0 (convert k n) s)
 
 -- Behind an element that is written, with subscripts within their dimensions, it shows the store in which it has the value.
 abbrev pub PutsAreShown : Type 0
-PutsAreShown = OperatorsAgree → (f : Frame) (hidden : ℕ → Bool) (t : Words) (b : BlockTree) (r : Ranged) (s : Store) → IsAt f hidden t b r s
+PutsAreShown = (f : Frame) (hidden : ℕ → Bool) (t : Words) (b : BlockTree) (r : Ranged) (s : Store) → IsAt f hidden t b r s
     → (array : ArrayId) (subscripts : PureTrees) (x : PureTree) (at : Place) (is_ : List ℤ) (i : ℕ) (n : ℤ) → AreShort (lengths_in (slice_get f.arrays array.0)) → EachSuits f hidden subscripts → Suits f hidden x
     → values f.arrays subscripts s ≡ is is_ → value f.arrays x s ≡ is n → element_number f.arrays array.0 is_ ≡ Some i
     → (next : Ranged) × IsAt f hidden t (put (scope_of f) array subscripts x at b) next (with_element array.0 i (convert (kind_at f.arrays array.0) n) s)

@@ -1,5 +1,4 @@
 pub mod Early
-pub mod Words
 pub mod Suits
 pub mod Standing
 pub mod Showing

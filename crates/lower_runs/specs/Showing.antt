@@ -9,7 +9,7 @@ use Rattle.piece_meaning.specs.Pieces.{Frame, kind_at}
 use Rattle.block_meaning.specs.Bodies.{OpTree, Words, Ranged, operand, address_of}
 use Rattle.block_meaning.specs.Trees.{BlockTree}
 use Rattle.lowering.specs.Outs.{held}
-use Rattle.lower_runs.specs.Words.{IsWord}
+use Rattle.operator_words.specs.Words.{IsWord}
 use Rattle.lower_runs.specs.Suits.{shapes_of}
 use Rattle.lower_runs.specs.Standing.{Stands, Fits}
 

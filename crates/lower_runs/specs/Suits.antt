@@ -8,7 +8,7 @@ use Rattle.pieces.specs.Kind.{kind}
 use Rattle.piece_meaning.specs.Pieces.{Frame, kind_at}
 use Rattle.block_meaning.specs.Bodies.{Shapes}
 use Rattle.lowering.specs.Blocks.{Scope}
-use Rattle.lower_runs.specs.Words.{IsType, IsWord}
+use Rattle.operator_words.specs.Words.{IsType, IsWord}
 
 -- the widths of a program's variables, and the lengths of its arrays
 abbrev pub shapes_of : Frame → Shapes

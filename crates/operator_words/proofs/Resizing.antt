@@ -11,13 +11,13 @@ use Rattle.c_value.specs.Values.{IsOf, bits_of, integer, width, is_signed, patte
 use Rattle.c_meaning.proofs.Conversions.{conversions_are_congruent}
 use Rattle.ir_core.specs.declared.body.OpKind.TheVariants as o
 use Rattle.ir_operation.specs.Value as op
-use Rattle.lower_runs.specs.Words.{IsWord, resized_word, ConversionsAgree}
-use Rattle.lower_runs.proofs.Remainders.{remainder, remainder_congruent, same_remainder}
-use Rattle.lower_runs.proofs.Conversions.{converted_number, word_number, word_zero, promoted_number}
+use Rattle.operator_words.specs.Words.{IsWord, resized_word, ConversionsAgree}
+use Rattle.operator_words.proofs.Remainders.{remainder, remainder_congruent, same_remainder}
+use Rattle.operator_words.proofs.Conversions.{converted_number, word_number, word_zero, promoted_number}
 
 -- ---- the operations' patterns and numbers are those of types
 
-bits_case : (P : ℕ → Type 0) → P 8 → P 16 → P 32 → P 64 → (bits : ℕ) → P (bits_of bits)
+pub bits_case : (P : ℕ → Type 0) → P 8 → P 16 → P 32 → P 64 → (bits : ℕ) → P (bits_of bits)
 bits_case P p8 p16 p32 p64 bits = at (nat_le bits 8) (nat_le bits 16) (nat_le bits 32) where
   at : (a b c : Bool) → P (if a then 8 else (if b then 16 else (if c then 32 else 64)))
   at true b c = p8
@@ -29,7 +29,7 @@ pub count_is : (k : CType) → op.count_of (width k) ≡ 2 ^ width k
 count_is type.Bool = refl
 count_is (type.Int signed bits) = bits_case (λ n. op.count_of n ≡ 2 ^ n) refl refl refl refl bits
 
-half_is : (bits : ℕ) → op.half_of (bits_of bits) ≡ 2 ^ (bits_of bits - 1)
+pub half_is : (bits : ℕ) → op.half_of (bits_of bits) ≡ 2 ^ (bits_of bits - 1)
 half_is bits = bits_case (λ n. op.half_of n ≡ 2 ^ (n - 1)) refl refl refl refl bits
 
 pub pattern_is : (k : CType) (n : ℤ) → op.pattern (width k) n ≡ remainder n (2 ^ width k)
@@ -55,7 +55,7 @@ number_is (type.Int true bits) w =
 -- ---- conversions
 
 -- the pattern of a number that is converted
-converted_pattern : (signed : Bool) (bits : ℕ) (v : ℤ) → remainder v (2 ^ bits_of bits) ≡ pattern (integer signed bits) (convert (integer signed bits) v)
+pub converted_pattern : (signed : Bool) (bits : ℕ) (v : ℤ) → remainder v (2 ^ bits_of bits) ≡ pattern (integer signed bits) (convert (integer signed bits) v)
 converted_pattern signed bits v =
     let h = (conversions_are_congruent signed bits v).congruent in
     same_remainder (2 ^ bits_of bits) v (convert (integer signed bits) v) (pow_pos (bits_of bits)) (record { before = h.before; behind = h.behind; same = h.same })

@@ -10,8 +10,8 @@ use Rattle.c_token.specs.declared.ctype.CType.{CType}
 use Rattle.c_token.specs.declared.ctype.CType.TheVariants as type
 use Rattle.c_value.specs.Values.{IsOf, bits_of, integer, int_type, width, pattern, number_of, convert, promoted}
 use Rattle.c_meaning.proofs.Conversions.{conversions_are_congruent}
-use Rattle.lower_runs.specs.Words.{IsType, IsWord, NaturalsAreWords}
-use Rattle.lower_runs.proofs.Remainders.{remainder_small}
+use Rattle.operator_words.specs.Words.{IsType, IsWord, NaturalsAreWords}
+use Rattle.operator_words.proofs.Remainders.{remainder_small}
 
 -- ---- widths
 

@@ -8,10 +8,10 @@ use Rattle.c_value.specs.Values.{width, is_signed, pattern}
 use Rattle.ir_core.specs.declared.body.OpKind.TheVariants as o
 use Rattle.ir_core.specs.declared.body.Simple.TheVariants as s
 use Rattle.ir_operation.specs.Value as op
-use Rattle.lower_runs.specs.Words.{IsWord}
-use Rattle.lower_runs.proofs.Remainders.{Congruent, remainder_below, remainder_congruent, remainder_small, same_remainder}
-use Rattle.lower_runs.proofs.Conversions.{word_number}
-use Rattle.lower_runs.proofs.Resizing.{pattern_is, number_is}
+use Rattle.operator_words.specs.Words.{IsWord}
+use Rattle.operator_words.proofs.Remainders.{Congruent, remainder_below, remainder_congruent, remainder_small, same_remainder}
+use Rattle.operator_words.proofs.Conversions.{word_number}
+use Rattle.operator_words.proofs.Resizing.{pattern_is, number_is}
 
 pub word_below : (k : CType) (v : ℤ) (w : ℕ) → IsWord k v w → w < 2 ^ width k
 word_below k v w h = subst (λ n. n < 2 ^ width k) (sym h.word) (remainder_below v (2 ^ width k) (pow_pos (width k)))

@@ -1,0 +1,9 @@
+pub mod Remainders
+pub mod Products
+pub mod Conversions
+pub mod Resizing
+pub mod Ranges
+pub mod Results
+pub mod Operators
+pub mod Agreeing
+pub mod Whole
