@@ -1,0 +1,10 @@
+pub mod Ends
+pub mod Parts
+pub mod Expressions
+pub mod Actions
+pub mod Arms
+pub mod Statements
+pub mod Calls
+pub mod Grammar
+pub mod Elaborated
+pub mod Whole

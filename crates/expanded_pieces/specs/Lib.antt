@@ -1,0 +1,4 @@
+pub mod Jumps
+pub mod Lengths
+pub mod Beginning
+pub mod Laws
