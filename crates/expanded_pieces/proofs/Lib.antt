@@ -8,3 +8,4 @@ pub mod Calls
 pub mod Grammar
 pub mod Elaborated
 pub mod Whole
+pub mod Examples

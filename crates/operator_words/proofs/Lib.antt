@@ -7,3 +7,4 @@ pub mod Results
 pub mod Operators
 pub mod Agreeing
 pub mod Whole
+pub mod Examples
