@@ -4,7 +4,6 @@ use Rattle.std.proofs.lemmas.Bool.{false≢true}
 use Rattle.hls_base.specs.declared.place.Place.{Place}
 use Rattle.c_value.specs.Values.{int_type}
 use Rattle.core_program.specs.Core as core
-use Rattle.core_program.specs.Core.{CoreTree, CoreStmtTree}
 use Rattle.expanded_pieces.specs.Jumps.{JumpsFit}
 
 module _ (at : Place) where
