@@ -98,10 +98,10 @@ either_way : (y z : Bool) → (not y || z) ≡ true → y ≡ true → z ≡ tru
 either_way true z h e = h
 either_way false z h e = absurd (true≢false (sym e))
 
-fourth : {A : Type 0} (ws xs ys zs : List A) → ws ++ (xs ++ (ys ++ zs)) ≡ [] → zs ≡ []
+pub fourth : {A : Type 0} (ws xs ys zs : List A) → ws ++ (xs ++ (ys ++ zs)) ≡ [] → zs ≡ []
 fourth ws xs ys zs h = right_nil ys zs (right_nil xs (ys ++ zs) (right_nil ws (xs ++ (ys ++ zs)) h))
 
-drop_one : {A : Type 0} (x : A) (xs : List A) → drop 1 (x ∷ xs) ≡ xs
+pub drop_one : {A : Type 0} (x : A) (xs : List A) → drop 1 (x ∷ xs) ≡ xs
 drop_one x [] = refl
 drop_one x (y ∷ xs) = refl
 

@@ -34,11 +34,11 @@ use Rattle.elaborate_runs.proofs.FaultlessStatements.{form_of, body_resolved}
 -- ---- names of file scope are declared once
 
 -- the names behind all of these items
-abbrev names_all : List Declared → List ItemTree → List Declared
+abbrev pub names_all : List Declared → List ItemTree → List Declared
 names_all names [] = names
 names_all names (item ∷ items) = names_all (with_item item names) items
 
-abbrev Keeps : List Declared → List Declared → Type 0
+abbrev pub Keeps : List Declared → List Declared → Type 0
 Keeps names more = (text : List ℕ) (σ : Sense) → sense_of text names ≡ Some σ → sense_of text more ≡ Some σ
 
 absent : (q : Option Sense) (σ : Sense) → is_some q ≡ false → q ≡ Some σ → ⊥
@@ -53,7 +53,7 @@ kept_one names text name σ new false e fresh h = h
 keeps_new : (names : List Declared) (name : List ℕ) (new : Sense) → is_some (sense_of name names) ≡ false → Keeps names (record { name = name; sense = new } ∷ names)
 keeps_new names name new fresh text σ h = kept_one names text name σ new (bytes_eq text name) refl fresh h
 
-keeps_both : (names more most : List Declared) → Keeps names more → Keeps more most → Keeps names most
+pub keeps_both : (names more most : List Declared) → Keeps names more → Keeps more most → Keeps names most
 keeps_both names more most a b text σ h = b text σ (a text σ h)
 
 since_start : (names : List Declared) → names_since 0 names ≡ names
@@ -63,7 +63,7 @@ fresh_object : (bodies : List (List ℕ)) (names : List Declared) (o : ObjectTre
 fresh_object bodies names o h =
     subst (λ l. is_some (sense_of o.name l) ≡ false) (since_start names) (unbroken (is_declared_since 0 o.name names) 8 o.at (left_nil (fault_if (is_declared_since 0 o.name names) 8 o.at) _ h))
 
-keeps_objects : (bodies : List (List ℕ)) (os : List ObjectTree) (names : List Declared) → objects_faults bodies true 0 names os ≡ [] → Keeps names (with_objects os names)
+pub keeps_objects : (bodies : List (List ℕ)) (os : List ObjectTree) (names : List Declared) → objects_faults bodies true 0 names os ≡ [] → Keeps names (with_objects os names)
 keeps_objects bodies [] names h = λ text σ e. e
 keeps_objects bodies (o ∷ os) names h =
     let one = left_nil (object_faults bodies true 0 names o) (objects_faults bodies true 0 (with_object o names) os) h in
@@ -77,7 +77,7 @@ keeps_if f names false e = keeps_new names f.name (function f.result (param_shap
 keeps_function : (f : FunctionTree) (names : List Declared) → Keeps names (with_function f names)
 keeps_function f names = keeps_if f names (is_some (sense_of f.name names)) refl
 
-keeps_items : (bodies before : List (List ℕ)) (items : List ItemTree) (names : List Declared) → items_faults bodies before names items ≡ [] → Keeps names (names_all names items)
+pub keeps_items : (bodies before : List (List ℕ)) (items : List ItemTree) (names : List Declared) → items_faults bodies before names items ≡ [] → Keeps names (names_all names items)
 keeps_items bodies before [] names h = λ text σ e. e
 keeps_items bodies before (tree.objects os ∷ items) names h =
     let a = objects_faults bodies true 0 names os in
@@ -224,10 +224,10 @@ function_senses : (r s : Option CType) (xs ys : List Shape) → Some (function r
 function_senses r s xs ys h = let e : xs ≡ ys = cc in e
 
 module _ (items : List ItemTree) (h : items_faults (body_names items) [] [] items ≡ []) where
-  abbrev final : List Declared
+  abbrev pub final : List Declared
   final = names_all [] items
 
-  abbrev resolutions : List Binding
+  abbrev pub resolutions : List Binding
   resolutions = (file_scene_of items).names
 
   knows_sense : (text : List ℕ) (q : Option Sense) → sense_of text final ≡ q → KnowsSense items (body_names items) text (object_found text resolutions) q
@@ -239,7 +239,7 @@ module _ (items : List ItemTree) (h : items_faults (body_names items) [] [] item
       (f.0, f.1, subst (λ l. AreAlike l f.0.params) (function_senses s.0 result s.1 params (sym s.2 ∙ e)) s.3)
 
   -- and so before
-  knows_before : (names : List Declared) → Keeps names final → Knows items (body_names items) names resolutions
+  pub knows_before : (names : List Declared) → Keeps names final → Knows items (body_names items) names resolutions
   knows_before names keeps text = by (sense_of text names) refl
     where
       by : (q : Option Sense) → sense_of text names ≡ q → KnowsSense items (body_names items) text (object_found text resolutions) q

@@ -26,7 +26,7 @@ use Rattle.elaborate_runs.proofs.Sizes.{left_nil, right_nil, unbroken, sized, sh
 use Rattle.elaborate_runs.proofs.Faultless.{knows_declared, resolved, option_resolved, actions_resolved, init_resolved}
 
 -- the names behind a statement are those that it declares itself
-behind : (b : StmtTree) (names : List Declared) → DeclaresInBlocks b → names_behind names b ≡ with_objects (declared_by b) names
+pub behind : (b : StmtTree) (names : List Declared) → DeclaresInBlocks b → names_behind names b ≡ with_objects (declared_by b) names
 behind (tree.declare os) names h = refl
 behind (tree.case_ v body at) names h = behind body names h.1 ∙ ap (λ l. with_objects l names) h.0
 behind (tree.block body) names h = refl
@@ -166,7 +166,7 @@ module _ (items : List ItemTree) (bodies : List (List ℕ)) where
   named_one p start names true e h = ap (λ (z : Bool). if z then with_object p.object names else names) e
   named_one p start names false e h = absurd cc
 
-  params_named : (ps : List ParamTree) (start : ℕ) (names : List Declared) → params_faults bodies true start names ps ≡ [] → (with_params ps names ≡ with_objects (objects_of_params ps) names) × Each HasLengths (objects_of_params ps)
+  pub params_named : (ps : List ParamTree) (start : ℕ) (names : List Declared) → params_faults bodies true start names ps ≡ [] → (with_params ps names ≡ with_objects (objects_of_params ps) names) × Each HasLengths (objects_of_params ps)
   params_named [] start names h = (refl, tt)
   params_named (p ∷ ps) start names h =
       let a = param_faults bodies true start names p in

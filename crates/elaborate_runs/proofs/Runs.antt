@@ -101,7 +101,7 @@ module _ (p : ProgramTree) (top : ℕ) (f : FunctionTree) (body : StmtTrees) (ha
 -- ---- the top function
 
 -- the function with a body that is this item, and what it becomes
-abbrev Topped : List ItemTree → Option ItemTree → List CoreFunctionTree → ℕ → Type 0
+abbrev pub Topped : List ItemTree → Option ItemTree → List CoreFunctionTree → ℕ → Type 0
 Topped items item functions number =
     (f : FunctionTree) × (body : StmtTrees) × (function_at item ≡ Some f) × (f.body ≡ Some body)
     × (slice_get functions number ≡ Some (function_elaborated (signatures items) (file_scene_of items) f body)) × BodyResolved items (file_scene_of items) (objects_of_params f.params) (Some body)
@@ -116,7 +116,7 @@ topped_behind : (items : List ItemTree) (f : FunctionTree) (b : Option StmtTrees
 topped_behind items f None item rest fs h = h
 topped_behind items f (Some body) item rest fs h = h
 
-topped : (items sub : List ItemTree) (top : ℕ) (name : List ℕ) → Each (ItemResolved items (file_scene_of items)) sub → body_name_of (slice_get sub top) ≡ Some name
+pub topped : (items sub : List ItemTree) (top : ℕ) (name : List ℕ) → Each (ItemResolved items (file_scene_of items)) sub → body_name_of (slice_get sub top) ≡ Some name
     → Topped items (slice_get sub top) (functions_elaborated (signatures items) (file_scene_of items) sub) (length (signatures (take top sub)))
 topped items [] top name known e = absurd (none-some name e)
 topped items (tree.objects os ∷ sub) zero name known e = absurd (none-some name e)

@@ -1,0 +1,17 @@
+pub mod Lists
+pub mod Counts
+pub mod Graphs
+pub mod Ranks
+pub mod Clean
+pub mod Naming
+pub mod Accesses
+pub mod Expressions
+pub mod Stages
+pub mod Declarations
+pub mod Statements
+pub mod Files
+pub mod Functions
+pub mod Grammar
+pub mod Tokens
+pub mod Inputs
+pub mod Whole
