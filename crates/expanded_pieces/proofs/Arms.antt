@@ -12,18 +12,18 @@ use Rattle.lowered_trees.specs.Fitting.{ArmPiecesFit, with_ends, ends_before_arm
 use Rattle.expanded_pieces.proofs.Ends.{arm_ends_more, arm_append}
 use Rattle.expanded_pieces.proofs.Parts.{Needs, Meets, EachArray, Fits, meets_more}
 
-named_append : (xs ys : List Label) (i : ℕ) → is_named xs i ≡ false → is_named ys i ≡ false → is_named (xs ++ ys) i ≡ false
+pub named_append : (xs ys : List Label) (i : ℕ) → is_named xs i ≡ false → is_named ys i ≡ false → is_named (xs ++ ys) i ≡ false
 named_append [] ys i h g = g
 named_append (l ∷ xs) ys i h g = either (l.target == i) (λ e. named_append xs ys i e g) h where
   either : (b : Bool) → (is_named xs i ≡ false → is_named (xs ++ ys) i ≡ false) → (b || is_named xs i) ≡ false → (b || is_named (xs ++ ys) i) ≡ false
   either true k e = e
   either false k e = k e
 
-named_first : (xs ys : List Label) (i : ℕ) → is_named ys i ≡ false → is_named (xs ++ ys) i ≡ is_named xs i
+pub named_first : (xs ys : List Label) (i : ℕ) → is_named ys i ≡ false → is_named (xs ++ ys) i ≡ is_named xs i
 named_first [] ys i g = g
 named_first (l ∷ xs) ys i g = ap (λ b. l.target == i || b) (named_first xs ys i g)
 
-named_second : (xs ys : List Label) (i : ℕ) → is_named xs i ≡ false → is_named (xs ++ ys) i ≡ is_named ys i
+pub named_second : (xs ys : List Label) (i : ℕ) → is_named xs i ≡ false → is_named (xs ++ ys) i ≡ is_named ys i
 named_second [] ys i h = refl
 named_second (l ∷ xs) ys i h = either (l.target == i) (λ e. named_second xs ys i e) h where
   either : (b : Bool) → (is_named xs i ≡ false → is_named (xs ++ ys) i ≡ is_named ys i) → (b || is_named xs i) ≡ false → (b || is_named (xs ++ ys) i) ≡ is_named ys i

@@ -153,7 +153,7 @@ module _ (Q : List ℕ → Type 0) (functions : List CoreFunctionTree) (bodies :
   opened_as_fits n g callees None h given c at s = gives_fits Q n None s
   opened_as_fits n g callees (Some fn) h given c at s = opened_fits Q n g callees fn (h fn refl).0 (h fn refl).1 given c at s
 
-  calls_fit : (m : ℕ) → CalleesFit Q (calls functions m)
+  pub calls_fit : (m : ℕ) → CalleesFit Q (calls functions m)
   calls_fit zero n callee given c at s = gives_fits Q n None s
   calls_fit (suc m) n callee given c at s = opened_as_fits n (calls functions m) (calls_fit m) (slice_get functions callee) (λ f e. bodies callee f e) given c at s
 
@@ -184,7 +184,7 @@ top_fits Q p files bodies fn h s =
 
 -- ---- jumps
 
-any_object : (os : List CoreObjectTree) → EachObject (λ lengths. Unit {0}) os
+pub any_object : (os : List CoreObjectTree) → EachObject (λ lengths. Unit {0}) os
 any_object [] = tt
 any_object (o ∷ os) = (tt, any_object os)
 

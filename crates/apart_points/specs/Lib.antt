@@ -1,0 +1,4 @@
+pub mod Apart
+pub mod Points
+pub mod Places
+pub mod Laws

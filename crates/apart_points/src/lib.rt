@@ -1,0 +1,4 @@
+//! The points of expanded programs differ.
+#![tactic(auto)]
+
+pub mod laws;

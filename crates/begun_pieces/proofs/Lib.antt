@@ -1,0 +1,15 @@
+pub mod Hiding
+pub mod Ends
+pub mod Agreeing
+pub mod Suiting
+pub mod Well
+pub mod Parts
+pub mod Forks
+pub mod Expressions
+pub mod Actions
+pub mod Arms
+pub mod Statements
+pub mod Homes
+pub mod Calls
+pub mod Whole
+pub mod Examples

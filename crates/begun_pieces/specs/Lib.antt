@@ -1,0 +1,5 @@
+pub mod Reads
+pub mod Beginning
+pub mod Points
+pub mod Typed
+pub mod Laws

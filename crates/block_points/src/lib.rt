@@ -1,0 +1,4 @@
+//! The points of blocks differ.
+#![tactic(auto)]
+
+pub mod laws;

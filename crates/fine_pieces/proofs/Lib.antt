@@ -1,0 +1,4 @@
+pub mod Dealing
+pub mod Whole
+pub mod Typing
+pub mod Sources

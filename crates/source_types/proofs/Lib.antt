@@ -1,0 +1,3 @@
+pub mod Replaced
+pub mod Types
+pub mod Whole

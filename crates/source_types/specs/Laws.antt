@@ -1,0 +1,27 @@
+-- Types of C among the tokens of a source.
+use Rattle.std.specs.Prelude.{◌≡◌, ℕ, List, [], Some}
+use Rattle.hls_base.specs.declared.point.Point.{Point}
+use Rattle.hls_base.specs.declared.place.Place.{Place}
+use Rattle.c_token.specs.declared.token.Token.{Token}
+use Rattle.c_token.specs.SourceText.{Spells}
+use Rattle.c_token.specs.Replacement.{Becomes}
+use Rattle.c_tree.specs.Terminals.{terminals}
+use Rattle.c_tree.specs.Tree.{ProgramTree}
+use Rattle.c_tree.specs.Grammar.{DerivesProgram}
+use Rattle.c_checked.specs.Programs.{top_name, program_faults}
+use Rattle.c_elaborate.specs.Programs.{program_elaborated}
+use Rattle.c_expand.specs.Expansion.{expansion}
+use Rattle.piece_meaning.specs.Runs.{frame_of}
+use Rattle.typed_pieces.specs.Sources.{TokensHaveTypes}
+use Rattle.begun_pieces.specs.Points.{begins_at}
+use Rattle.flat_runs.specs.Laws.{IsFine}
+
+-- Each constant and each type name among the tokens that a source becomes has a type of C.
+abbrev pub SourceTokensHaveTypes : Type 0
+SourceTokensHaveTypes = (source : List ℕ) (tokens replaced : List Token) → Spells source tokens → Becomes tokens replaced → TokensHaveTypes (terminals replaced)
+
+-- The pieces of the program that a source is are as all passes on blocks ask, where it has no fault.
+abbrev pub SourcesHaveFinePieces : Type 0
+SourcesHaveFinePieces = (source : List ℕ) (tokens replaced : List Token) (end : Place) (p : ProgramTree) (top : ℕ) (name : List ℕ) → Spells source tokens → Becomes tokens replaced
+    → DerivesProgram (terminals replaced) end p → top_name p top ≡ Some name → program_faults p name ≡ []
+    → (start : Point) × IsFine (frame_of (expansion (program_elaborated p top))) (begins_at (expansion (program_elaborated p top)).pieces) (expansion (program_elaborated p top)).pieces start

@@ -1,0 +1,12 @@
+//! Laws of the types of a source's tokens.
+ghost use Rattle.source_types.specs.Laws.{SourceTokensHaveTypes, SourcesHaveFinePieces};
+
+/// The constants and type names of a source have types of C, also behind the replacement of words.
+pub fn source_tokens_have_types()
+    ensures { SourceTokensHaveTypes }
+{}
+
+/// So the pieces of a program without faults are as all passes on blocks ask, whatever its source is.
+pub fn sources_have_fine_pieces()
+    ensures { SourcesHaveFinePieces }
+{}

@@ -1,0 +1,172 @@
+-- Forks, assignments and values that are not used make typed pieces.
+use Rattle.std.proofs.Common.{◌≡◌, ◌∙◌, ◌<◌, ℕ, ◌^◌, Bool, true, false, ◌&&◌, refl, ap, ap₂, subst, arith, List, slice_get, Option, Some, None, if◌then◌else◌}
+use Rattle.hls_base.specs.declared.place.Place.{Place}
+use Rattle.hls_base.specs.declared.point.PointKind.TheVariants as point
+use Rattle.hls_base.specs.declared.number.VarId.{VarId}
+use Rattle.c_token.specs.declared.ctype.CType.{CType}
+use Rattle.c_tree.specs.declared.operator.Binary.{Binary}
+use Rattle.c_value.specs.Values.{int_type, bool_type}
+use Rattle.c_value.specs.Operators.{binary_kind}
+use Rattle.core_program.specs.declared.expression.Cell.{Cell}
+use Rattle.pieces.specs.Trees as tree
+use Rattle.pieces.specs.Trees.{PureTree, PureTrees, PieceTree, piece_row}
+use Rattle.pieces.specs.Kind.{kind}
+use Rattle.piece_making.specs.declared.effects.Effects.{Effects}
+use Rattle.piece_making.specs.Acting.{acts}
+use Rattle.piece_making.specs.Making.{State, Part, gives, then_, emit, fresh}
+use Rattle.piece_making.specs.Saving.{save, is_logical}
+use Rattle.piece_making.specs.Calls.{Call, variable, array, point_in}
+use Rattle.piece_making.specs.Assigning.{Change, store, store_at, assigned, bumped, bumped_behind, new_value, computed, target_read, read_at, one}
+use Rattle.c_expand.specs.Expressions.{set_unused, discarded, arm, decided, to_bool, same, fork_of, is_or, forked, operated, chosen}
+use Rattle.expand_runs.specs.Sound.{Objects}
+use Rattle.operator_words.specs.Words.{IsType}
+use Rattle.typed_pieces.specs.Typed.{IsTyped, AreTyped, PiecesTyped}
+use Rattle.typed_pieces.specs.Worlds.{World, Later, Makes, MakesLater, Anything, IsValue, Value, Inside, frame_at}
+use Rattle.typed_pieces.specs.Standing.{Names}
+use Rattle.typed_pieces.proofs.Operating.{binary_type}
+use Rattle.typed_pieces.proofs.Typing.{number_typed, variable_typed, element_typed, binary_typed, choice_typed, cast_typed, kind_type}
+use Rattle.typed_pieces.proofs.Parts.{later_same, later_both, typed_later, each_later, pieces_later, then_makes, gives_makes, if_makes, emit_makes, fresh_makes, own_makes, inside_makes}
+use Rattle.typed_pieces.proofs.Saved.{save_makes}
+
+pub int_typed : (s : State) (v : ℕ) → v < 2 ^ 31 → IsTyped (frame_at s) (tree.number v int_type)
+int_typed s v h = number_typed (frame_at s) int_type v refl (omega (arith, h))
+
+bit_typed : (s : State) (is_one : Bool) → IsTyped (frame_at s) (tree.number (if is_one then 1 else 0) int_type)
+bit_typed s true = int_typed s 1 (omega arith)
+bit_typed s false = int_typed s 0 (omega arith)
+
+-- ---- forks
+
+-- the variable that is set by arms
+abbrev IsOwn : State → VarId → CType → Type 0
+IsOwn s own k = slice_get s.variables own.0 ≡ Some k
+
+module _ (c : Call) where
+  arm_makes : (at : Place) (operand : State → Part PureTree) (converted : PureTree → PureTree) (own : VarId) (k kx : CType) (s : State) (w : World s) → IsOwn s own k → ((s1 : State) (x : PureTree) → IsTyped (frame_at s1) x → IsTyped (frame_at s1) (converted x))
+      → MakesLater (Value kx) s w operand → Makes (Inside Anything) s w (arm c at operand converted own s)
+  arm_makes at operand converted own k kx s w there conv h =
+      inside_makes (λ s0. then_ (emit (tree.mark (point_in c point.Arm at)) s0) (λ u s1. then_ (operand s1) (λ value s2. emit (tree.set own (converted value)) s2))) s w (λ s1 w1 s2 w2 x l v. tt)
+      (λ s0 w0 l0. then_makes (emit_makes (tree.mark (point_in c point.Arm at)) s0 w0 tt)
+      (λ u s1 w1 l1 a. then_makes (h s1 w1 (later_both l0 l1))
+      (λ x s2 w2 l2 v. emit_makes (tree.set own (converted x)) s2 w2 ((k, l2.variables own.0 k (l1.variables own.0 k (l0.variables own.0 k there))), conv s2 x v.typed))))
+
+  decided_makes : (is_one : Bool) (own : VarId) (k : CType) (s : State) (w : World s) → IsOwn s own k → Makes (Inside Anything) s w (decided is_one own s)
+  decided_makes is_one own k s w there =
+      inside_makes (λ s0. emit (tree.set own (tree.number (if is_one then 1 else 0) int_type)) s0) s w (λ s1 w1 s2 w2 x l v. tt)
+      (λ s0 w0 l0. emit_makes (tree.set own (tree.number (if is_one then 1 else 0) int_type)) s0 w0 ((k, l0.variables own.0 k there), bit_typed s0 is_one))
+
+  fork_makes : (at : Place) (test : PureTree) (left right : List PieceTree) (own : VarId) (k : CType) (s : State) (w : World s) → IsTyped (frame_at s) test → PiecesTyped (frame_at s) (piece_row left) → PiecesTyped (frame_at s) (piece_row right) → IsType k → IsOwn s own k
+      → Makes (Value k) s w (fork_of c at test left right own k s)
+  fork_makes at test left right own k s w t x y type there =
+      then_makes (emit_makes (tree.fork test (piece_row left) (piece_row right) (point_in c point.End at)) s w (t, x, y)) (λ u s1 w1 l v. gives_makes (record { typed = variable_typed (frame_at s1) own k type (l.variables own.0 k there); type = refl }))
+
+  forked_makes : (op : Binary) (k kr : CType) (at : Place) (test : PureTree) (right : State → Part PureTree) (s : State) (w : World s) → IsType k → IsTyped (frame_at s) test → MakesLater (Value kr) s w right → Makes (Value k) s w (forked c op k at test right s)
+  forked_makes op k kr at test right s w type t h =
+      then_makes (fresh_makes k s w)
+      (λ own s1 w1 l1 there. then_makes (arm_makes at right to_bool own k kr s1 w1 there (λ s9 x v. cast_typed (frame_at s9) bool_type x tt v) (λ s2 w2 l2. h s2 w2 (later_both l1 l2)))
+      (λ reached s2 w2 l2 r. then_makes (decided_makes (is_or op) own k s2 w2 (l2.variables own.0 k there))
+      (λ other s3 w3 l3 o.
+      (let there3 = l3.variables own.0 k (l2.variables own.0 k there) in
+      let t3 = typed_later l3 test (typed_later l2 test (typed_later l1 test t)) in
+      let r3 = pieces_later l3 reached.pieces r.0 in
+      if_makes (is_or op) (fork_of c at test other.pieces reached.pieces own k s3) (fork_of c at test reached.pieces other.pieces own k s3) s3 w3 (fork_makes at test other.pieces reached.pieces own k s3 w3 t3 o.0 r3 type there3)
+      (fork_makes at test reached.pieces other.pieces own k s3 w3 t3 r3 o.0 type there3)))))
+
+  pub operated_makes : (op : Binary) (k kr : CType) (at : Place) (x : PureTree) (later : Effects) (right : State → Part PureTree) (s : State) (w : World s) → IsType k → binary_kind op (kind x) kr ≡ k → IsTyped (frame_at s) x → MakesLater (Value kr) s w right
+      → Makes (Value k) s w (operated c op k at x later right s)
+  operated_makes op k kr at x later right s w type e t h =
+      then_makes (save_makes c.file_variables x later s w t)
+      (λ left s1 w1 l v. if_makes (is_logical op && acts later) (forked c op k at left right s1) (then_ (right s1) (λ y s2. gives (tree.binary op left y k at) s2)) s1 w1 (forked_makes op k kr at left right s1 w1 type v.typed (λ s2 w2 l2. h s2 w2 (later_both l l2)))
+      (then_makes (h s1 w1 l) (λ y s2 w2 l2 u. gives_makes (record { typed = binary_typed (frame_at s2) op left y k at type (ap₂ (binary_kind op) v.type u.type ∙ e) (typed_later l2 left v.typed) u.typed; type = refl }))))
+
+  chosen_fork : (k kl kr : CType) (at colon : Place) (t : PureTree) (left right : State → Part PureTree) (s : State) (w : World s) → IsType k → IsTyped (frame_at s) t → MakesLater (Value kl) s w left → MakesLater (Value kr) s w right
+      → Makes (Value k) s w (then_ (fresh k s) (λ own s2. then_ (arm c at left same own s2) (λ first s3. then_ (arm c colon right same own s3) (λ second s4. fork_of c at t first.pieces second.pieces own k s4))))
+  chosen_fork k kl kr at colon t left right s w type h p q =
+      then_makes (fresh_makes k s w)
+      (λ own s1 w1 l1 there. then_makes (arm_makes at left same own k kl s1 w1 there (λ s9 x v. v) (λ s2 w2 l2. p s2 w2 (later_both l1 l2)))
+      (λ first s2 w2 l2 a. then_makes (arm_makes colon right same own k kr s2 w2 (l2.variables own.0 k there) (λ s9 x v. v) (λ s3 w3 l3. q s3 w3 (later_both l1 (later_both l2 l3))))
+      (λ second s3 w3 l3 b. fork_makes at t first.pieces second.pieces own k s3 w3 (typed_later l3 t (typed_later l2 t (typed_later l1 t h))) (pieces_later l3 first.pieces a.0) b.0 type (l3.variables own.0 k (l2.variables own.0 k there)))))
+
+  pub chosen_makes : (k kl kr : CType) (at colon : Place) (test : PureTree) (later : Effects) (left right : State → Part PureTree) (s : State) (w : World s) → IsType k → IsTyped (frame_at s) test → MakesLater (Value kl) s w left → MakesLater (Value kr) s w right
+      → Makes (Value k) s w (chosen c k at colon test later left right s)
+  unfolding chosen
+  chosen_makes k kl kr at colon test later left right s w type t p q =
+      if_makes (acts later)
+      (then_ (save c.file_variables test later s) (λ t1 s1. then_ (fresh k s1) (λ own s2. then_ (arm c at left same own s2) (λ first s3. then_ (arm c colon right same own s3) (λ second s4. fork_of c at t1 first.pieces second.pieces own k s4)))))
+      (then_ (left s) (λ x s1. then_ (right s1) (λ y s2. gives (tree.choice test x y k) s2))) s w
+      (then_makes (save_makes c.file_variables test later s w t) (λ t1 s1 w1 l v. chosen_fork k kl kr at colon t1 left right s1 w1 type v.typed (λ s2 w2 l2. p s2 w2 (later_both l l2)) (λ s2 w2 l2. q s2 w2 (later_both l l2))))
+      (then_makes (p s w (later_same s w))
+      (λ x s1 w1 l v. then_makes (q s1 w1 l)
+      (λ y s2 w2 l2 u. gives_makes (record { typed = choice_typed (frame_at s2) test x y k type (typed_later l2 test (typed_later l test t)) (typed_later l2 x v.typed) u.typed; type = refl }))))
+
+-- ---- values that are not used
+
+pub discarded_makes : (b : Bool) (x : PureTree) (s : State) (w : World s) → IsTyped (frame_at s) x → Makes Anything s w (discarded b x s)
+discarded_makes b x s w h = if_makes b (gives tt s) (set_unused x s) s w (gives_makes tt) (then_makes (own_makes (kind x) x s w (kind_type (frame_at s) x h) h) (λ own s1 w1 l v. gives_makes tt))
+
+-- ---- assignments
+
+-- the new value of a target whose old one is this
+computed_typed : (op : Option Binary) (k : CType) (at : Place) (s : State) (left by : PureTree) → IsValue k s left → IsTyped (frame_at s) by → IsTyped (frame_at s) (computed op k at left by)
+computed_typed None k at s left by h g = g
+computed_typed (Some op) k at s left by h g =
+    binary_typed (frame_at s) op left by (binary_kind op k (kind by)) at (binary_type op k (kind by) (subst IsType h.type (kind_type (frame_at s) left h.typed)) (kind_type (frame_at s) by g)) (ap (λ j. binary_kind op j (kind by)) h.type) h.typed g
+
+module _ (o : Objects) (c : Call) (Scene : (s : State) → World s → Type 0) (N : Names o c Scene) where
+  abbrev pub TargetAs : Cell → PureTrees → CType → Type 0
+  TargetAs cell tree.none k = o.Variable cell k
+  TargetAs cell (tree.more first rest) k = o.Array cell k
+
+  pub record IsChange (s : State) (t : Change) : Type 0 where
+    pub subscripts : AreTyped (frame_at s) t.subscripts
+    pub target : TargetAs t.cell t.subscripts t.kind
+
+  pub change_later : {s s1 : State} {w : World s} {w1 : World s1} {t : Change} → Later s w s1 w1 → IsChange s t → IsChange s1 t
+  change_later {t = t} l h = record { subscripts = each_later l t.subscripts h.subscripts; target = h.target }
+
+  read_typed : (cell : Cell) (k : CType) (at : Place) (subscripts : PureTrees) (s : State) (w : World s) → Scene s w → AreTyped (frame_at s) subscripts → TargetAs cell subscripts k → IsValue k s (read_at c cell k at subscripts s)
+  read_typed cell k at tree.none s w scene h t = (N.variables s w scene cell k t).1
+  read_typed cell k at (tree.more first rest) s w scene h t =
+      let a = N.arrays s w scene cell k t in
+      record { typed = element_typed (frame_at s) (array c cell s) (tree.more first rest) k at a.0 a.1 h; type = refl }
+
+  store_at_makes : (cell : Cell) (k : CType) (at : Place) (subscripts : PureTrees) (v : PureTree) (s : State) (w : World s) → Scene s w → AreTyped (frame_at s) subscripts → TargetAs cell subscripts k → IsTyped (frame_at s) v → Makes Anything s w (store_at c cell at subscripts v s)
+  store_at_makes cell k at tree.none v s w scene h t x = emit_makes (tree.set (variable c cell) v) s w ((N.variables s w scene cell k t).0, x)
+  store_at_makes cell k at (tree.more first rest) v s w scene h t x =
+      let a = (N.arrays s w scene cell k t).1 in
+      emit_makes (tree.put (array c cell s) (tree.more first rest) v at) s w ((a.0, a.1), h, x)
+
+  pub store_makes : (t : Change) (v : PureTree) (s : State) (w : World s) → Scene s w → IsChange s t → IsTyped (frame_at s) v → Makes Anything s w (store c t v s)
+  store_makes t v s w scene h x = store_at_makes t.cell t.kind t.target_at t.subscripts v s w scene h.subscripts h.target x
+
+  old_value : (t : Change) (s : State) (w : World s) → Scene s w → IsChange s t → IsValue t.kind s (target_read c t s)
+  old_value t s w scene h = read_typed t.cell t.kind t.target_at t.subscripts s w scene h.subscripts h.target
+
+  pub new_typed : (t : Change) (by : PureTree) (s : State) (w : World s) → Scene s w → IsChange s t → IsTyped (frame_at s) by → IsTyped (frame_at s) (new_value t (target_read c t s) by)
+  new_typed t by s w scene h x = computed_typed t.op t.kind t.at s (target_read c t s) by (old_value t s w scene h) x
+
+  target_type : (t : Change) (s : State) (w : World s) → Scene s w → IsChange s t → IsType t.kind
+  target_type t s w scene h = (let v = old_value t s w scene h in subst IsType v.type (kind_type (frame_at s) (target_read c t s) v.typed))
+
+  -- a value is set into a variable of its own, and then one into the target
+  both_set : (t : Change) (x : PureTree) (y : VarId → PureTree) (s : State) (w : World s) → Scene s w → IsChange s t → IsTyped (frame_at s) x → ((own : VarId) (s1 : State) → IsOwn s1 own t.kind → IsTyped (frame_at s1) (y own))
+      → Makes (Value t.kind) s w (then_ (fresh t.kind s) (λ own s1. then_ (emit (tree.set own x) s1) (λ set s2. then_ (store c t (y own) s2) (λ stored s3. gives (tree.variable own t.kind) s3))))
+  both_set t x y s w scene h v z =
+      then_makes (fresh_makes t.kind s w)
+      (λ own s1 w1 l1 there. then_makes (emit_makes (tree.set own x) s1 w1 ((t.kind, there), typed_later l1 x v))
+      (λ u s2 w2 l2 a.
+      (let there2 = l2.variables own.0 t.kind there in
+      then_makes (store_makes t (y own) s2 w2 (N.stays s w s2 w2 scene (later_both l1 l2)) (change_later (later_both l1 l2) h) (z own s2 there2))
+      (λ q s3 w3 l3 b. gives_makes (record { typed = variable_typed (frame_at s3) own t.kind (target_type t s w scene h) (l3.variables own.0 t.kind there2); type = refl })))))
+
+  pub assigned_makes : (t : Change) (by : PureTree) (s : State) (w : World s) → Scene s w → IsChange s t → IsTyped (frame_at s) by → Makes (Value t.kind) s w (assigned c t by s)
+  assigned_makes t by s w scene h v =
+      both_set t (new_value t (target_read c t s) by) (λ own. tree.variable own t.kind) s w scene h (new_typed t by s w scene h v) (λ own s1 there. variable_typed (frame_at s1) own t.kind (target_type t s w scene h) there)
+
+  behind_makes : (t : Change) (s : State) (w : World s) → Scene s w → IsChange s t → Makes (Value t.kind) s w (bumped_behind c t s)
+  behind_makes t s w scene h =
+      both_set t (target_read c t s) (λ own. new_value t (tree.variable own t.kind) one) s w scene h (old_value t s w scene h).typed
+      (λ own s1 there. computed_typed t.op t.kind t.at s1 (tree.variable own t.kind) one (record { typed = variable_typed (frame_at s1) own t.kind (target_type t s w scene h) there; type = refl }) (int_typed s1 1 (omega arith)))
+
+  pub bumped_makes : (t : Change) (post : Bool) (s : State) (w : World s) → Scene s w → IsChange s t → Makes (Value t.kind) s w (bumped c t post s)
+  bumped_makes t post s w scene h = if_makes post (bumped_behind c t s) (assigned c t one s) s w (behind_makes t s w scene h) (assigned_makes t one s w scene h (int_typed s 1 (omega arith)))

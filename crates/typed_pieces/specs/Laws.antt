@@ -1,0 +1,34 @@
+-- What lowering takes for granted of the expressions of expanded programs.
+use Rattle.std.specs.Prelude.{ℕ, List}
+use Rattle.hls_base.specs.declared.place.Place.{Place}
+use Rattle.c_tree.specs.Terminals.{Terminal}
+use Rattle.c_tree.specs.Grammar.{DerivesProgram}
+use Rattle.pieces.specs.Trees.{PieceTrees}
+use Rattle.c_tree.specs.Tree.{ProgramTree}
+use Rattle.c_elaborate.specs.Programs.{program_elaborated}
+use Rattle.core_program.specs.Core.{CoreProgramTree}
+use Rattle.piece_meaning.specs.Pieces.{Frame}
+use Rattle.piece_meaning.specs.Runs.{frame_of}
+use Rattle.c_expand.specs.Expansion.{expansion}
+use Rattle.expand_calls.specs.Programs.{IsProgramSound}
+use Rattle.lower_runs.specs.Suits.{scope_of}
+use Rattle.lowered_conversions.specs.Suiting.{PiecesSuit}
+use Rattle.typed_pieces.specs.Typed.{PiecesTyped}
+use Rattle.typed_pieces.specs.Types.{ProgramHasTypes}
+use Rattle.typed_pieces.specs.Sources.{SourceHasTypes, TokensHaveTypes}
+
+-- The expressions in the pieces of a program have the types of the variables and arrays that they name, and what is set and written is there. Of the core program it is known that names stand for objects as elaboration makes them, and that its types are types of C.
+abbrev pub ExpandedPiecesAreTyped : Type 0
+ExpandedPiecesAreTyped = (p : CoreProgramTree) → IsProgramSound p → ProgramHasTypes p → PiecesTyped (frame_of (expansion p)) (expansion p).pieces
+
+-- Such pieces suit the scope in which they are lowered.
+abbrev pub TypedPiecesSuit : Type 0
+TypedPiecesSuit = (f : Frame) (pieces : PieceTrees) → PiecesTyped f pieces → PiecesSuit (scope_of f) pieces
+
+-- Where all types of a program are types of C, so are those of its core program.
+abbrev pub ElaboratedHasTypes : Type 0
+ElaboratedHasTypes = (p : ProgramTree) (top : ℕ) → SourceHasTypes p → ProgramHasTypes (program_elaborated p top)
+
+-- The types of a program that the grammar derives are types of C, where those of its constants and of its type names are.
+abbrev pub GrammarHasTypes : Type 0
+GrammarHasTypes = (tokens : List Terminal) (end : Place) (p : ProgramTree) → DerivesProgram tokens end p → TokensHaveTypes tokens → SourceHasTypes p

@@ -1,0 +1,4 @@
+//! Types of the pieces that programs are expanded to.
+#![tactic(auto)]
+
+pub mod laws;
