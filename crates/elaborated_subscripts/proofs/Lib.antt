@@ -1,0 +1,5 @@
+pub mod Dimensions
+pub mod Expressions
+pub mod Statements
+pub mod Functions
+pub mod Programs

@@ -1,0 +1,4 @@
+//! Subscripts of elements in elaborated programs.
+#![tactic(auto)]
+
+pub mod laws;

@@ -1,0 +1,11 @@
+pub mod Fitting
+pub mod Parts
+pub mod Saved
+pub mod Changes
+pub mod Expressions
+pub mod Names
+pub mod Actions
+pub mod Statements
+pub mod Homes
+pub mod Calls
+pub mod Whole

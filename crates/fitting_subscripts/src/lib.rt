@@ -1,0 +1,4 @@
+//! Subscripts of the elements that programs are expanded to.
+#![tactic(auto)]
+
+pub mod laws;

@@ -1,0 +1,5 @@
+pub mod Trees
+pub mod Ready
+pub mod Loops
+pub mod Subscripts
+pub mod Laws
