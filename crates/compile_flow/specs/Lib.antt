@@ -1,2 +1,3 @@
 pub mod Resets
 pub mod Reports
+pub mod Flat

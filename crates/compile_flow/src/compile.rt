@@ -8,6 +8,7 @@ ghost use Rattle.c_expand.specs.Expansion.{expansion, expanded_weight, IsOverwei
 ghost use Rattle.ir_lower.specs.Frames.{frame_view, frame_of};
 ghost use Rattle.rtl_core.specs.Netlist.{netlist_of};
 ghost use Rattle.cycle_report.specs.PlainReport.{plain_of, loop_of};
+ghost use Rattle.compile_flow.specs.Flat.{IsFlatOf};
 ghost use Rattle.compile_flow.specs.Resets.{expanded_frame, AreAddressable, reset_cycles};
 ghost use Rattle.compile_flow.specs.Reports.{allowed_units, IsTimed, EachNodeCounts, IsReportOf, KeepsSettings};
 
@@ -60,12 +61,14 @@ fn flat_program(
     expanded: &Expanded,
     settings: &Settings,
 ) -> Result<Cfg<Untimed>, AllocError>
-    ensures { IfOk result (λ cfg. frame_view cfg.frame ≡ frame_of expanded.now) }
+    ensures frame { IfOk result (λ cfg. frame_view cfg.frame ≡ frame_of expanded.now) }
+    ensures flat { IfOk result (λ cfg. IsFlatOf (expanded_of expanded.now) settings.now.plain cfg) }
 {
     let tree = lower(alloc, expanded)?;
     let tree = number(alloc, tree)?;
     let tree = convert(alloc, tree, !settings.plain)?;
-    lay_out(alloc, tree)
+    let cfg = lay_out(alloc, tree)?;
+    Ok(cfg)
 }
 
 /// The units that the settings allow.
@@ -165,6 +168,7 @@ pub fn compile_expanded(
     ensures timed { IfOk result (λ c. IsTimed (allowed_units settings.now) c.untimed c.timed (plain_of c.report).loops) }
     ensures kept { IfOk result (λ c. KeepsSettings (plain_of c.report) settings.now) }
     ensures longer { IfOk result (λ c. EachNodeCounts c.timed.nodes.items (plain_of c.report)) }
+    ensures flat { IfOk result (λ c. IsFlatOf (expanded_of expanded.now) settings.now.plain c.untimed) }
     ensures frame { IfOk result (λ c. frame_view c.timed.frame ≡ expanded_frame (expanded_of expanded.now)) }
     ensures init { IfOk result (λ c. AreAddressable (expanded_frame (expanded_of expanded.now)) → (plain_of c.report).init ≡ reset_cycles (expanded_frame (expanded_of expanded.now))) }
 {
@@ -191,6 +195,7 @@ pub fn compile(alloc: Global, checked: &Checked, settings: &Settings) -> Result<
     ensures timed { IfOk result (λ c. IsTimed (allowed_units settings.now) c.untimed c.timed (plain_of c.report).loops) }
     ensures kept { IfOk result (λ c. KeepsSettings (plain_of c.report) settings.now) }
     ensures longer { IfOk result (λ c. EachNodeCounts c.timed.nodes.items (plain_of c.report)) }
+    ensures flat { IfOk result (λ c. IsFlatOf (expansion (program_elaborated (program_of checked.now.program) checked.now.top)) settings.now.plain c.untimed) }
     ensures frame { IfOk result (λ c. frame_view c.timed.frame ≡ expanded_frame (expansion (program_elaborated (program_of checked.now.program) checked.now.top))) }
     ensures init { IfOk result (λ c. AreAddressable (expanded_frame (expansion (program_elaborated (program_of checked.now.program) checked.now.top))) → (plain_of c.report).init ≡ reset_cycles (expanded_frame (expansion (program_elaborated (program_of checked.now.program) checked.now.top)))) }
 {

@@ -19,6 +19,7 @@ use Rattle.ir_core.specs.declared.stamp.Untimed.{Untimed}
 use Rattle.clock_ir.specs.declared.timed.Timed.{Timed}
 use Rattle.pieces.specs.Program.{ExpandedTree}
 use Rattle.ir_lower.specs.Frames.{frame_view}
+use Rattle.compile_flow.specs.Flat.{IsFlatOf}
 use Rattle.compile_flow.specs.Resets.{expanded_frame, AreAddressable, reset_cycles}
 use Rattle.compile_flow.specs.Reports.{allowed_units, IsTimed, EachNodeCounts, ReportsDesign, IsReportOf, KeepsSettings}
 use Rattle.checked_source.specs.Sources.{IsTheProgramOf, IsTopFunction}
@@ -76,12 +77,13 @@ pub record HasTexts (settings : Settings) (module_bytes report_bytes : List ℕ)
   pub module_is : IsModuleText module_bytes design
   pub resources : ReportsCircuit report settings design
 
--- The report gives the cycles of the blocks and loops that an expanded program becomes, each with the least times that its dependences and the orders of its units allow; the loops are those that the report names, each at its least interval. Beside the blocks stands what the expanded program has beside its pieces, and so the report's initial cycles are those of its kept scalars and arrays.
+-- The report gives the cycles of the blocks and loops that an expanded program becomes by lowering, numbering, conversion and layout, each with the least times that its dependences and the orders of its units allow; the loops are those that the report names, each at its least interval. Beside the blocks stands what the expanded program has beside its pieces, and so the report's initial cycles are those of its kept scalars and arrays.
 pub record IsScheduledReport (settings : Settings) (expanded : ExpandedTree) (report : PlainReport) (design : Netlist) : Type 0 where
   pub untimed : Cfg Untimed
   pub timed : Cfg Timed
   pub frame : frame_view timed.frame ≡ expanded_frame expanded
   pub init : AreAddressable (expanded_frame expanded) → report.init ≡ reset_cycles (expanded_frame expanded)
+  pub flat : IsFlatOf expanded settings.plain untimed
   pub is_timed : IsTimed (allowed_units settings) untimed timed report.loops
   pub reported : IsReportOf report settings timed design
   pub longer : EachNodeCounts timed.nodes.items report

@@ -1,7 +1,10 @@
 //! From pieces to a tree of basic blocks.
 #![tactic(auto)]
 
-pub mod copies;
+mod arms;
+mod copies;
 pub mod frame;
-pub mod line;
+mod line;
 pub mod lower;
+mod points;
+mod sets;

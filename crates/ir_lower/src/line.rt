@@ -1,7 +1,23 @@
 //! A sequence of blocks while it grows.
+ghost use Rattle.std.specs.Prelude.{◌≡◌, IfOk};
+ghost use Rattle.hls_base.specs.declared.point.Point.{Point};
+ghost use Rattle.pieces.specs.Trees.{PieceTrees, then_};
+ghost use Rattle.pieces.specs.View.{piece_of, pieces_of};
+ghost use Rattle.block_meaning.specs.Trees.{ExitTree, exit_of, block_of, shape_of, SequenceTree, sequence_of};
+ghost use Rattle.lowering.specs.Blocks as spec;
+ghost use Rattle.lowering.specs.Lowering.{last, followed};
+ghost use Rattle.ir_lower.specs.Lines.{behind};
+ghost use Rattle.block_draft.specs.Drafts.{scope_of, open_at};
+
+use crate::points::first_point;
 use block_draft::draft::{Done, Draft};
+use hls_base::number::{ArrayId, VarId};
+use hls_base::place::Place;
 use hls_base::point::Point;
 use ir_core::tree::{BasicBlock, Exit, Part, Sequence, Shape};
+use pieces::expanded::Expanded;
+use pieces::piece::{Label, Piece};
+use pieces::pure_expr::Pure;
 use std::alloc::{AllocError, Global};
 
 /// The blocks of a sequence that are closed, and the shape behind the last of them.
@@ -20,120 +36,320 @@ enum Closed {
 pub struct Line {
     closed: Closed,
     point: Point,
+    draft: Draft,
     exit: Exit,
 }
 
-/// A sequence whose last block is closed.
-#[derive(Drop)]
-pub struct Head {
-    closed: Closed,
-    block: BasicBlock,
+/// What a piece sets, if it is a setting.
+fn add_set(expanded: &Expanded, draft: &mut Draft, piece: &Piece) -> Result<(), AllocError>
+    ensures { (point : Point) (exit : ExitTree) (rest : PieceTrees) → IfOk result (λ u. spec.all_set (scope_of expanded.now) rest (open_at point exit draft.new) ≡ spec.all_set (scope_of expanded.now) (then_ (piece_of piece.now) rest) (open_at point exit draft.old)) }
+{
+    match piece {
+        Piece::Set { variable, value } => draft.set(expanded, *variable, value),
+        _ => Ok(()),
+    }
+}
+
+fn set_all(expanded: &Expanded, draft: &mut Draft, pieces: &Vec<Piece>) -> Result<(), AllocError>
+    ensures { (point : Point) (exit : ExitTree) → IfOk result (λ u. open_at point exit draft.new ≡ spec.all_set (scope_of expanded.now) (pieces_of pieces.now.items) (open_at point exit draft.old)) }
+{
+    for piece in pieces {
+        add_set(expanded, draft, piece)?;
+    }
+    Ok(())
+}
+
+/// A branch that begins at no point has no block: what it sets is set before the fork.
+fn set_before(expanded: &Expanded, draft: &mut Draft, branch: &Vec<Piece>) -> Result<(), AllocError>
+    ensures { (point : Point) (exit : ExitTree) → IfOk result (λ u. open_at point exit draft.new ≡ spec.set_before (scope_of expanded.now) (pieces_of branch.now.items) (open_at point exit draft.old)) }
+{
+    if first_point(branch).is_some() {
+        return Ok(());
+    }
+    set_all(expanded, draft, branch)
 }
 
 impl Line {
+    ghost use Rattle.std.specs.Prelude.{◌≡◌, IfOk, if◌then◌else◌};
+    ghost use Rattle.pieces.specs.View.{pure_of, pures_of, pieces_of};
+    ghost use Rattle.block_meaning.specs.Trees.{exit_of, break_, block_of, shape_of, sequence_of};
+    ghost use Rattle.lowering.specs.Blocks as spec;
+    ghost use Rattle.lowering.specs.Lowering.{Rest, last, followed};
+    ghost use Rattle.block_draft.specs.Drafts.{scope_of};
+    ghost use Rattle.ir_lower.specs.Lines.{open_of, ended};
+
     /// A block that begins at this point.
-    pub fn new(alloc: Global, point: &Point) -> Result<Line, AllocError> {
+    pub fn new(alloc: Global, point: &Point) -> Result<Line, AllocError>
+        ensures { (rest : Rest) → IfOk result (λ line. ended line rest ≡ rest (spec.begun point.now)) }
+    {
         Ok(Line {
             closed: Closed::Nothing,
             point: point.copy(alloc)?,
+            draft: Draft::new(alloc),
             exit: Exit::Next,
         })
     }
 
     /// A block that is never reached.
-    pub fn dead(alloc: Global, point: &Point) -> Result<Line, AllocError> {
+    pub fn dead(alloc: Global, point: &Point) -> Result<Line, AllocError>
+        ensures { (rest : Rest) → IfOk result (λ line. ended line rest ≡ rest (record (spec.begun point.now) { exit = break_ })) }
+    {
         Ok(Line {
             closed: Closed::Nothing,
             point: point.copy(alloc)?,
+            draft: Draft::new(alloc),
             exit: Exit::Break,
         })
     }
 
     /// Whether control may come to the end of the block.
-    pub fn is_live(&self) -> bool {
+    pub fn is_live(&self) -> bool
+        ensures { result ≡ spec.is_live (open_of self.now) }
+    {
         matches!(self.exit, Exit::Next)
     }
 
     /// The line with this exit of its block, if it has none.
-    pub fn with_exit(self, exit: Exit) -> Line {
+    pub fn with_exit(self, exit: Exit) -> Line
+        ensures { (rest : Rest) → ended result rest ≡ ended self (λ b. rest (spec.with_exit (exit_of exit) b)) }
+    {
         if !self.is_live() {
             return self;
         }
-        let Line { closed, point, .. } = self;
+        let Line {
+            closed,
+            point,
+            draft,
+            ..
+        } = self;
         Line {
             closed,
             point,
+            draft,
             exit,
         }
     }
 
-    /// Closes the block.
-    pub fn close(self, draft: &mut Draft) -> Result<Head, AllocError> {
+    /// The variable holds the value from here on.
+    pub fn set(self, expanded: &Expanded, variable: VarId, value: &Pure) -> Result<Line, AllocError>
+        ensures { (rest : Rest) → IfOk result (λ line. ended line rest ≡ ended self (λ b. rest (if spec.is_live b then spec.set (scope_of expanded.now) variable (pure_of value.now) b else b))) }
+    {
+        if !self.is_live() {
+            return Ok(self);
+        }
         let Line {
             closed,
             point,
+            mut draft,
             exit,
         } = self;
-        let Done { ops, outs } = draft.close()?;
-        let block = BasicBlock {
+        draft.set(expanded, variable, value)?;
+        Ok(Line {
+            closed,
             point,
-            ops,
-            outs,
+            draft,
             exit,
-        };
-        Ok(Head { closed, block })
+        })
+    }
+
+    /// The element holds the value from here on.
+    pub fn put(
+        self,
+        expanded: &Expanded,
+        array: ArrayId,
+        subscripts: &Vec<Pure>,
+        value: &Pure,
+        at: Place,
+    ) -> Result<Line, AllocError>
+        ensures { (rest : Rest) → IfOk result (λ line. ended line rest ≡ ended self (λ b. rest (if spec.is_live b then spec.put (scope_of expanded.now) array (pures_of subscripts.now.items) (pure_of value.now) at b else b))) }
+    {
+        if !self.is_live() {
+            return Ok(self);
+        }
+        let Line {
+            closed,
+            point,
+            mut draft,
+            exit,
+        } = self;
+        draft.put(expanded, array, subscripts, value, at)?;
+        Ok(Line {
+            closed,
+            point,
+            draft,
+            exit,
+        })
+    }
+
+    /// Ends the block by the test of a loop.
+    pub fn end_by_test(self, test: &Pure) -> Result<Line, AllocError>
+        ensures { (rest : Rest) → IfOk result (λ line. ended line rest ≡ ended self (λ b. rest (spec.ends_by_test (pure_of test.now) b))) }
+    {
+        if !self.is_live() {
+            return Ok(self);
+        }
+        let Line {
+            closed,
+            point,
+            mut draft,
+            ..
+        } = self;
+        let test = draft.condition(test)?;
+        Ok(Line {
+            closed,
+            point,
+            draft,
+            exit: Exit::Branch(test),
+        })
+    }
+
+    /// Ends the block by the test of a fork with these branches.
+    pub fn end_by_fork(
+        self,
+        expanded: &Expanded,
+        test: &Pure,
+        yes: &Vec<Piece>,
+        no: &Vec<Piece>,
+    ) -> Result<Line, AllocError>
+        ensures { (rest : Rest) → IfOk result (λ line. ended line rest ≡ ended self (λ b. rest (spec.ends_by_fork (scope_of expanded.now) (pure_of test.now) (pieces_of yes.now.items) (pieces_of no.now.items) b))) }
+    {
+        if !self.is_live() {
+            return Ok(self);
+        }
+        let Line {
+            closed,
+            point,
+            mut draft,
+            ..
+        } = self;
+        let test = draft.condition(test)?;
+        set_before(expanded, &mut draft, yes)?;
+        set_before(expanded, &mut draft, no)?;
+        Ok(Line {
+            closed,
+            point,
+            draft,
+            exit: Exit::Branch(test),
+        })
+    }
+
+    /// Ends the block by the cases of a switch.
+    pub fn end_by_cases(self, test: &Pure, labels: &[Label]) -> Result<Line, AllocError>
+        ensures { (rest : Rest) → IfOk result (λ line. ended line rest ≡ ended self (λ b. rest (spec.ends_by_cases (pure_of test.now) labels.now b))) }
+    {
+        if !self.is_live() {
+            return Ok(self);
+        }
+        let Line {
+            closed,
+            point,
+            mut draft,
+            ..
+        } = self;
+        let cases = draft.cases(test, labels)?;
+        Ok(Line {
+            closed,
+            point,
+            draft,
+            exit: Exit::Choose(cases),
+        })
+    }
+
+    /// Goes on behind this shape with a block that begins at this point.
+    pub fn then(self, alloc: Global, shape: Shape, point: &Point) -> Result<Line, AllocError>
+        ensures { (rest : Rest) → IfOk result (λ line. ended line rest ≡ ended self (λ b. followed b (shape_of shape) (rest (spec.begun point.now)))) }
+    {
+        let Line {
+            closed,
+            point: before,
+            draft,
+            exit,
+        } = self;
+        let block = close_block(before, draft, exit)?;
+        Ok(Line {
+            closed: with_block(alloc, closed, block, shape)?,
+            point: point.copy(alloc)?,
+            draft: Draft::new(alloc),
+            exit: Exit::Next,
+        })
     }
 
     /// Closes the block, which is the last.
-    pub fn finish(self, draft: &mut Draft) -> Result<Sequence, AllocError> {
-        let alloc = draft.alloc();
-        let Head { closed, block } = self.close(draft)?;
-        match closed {
-            Closed::Nothing => Ok(Sequence {
-                first: block,
-                rest: Vec::new(alloc),
-            }),
-            Closed::Parts {
-                first,
-                mut rest,
-                shape,
-            } => {
-                rest.push(Part {
-                    shape,
-                    after: block,
-                })?;
-                Ok(Sequence { first, rest })
-            }
+    pub fn finish(self, alloc: Global) -> Result<Sequence, AllocError>
+        ensures { IfOk result (λ blocks. sequence_of blocks ≡ ended self last) }
+    {
+        let Line {
+            closed,
+            point,
+            draft,
+            exit,
+        } = self;
+        let block = close_block(point, draft, exit)?;
+        with_last(alloc, closed, block)
+    }
+}
+
+fn close_block(point: Point, draft: Draft, exit: Exit) -> Result<BasicBlock, AllocError>
+    ensures { IfOk result (λ block. block_of block ≡ open_at point (exit_of exit) draft) }
+{
+    let mut draft = draft;
+    let Done { ops, outs } = draft.close()?;
+    Ok(BasicBlock {
+        point,
+        ops,
+        outs,
+        exit,
+    })
+}
+
+/// Closes a block with a shape behind it.
+fn with_block(
+    alloc: Global,
+    closed: Closed,
+    block: BasicBlock,
+    shape: Shape,
+) -> Result<Closed, AllocError>
+    ensures { (blocks : SequenceTree) → IfOk result (λ now. behind now blocks ≡ behind closed (followed (block_of block) (shape_of shape) blocks)) }
+{
+    match closed {
+        Closed::Nothing => Ok(Closed::Parts {
+            first: block,
+            rest: Vec::new(alloc),
+            shape,
+        }),
+        Closed::Parts {
+            first,
+            mut rest,
+            shape: before,
+        } => {
+            rest.push(Part {
+                shape: before,
+                after: block,
+            })?;
+            Ok(Closed::Parts { first, rest, shape })
         }
     }
 }
 
-impl Head {
-    /// Goes on behind this shape with a block that begins at this point.
-    pub fn then(self, alloc: Global, shape: Shape, point: &Point) -> Result<Line, AllocError> {
-        let Head { closed, block } = self;
-        let closed = match closed {
-            Closed::Nothing => Closed::Parts {
-                first: block,
-                rest: Vec::new(alloc),
+/// The last block of a sequence.
+fn with_last(alloc: Global, closed: Closed, block: BasicBlock) -> Result<Sequence, AllocError>
+    ensures { IfOk result (λ blocks. sequence_of blocks ≡ behind closed (last (block_of block))) }
+{
+    match closed {
+        Closed::Nothing => Ok(Sequence {
+            first: block,
+            rest: Vec::new(alloc),
+        }),
+        Closed::Parts {
+            first,
+            mut rest,
+            shape,
+        } => {
+            rest.push(Part {
                 shape,
-            },
-            Closed::Parts {
-                first,
-                mut rest,
-                shape: before,
-            } => {
-                rest.push(Part {
-                    shape: before,
-                    after: block,
-                })?;
-                Closed::Parts { first, rest, shape }
-            }
-        };
-        Ok(Line {
-            closed,
-            point: point.copy(alloc)?,
-            exit: Exit::Next,
-        })
+                after: block,
+            })?;
+            Ok(Sequence { first, rest })
+        }
     }
 }

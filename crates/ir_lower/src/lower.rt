@@ -1,27 +1,39 @@
 //! From pieces to a tree of basic blocks.
-ghost use Rattle.std.specs.Prelude.{◌≡◌, IfOk};
+ghost use Rattle.std.specs.Prelude.{◌≡◌, ◌+◌, IfOk, if◌then◌else◌, map};
+ghost use Rattle.std.specs.Option.{option_map};
+ghost use Rattle.pieces.specs.View.{pure_of, piece_of, pieces_of};
+ghost use Rattle.pieces.specs.Program.{expanded_of};
+ghost use Rattle.block_meaning.specs.Trees.{sequence_of, side, side_of, ArmTrees, more_arms, part_of, part_row, arm_row, break_};
+ghost use Rattle.lowering.specs.Shapes as shapes;
+ghost use Rattle.lowering.specs.Blocks.{begun, ends_by_test};
+ghost use Rattle.lowering.specs.Lowering as spec;
+ghost use Rattle.lowering.specs.Lowering.{Rest, last, lowering, side_from, stepped, parts_of};
+ghost use Rattle.block_draft.specs.Drafts.{scope_of};
 ghost use Rattle.ir_lower.specs.Frames.{frame_view, frame_of};
+ghost use Rattle.ir_lower.specs.Lines.{ended, ended_arms};
+ghost use Rattle.ir_lower.specs.Points.{pointed};
 
+use crate::arms::{Arms, Blocks, arm_begins, begins, other_target, targets};
 use crate::copies::with_copies;
 use crate::frame::frame_of;
 use crate::line::Line;
-use block_draft::draft::Draft;
+use crate::points::{converts, first_point, may_overlap, own_step, point_of};
 use hls_base::point::Point;
 use hls_base::refusal::impossible;
-use ir_core::tree::{BlockTree, Exit, LandId, Part, Sequence, Shape};
+use ir_core::tree::{BlockTree, Exit, LandId, Sequence, Shape};
 use pieces::expanded::Expanded;
 use pieces::piece::{Label, Piece};
 use pieces::pure_expr::Pure;
-use pieces::shape::{is_convertible, is_eligible};
 use std::alloc::{AllocError, Global};
 
 /// The tree of basic blocks of a program. Nothing is merged or left out in it: each place at which a block may begin has one.
 pub fn lower(alloc: Global, expanded: &Expanded) -> Result<BlockTree, AllocError>
     ensures frame { IfOk result (λ t. frame_view t.frame ≡ frame_of expanded.now) }
     ensures returned { IfOk result (λ t. t.result ≡ expanded.now.result) }
+    ensures blocks { IfOk result (λ t. side (sequence_of t.blocks) ≡ lowering (expanded_of expanded.now)) }
 {
-    let mut draft = Draft::new(alloc);
-    match lower_side(expanded, &mut draft, &expanded.pieces)? {
+    let first = first_point(&expanded.pieces);
+    match lower_side(alloc, expanded, &expanded.pieces, first)? {
         Some(blocks) => Ok(BlockTree {
             frame: frame_of(alloc, expanded)?,
             blocks,
@@ -34,146 +46,85 @@ pub fn lower(alloc: Global, expanded: &Expanded) -> Result<BlockTree, AllocError
 /// Pieces behind what the line has. What is never reached has its blocks, but makes no operation.
 #[cycle(sequence)]
 fn lower_all(
+    alloc: Global,
     expanded: &Expanded,
-    draft: &mut Draft,
     line: Line,
-    pieces: &[Piece],
-) -> Result<Line, AllocError> {
+    pieces: &Vec<Piece>,
+) -> Result<Line, AllocError>
+    ensures { (rest : Rest) → IfOk result (λ now. ended now rest ≡ ended line (spec.lowered (scope_of expanded.now) (pieces_of pieces.now.items) rest)) }
+{
     let mut line = line;
     for piece in pieces {
-        line = lower_piece(expanded, draft, line, piece)?;
+        line = lower_piece(alloc, expanded, line, piece)?;
     }
     Ok(line)
 }
 
 #[cycle(sequence)]
 fn lower_piece(
+    alloc: Global,
     expanded: &Expanded,
-    draft: &mut Draft,
     line: Line,
     piece: &Piece,
-) -> Result<Line, AllocError> {
+) -> Result<Line, AllocError>
+    ensures { (rest : Rest) → IfOk result (λ now. ended now rest ≡ ended line (spec.lowered_piece (scope_of expanded.now) (piece_of piece.now) rest)) }
+{
     match piece {
-        Piece::Set { variable, value } => {
-            if line.is_live() {
-                draft.set(expanded, *variable, value)?;
-            }
-            Ok(line)
-        }
+        Piece::Set { variable, value } => line.set(expanded, *variable, value),
         Piece::Put {
             array,
             subscripts,
             value,
             at,
-        } => {
-            if line.is_live() {
-                draft.put(expanded, *array, subscripts, value, *at)?;
-            }
-            Ok(line)
-        }
-        Piece::Fork { .. } => lower_fork(expanded, draft, line, piece),
-        Piece::Repeat { .. } => lower_repeat(expanded, draft, line, piece),
-        Piece::Pick { .. } => lower_pick(expanded, draft, line, piece),
+        } => line.put(expanded, *array, subscripts, value, *at),
+        Piece::Fork { .. } => lower_fork(alloc, expanded, line, piece),
+        Piece::Repeat { .. } => lower_repeat(alloc, expanded, line, piece),
+        Piece::Pick { .. } => lower_pick(alloc, expanded, line, piece),
         Piece::Break => Ok(line.with_exit(Exit::Break)),
         Piece::Next => Ok(line.with_exit(Exit::Continue)),
         Piece::Leave(call) => Ok(line.with_exit(Exit::Leave(LandId(call.0)))),
-        Piece::Land(call, point) => {
-            let head = line.close(draft)?;
-            head.then(draft.alloc(), Shape::Land(LandId(call.0)), point)
-        }
+        Piece::Land(call, point) => line.then(alloc, Shape::Land(LandId(call.0)), point),
         Piece::Mark(_) => Ok(line),
     }
 }
 
 #[cycle(sequence)]
 fn lower_fork(
+    alloc: Global,
     expanded: &Expanded,
-    draft: &mut Draft,
     line: Line,
     fork: &Piece,
-) -> Result<Line, AllocError> {
-    let Piece::Fork { yes, no, end, .. } = fork else {
-        return Ok(line);
+) -> Result<Line, AllocError>
+    ensures { (rest : Rest) → IfOk result (λ now. ended now rest ≡ ended line (spec.lowered_piece (scope_of expanded.now) (piece_of fork.now) rest)) }
+{
+    let Piece::Fork { test, yes, no, end } = fork else {
+        return Err(impossible());
     };
-    let convertible = converts(&line, fork);
-    let line = end_fork(expanded, draft, line, fork)?;
-    let head = line.close(draft)?;
-    let yes = lower_side(expanded, draft, yes)?;
-    let no = lower_side(expanded, draft, no)?;
+    let convertible = converts(line.is_live(), fork);
+    let line = line.end_by_fork(expanded, test, yes, no)?;
     let shape = Shape::Fork {
-        yes,
-        no,
+        yes: lower_side(alloc, expanded, yes, first_point(yes))?,
+        no: lower_side(alloc, expanded, no, first_point(no))?,
         convertible,
     };
-    head.then(draft.alloc(), shape, end)
+    line.then(alloc, shape, end)
 }
 
-fn converts(line: &Line, fork: &Piece) -> bool {
-    line.is_live() && is_convertible(fork)
-}
-
-/// Ends a block by the test of a fork.
-fn end_fork(
-    expanded: &Expanded,
-    draft: &mut Draft,
-    line: Line,
-    fork: &Piece,
-) -> Result<Line, AllocError> {
-    match fork {
-        Piece::Fork { test, yes, no, .. } if line.is_live() => {
-            let test = draft.condition(test)?;
-            lower_numbers(expanded, draft, yes)?;
-            lower_numbers(expanded, draft, no)?;
-            Ok(line.with_exit(Exit::Branch(test)))
-        }
-        _ => Ok(line),
-    }
-}
-
-/// A branch that begins at no point has no block: what it sets is set before the fork.
-fn lower_numbers(
-    expanded: &Expanded,
-    draft: &mut Draft,
-    branch: &[Piece],
-) -> Result<(), AllocError> {
-    if first_point(branch).is_some() {
-        return Ok(());
-    }
-    for piece in branch {
-        if let Piece::Set { variable, value } = piece {
-            draft.set(expanded, *variable, value)?;
-        }
-    }
-    Ok(())
-}
-
-/// The point that a mark stands for.
-fn point_of(piece: &Piece) -> Option<&Point> {
-    match piece {
-        Piece::Mark(point) => Some(point),
-        _ => None,
-    }
-}
-
-/// The point that pieces begin with.
-fn first_point(pieces: &[Piece]) -> Option<&Point> {
-    match pieces.first() {
-        Some(piece) => point_of(piece),
-        None => None,
-    }
-}
-
+/// The blocks of pieces that begin at this point, if there is one.
 #[cycle(sequence)]
 fn lower_side(
+    alloc: Global,
     expanded: &Expanded,
-    draft: &mut Draft,
-    branch: &[Piece],
-) -> Result<Option<Sequence>, AllocError> {
-    match first_point(branch) {
+    pieces: &Vec<Piece>,
+    first: Option<&Point>,
+) -> Result<Option<Sequence>, AllocError>
+    ensures { IfOk result (λ blocks. side_of (option_map sequence_of blocks) ≡ side_from (λ b. spec.lowered (scope_of expanded.now) (pieces_of pieces.now.items) last b) (pointed first.entry)) }
+{
+    match first {
         Some(point) => {
-            let line = Line::new(draft.alloc(), point)?;
-            let line = lower_all(expanded, draft, line, branch)?;
-            Ok(Some(line.finish(draft)?))
+            let line = Line::new(alloc, point)?;
+            let line = lower_all(alloc, expanded, line, pieces)?;
+            Ok(Some(line.finish(alloc)?))
         }
         None => Ok(None),
     }
@@ -181,106 +132,111 @@ fn lower_side(
 
 #[cycle(sequence)]
 fn lower_repeat(
+    alloc: Global,
     expanded: &Expanded,
-    draft: &mut Draft,
     line: Line,
     repeat: &Piece,
-) -> Result<Line, AllocError> {
+) -> Result<Line, AllocError>
+    ensures { (rest : Rest) → IfOk result (λ now. ended now rest ≡ ended line (spec.lowered_piece (scope_of expanded.now) (piece_of repeat.now) rest)) }
+{
     let Piece::Repeat {
         post,
         before,
         test,
+        body,
+        step,
         end,
         ..
     } = repeat
     else {
-        return Ok(line);
+        return Err(impossible());
     };
-    let alloc = draft.alloc();
-    let head = line.close(draft)?;
-    let line = Line::new(alloc, first_point(before).unwrap_or(end))?;
-    let line = lower_all(expanded, draft, line, before)?;
-    let test = finish_test(draft, line, test)?;
-    let (body, step) = lower_round(expanded, draft, repeat, end)?;
-    let eligible = is_eligible(repeat);
-    let body = if eligible {
-        with_copies(alloc, &expanded.variables, body)?
-    } else {
-        body
-    };
+    let eligible = may_overlap(repeat);
+    let own = own_step(body, step);
+    let start = first_point(body).unwrap_or(end);
+    let test = lower_test(alloc, expanded, before, test, end)?;
+    let inner = Line::new(alloc, start)?;
+    let inner = lower_all(alloc, expanded, inner, body)?;
+    let body = lower_step(alloc, expanded, inner, step, own)?;
+    let step = lower_side(alloc, expanded, step, own)?;
     let shape = Shape::Loop {
         post: *post,
         test: Box::new(alloc, test)?,
-        body: Box::new(alloc, body)?,
-        step,
+        body: Box::new(alloc, copied_if(alloc, expanded, eligible, body)?)?,
+        step: boxed(alloc, step)?,
         eligible,
     };
-    head.then(alloc, shape, end)
+    line.then(alloc, shape, end)
 }
 
-/// Ends the blocks before a loop's test by the test.
-fn finish_test(draft: &mut Draft, line: Line, test: &Pure) -> Result<Sequence, AllocError> {
-    let line = if line.is_live() {
-        let test = draft.condition(test)?;
-        line.with_exit(Exit::Branch(test))
-    } else {
-        line
-    };
-    line.finish(draft)
+fn boxed(alloc: Global, side: Option<Sequence>) -> Result<Option<Box<Sequence>>, AllocError>
+    ensures { IfOk result (λ boxed. option_map (λ blocks. sequence_of blocks.value) boxed ≡ option_map sequence_of side) }
+{
+    match side {
+        Some(blocks) => Ok(Some(Box::new(alloc, blocks)?)),
+        None => Ok(None),
+    }
 }
 
-/// The body of a loop and its step, which begins a block where the loop has a `Next`, and else goes on in that of the body.
-#[cycle(sequence)]
-fn lower_round(
+/// The body of a loop that may be overlapped has copies.
+fn copied_if(
+    alloc: Global,
     expanded: &Expanded,
-    draft: &mut Draft,
-    repeat: &Piece,
-    end: &Point,
-) -> Result<(Sequence, Option<Box<Sequence>>), AllocError> {
-    let Piece::Repeat { body, step, .. } = repeat else {
-        return Err(impossible());
-    };
-    let alloc = draft.alloc();
-    let line = Line::new(alloc, first_point(body).unwrap_or(end))?;
-    let line = lower_all(expanded, draft, line, body)?;
-    match first_point(step) {
-        Some(point) if has_next(body) => {
-            let body = line.finish(draft)?;
-            let line = Line::new(alloc, point)?;
-            let line = lower_all(expanded, draft, line, step)?;
-            let step = line.finish(draft)?;
-            Ok((body, Some(Box::new(alloc, step)?)))
-        }
-        _ => {
-            let line = lower_all(expanded, draft, line, step)?;
-            Ok((line.finish(draft)?, None))
-        }
+    eligible: bool,
+    body: Sequence,
+) -> Result<Sequence, AllocError>
+    ensures { IfOk result (λ copied. sequence_of copied ≡ spec.with_copies eligible (scope_of expanded.now) (sequence_of body)) }
+{
+    if eligible {
+        with_copies(alloc, expanded, body)
+    } else {
+        Ok(body)
     }
 }
 
-/// Whether one of these pieces goes on with the next iteration of the loop round them.
-fn has_next(pieces: &[Piece]) -> bool {
-    for piece in pieces {
-        let found = match piece {
-            Piece::Next => true,
-            Piece::Fork { yes, no, .. } => has_next(yes) || has_next(no),
-            Piece::Pick { body, .. } => has_next(body),
-            _ => false,
-        };
-        if found {
-            return true;
-        }
+/// The blocks before a loop's test, which end by the test.
+#[cycle(sequence)]
+fn lower_test(
+    alloc: Global,
+    expanded: &Expanded,
+    before: &Vec<Piece>,
+    test: &Pure,
+    end: &Point,
+) -> Result<Sequence, AllocError>
+    ensures { IfOk result (λ blocks. sequence_of blocks ≡ spec.lowered (scope_of expanded.now) (pieces_of before.now.items) (λ b. last (ends_by_test (pure_of test.now) b)) (begun (shapes.or_at end.now (shapes.first_point (pieces_of before.now.items))))) }
+{
+    let line = Line::new(alloc, first_point(before).unwrap_or(end))?;
+    let line = lower_all(alloc, expanded, line, before)?;
+    let line = line.end_by_test(test)?;
+    line.finish(alloc)
+}
+
+/// The blocks of a loop's body, in the last of which its step goes on where it begins no block of its own.
+#[cycle(sequence)]
+fn lower_step(
+    alloc: Global,
+    expanded: &Expanded,
+    line: Line,
+    step: &Vec<Piece>,
+    own: Option<&Point>,
+) -> Result<Sequence, AllocError>
+    ensures { IfOk result (λ blocks. sequence_of blocks ≡ ended line (λ b. stepped (λ b1. spec.lowered (scope_of expanded.now) (pieces_of step.now.items) last b1) (pointed own.entry) b)) }
+{
+    match own {
+        Some(_) => line.finish(alloc),
+        None => lower_all(alloc, expanded, line, step)?.finish(alloc),
     }
-    false
 }
 
 #[cycle(sequence)]
 fn lower_pick(
+    alloc: Global,
     expanded: &Expanded,
-    draft: &mut Draft,
     line: Line,
     pick: &Piece,
-) -> Result<Line, AllocError> {
+) -> Result<Line, AllocError>
+    ensures { (rest : Rest) → IfOk result (λ now. ended now rest ≡ ended line (spec.lowered_piece (scope_of expanded.now) (piece_of pick.now) rest)) }
+{
     let Piece::Pick {
         test,
         labels,
@@ -288,146 +244,55 @@ fn lower_pick(
         end,
     } = pick
     else {
-        return Ok(line);
+        return Err(impossible());
     };
-    let line = end_pick(draft, line, test, labels)?;
-    let head = line.close(draft)?;
-    let numbers = arm_numbers(draft.alloc(), labels, body.len())?;
-    let Arms { dead, arms } = lower_arms(expanded, draft, &numbers, body, end)?;
+    let labels = labels.as_slice();
+    let line = line.end_by_cases(test, labels)?;
+    let Blocks { dead, arms } = lower_arms(alloc, expanded, labels, body, end)?;
     let shape = Shape::Choose {
-        dead: dead.unwrap_or(Vec::new(draft.alloc())),
-        targets: targets(draft.alloc(), labels, &numbers)?,
-        other: other_target(labels, &numbers),
+        dead,
+        targets: targets(alloc, labels, body.len())?,
+        other: other_target(alloc, labels, body.len())?,
         arms,
     };
-    head.then(draft.alloc(), shape, end)
-}
-
-/// Ends a block by the cases of a switch.
-fn end_pick(
-    draft: &mut Draft,
-    line: Line,
-    test: &Pure,
-    labels: &[Label],
-) -> Result<Line, AllocError> {
-    if !line.is_live() {
-        return Ok(line);
-    }
-    let cases = draft.cases(test, labels)?;
-    Ok(line.with_exit(Exit::Choose(cases)))
-}
-
-/// For each piece of a switch's body the number of the arm that begins at it.
-fn arm_numbers(
-    alloc: Global,
-    labels: &[Label],
-    pieces: usize,
-) -> Result<Vec<Option<u32>>, AllocError> {
-    let mut numbers = Vec::new(alloc);
-    for _ in 0..pieces {
-        numbers.push(None)?;
-    }
-    for label in labels {
-        let index = label.target as usize;
-        if index < numbers.len() {
-            numbers[index] = Some(0);
-        }
-    }
-    number_arms(&mut numbers);
-    Ok(numbers)
-}
-
-/// Numbers the arms in order.
-fn number_arms(numbers: &mut [Option<u32>]) {
-    let mut next = 0u32;
-    for i in 0..numbers.len() {
-        if numbers[i].is_some() {
-            numbers[i] = Some(next);
-            next = next.saturating_add(1);
-        }
-    }
-}
-
-fn arm_number(numbers: &[Option<u32>], label: Label) -> u32 {
-    let index = label.target as usize;
-    if index < numbers.len() {
-        numbers[index].unwrap_or(0)
-    } else {
-        0
-    }
-}
-
-/// The arm of each label with a value.
-fn targets(
-    alloc: Global,
-    labels: &[Label],
-    numbers: &[Option<u32>],
-) -> Result<Vec<u32>, AllocError> {
-    let mut targets = Vec::new(alloc);
-    for label in labels {
-        if label.value.is_some() {
-            targets.push(arm_number(numbers, *label))?;
-        }
-    }
-    Ok(targets)
-}
-
-/// The arm of the label without a value.
-fn other_target(labels: &[Label], numbers: &[Option<u32>]) -> Option<u32> {
-    for label in labels {
-        if label.value.is_none() {
-            return Some(arm_number(numbers, *label));
-        }
-    }
-    None
-}
-
-/// What stands before the first arm of a switch, where one has begun, and the arms.
-#[derive(Drop)]
-struct Arms {
-    dead: Option<Vec<Part>>,
-    arms: Vec<Sequence>,
-}
-
-impl Arms {
-    /// Adds what stands before the first arm, and then each arm.
-    fn add(&mut self, done: Sequence) -> Result<(), AllocError> {
-        if self.dead.is_some() {
-            self.arms.push(done)?;
-        } else {
-            let Sequence {
-                first: _first,
-                rest,
-            } = done;
-            self.dead = Some(rest);
-        }
-        Ok(())
-    }
+    line.then(alloc, shape, end)
 }
 
 /// The body of a switch.
 #[cycle(sequence)]
 fn lower_arms(
+    alloc: Global,
     expanded: &Expanded,
-    draft: &mut Draft,
-    numbers: &[Option<u32>],
-    body: &[Piece],
+    labels: &[Label],
+    body: &Vec<Piece>,
     end: &Point,
-) -> Result<Arms, AllocError> {
-    let alloc = draft.alloc();
-    let mut arms = Arms {
-        dead: None,
-        arms: Vec::new(alloc),
-    };
-    let mut line = Line::dead(alloc, end)?;
+) -> Result<Blocks, AllocError>
+    ensures dead { IfOk result (λ blocks. part_row (map part_of blocks.dead.items) ≡ parts_of (spec.before_arm (scope_of expanded.now) labels.now 0 (pieces_of body.now.items) (record (begun end.now) { exit = break_ }))) }
+    ensures arms { IfOk result (λ blocks. arm_row (map sequence_of blocks.arms.items) ≡ spec.arms (scope_of expanded.now) labels.now 0 (pieces_of body.now.items) end.now) }
+{
+    let named = arm_begins(alloc, labels, body.len())?;
+    let mut arms = Arms::new(alloc, end)?;
     for i in 0..body.len() {
-        let piece = &body[i];
-        if i < numbers.len() && numbers[i].is_some() {
-            arms.add(line.finish(draft)?)?;
-            line = Line::new(alloc, point_of(piece).unwrap_or(end))?;
-        }
-        line = lower_piece(expanded, draft, line, piece)?;
+        arms = lower_in_arm(alloc, expanded, arms, begins(&named, i), &body[i], end)?;
     }
-    arms.add(line.finish(draft)?)?;
-    Ok(arms)
+    arms.finish(alloc)
+}
+
+/// A piece of a switch's body, at which an arm may begin.
+#[cycle(sequence)]
+fn lower_in_arm(
+    alloc: Global,
+    expanded: &Expanded,
+    arms: Arms,
+    begins: bool,
+    piece: &Piece,
+    end: &Point,
+) -> Result<Arms, AllocError>
+    ensures { (rest : Rest) (more : ArmTrees) → IfOk result (λ now. ended_arms now rest more ≡ (if begins then ended_arms arms last (more_arms (spec.lowered_piece (scope_of expanded.now) (piece_of piece.now) rest (begun (shapes.or_at end.now (shapes.point_of (piece_of piece.now))))) more) else ended_arms arms (spec.lowered_piece (scope_of expanded.now) (piece_of piece.now) rest) more)) }
+{
+    let Arms { closed, line } = arms.begin(alloc, begins, point_of(piece).unwrap_or(end))?;
+    Ok(Arms {
+        closed,
+        line: lower_piece(alloc, expanded, line, piece)?,
+    })
 }

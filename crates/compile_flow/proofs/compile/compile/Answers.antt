@@ -2,6 +2,7 @@ use Rattle.std.proofs.Common.{◌≡◌, subst}
 use Rattle.cycle_report.specs.PlainReport.{plain_of}
 use Rattle.pieces.specs.Program.{ExpandedTree}
 use Rattle.ir_lower.specs.Frames.{frame_view}
+use Rattle.compile_flow.specs.Flat.{IsFlatOf}
 use Rattle.compile_flow.specs.Resets.{expanded_frame, AreAddressable, reset_cycles}
 use Rattle.compile_flow.proofs.compile.compile.Goals as goal
 
@@ -12,3 +13,7 @@ returns-clause-frame c =
 pub returns-clause-init : goal.returns-clause-init
 returns-clause-init c =
     subst (λ (e : ExpandedTree). AreAddressable (expanded_frame e) → (plain_of c.in_ok-compiled.compiled.report).init ≡ reset_cycles (expanded_frame e)) c.in_ok-expanded.ensures.made c.in_ok-compiled.ensures.init
+
+pub returns-clause-flat : goal.returns-clause-flat
+returns-clause-flat c =
+    subst (λ (e : ExpandedTree). IsFlatOf e c.args.settings.now.plain c.in_ok-compiled.compiled.untimed) c.in_ok-expanded.ensures.made c.in_ok-compiled.ensures.flat

@@ -14,10 +14,10 @@ returns-clause-longer c =
     c.args.settings.now (netlist_of c.in_ok-design.design) c.in_ok-timed.ensures c.in_ok-report.ensures.report
 
 pub returns-clause-frame : goal.returns-clause-frame
-returns-clause-frame c = c.in_ok-timed.ensures.frame ∙ (c.in_ok-untimed.ensures ∙ frame_is c.args.expanded.now)
+returns-clause-frame c = c.in_ok-timed.ensures.frame ∙ (c.in_ok-untimed.ensures.frame ∙ frame_is c.args.expanded.now)
 
 pub returns-clause-init : goal.returns-clause-init
 returns-clause-init c =
     let same : frame_view c.in_ok-timed.field-0.timed.frame ≡ expanded_frame (expanded_of c.args.expanded.now) =
-    c.in_ok-timed.ensures.frame ∙ (c.in_ok-untimed.ensures ∙ frame_is c.args.expanded.now) in
+    c.in_ok-timed.ensures.frame ∙ (c.in_ok-untimed.ensures.frame ∙ frame_is c.args.expanded.now) in
     reset_is c.in_ok-timed.field-0.timed.frame (expanded_frame (expanded_of c.args.expanded.now)) (plain_of c.in_ok-report.report).init same c.in_ok-report.ensures.report.init

@@ -6,6 +6,7 @@ returns c = record {
   timed = c.in_ok-compiled.compiled.timed;
   frame = c.in_ok-compiled.ensures.frame;
   init = c.in_ok-compiled.ensures.init;
+  flat = c.in_ok-compiled.ensures.flat;
   is_timed = c.in_ok-compiled.ensures.timed;
   reported = c.in_ok-compiled.ensures.report;
   longer = c.in_ok-compiled.ensures.longer;

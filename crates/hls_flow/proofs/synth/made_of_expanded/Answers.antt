@@ -19,6 +19,7 @@ returns c =
         timed = compiled.timed;
         frame = c.in_ok-compiled.ensures.frame;
         init = c.in_ok-compiled.ensures.init;
+        flat = c.in_ok-compiled.ensures.flat;
         is_timed = c.in_ok-compiled.ensures.timed;
         reported = reported;
         longer = c.in_ok-compiled.ensures.longer;

@@ -1,0 +1,37 @@
+-- Which flat program an expanded program becomes: its pieces are lowered to a tree of blocks, in which equal operations become one, forks and loops are converted, and which is laid out.
+use Rattle.std.specs.Prelude.{◌≡◌, ℕ, Bool, false, not, List, map, Some}
+use Rattle.hls_base.specs.declared.point.Point.{Point}
+use Rattle.c_value.specs.Values.{width}
+use Rattle.pieces.specs.Program.{ExpandedTree}
+use Rattle.ir_core.specs.declared.cfg.Cfg.{Cfg}
+use Rattle.ir_core.specs.declared.stamp.Untimed.{Untimed}
+use Rattle.block_meaning.specs.Trees.{SequenceTree}
+use Rattle.lowering.specs.Shapes.{first_point}
+use Rattle.lowering.specs.Blocks.{begun}
+use Rattle.lowering.specs.Lowering.{scope_of, last, lowered}
+use Rattle.numbering.specs.Numbering.{numbered_sequence}
+use Rattle.conversion.specs.Conversion.{converted_sequence}
+use Rattle.ir_layout.specs.Nodes.{node_of}
+use Rattle.ir_layout.specs.Layout.{laid_out}
+
+abbrev pub variable_widths : ExpandedTree → List ℕ
+variable_widths e = map width e.variables
+
+-- the tree of blocks that pieces are lowered to, which begins at this point
+abbrev pub tree_of : ExpandedTree → Point → SequenceTree
+tree_of e start = lowered (scope_of e) e.pieces last (begun start)
+
+-- the same with equal operations as one
+abbrev pub numbered_of : ExpandedTree → Point → SequenceTree
+numbered_of e start = numbered_sequence (record { widths = variable_widths e; apart = false }) (tree_of e start)
+
+-- the same with forks and loops converted; where the program is to be plain, no loop is
+abbrev pub converted_of : ExpandedTree → Bool → Point → SequenceTree
+converted_of e plain start = converted_sequence (record { widths = variable_widths e; loops = not plain }) (numbered_of e start)
+
+-- the nodes of the program
+pub record IsFlatOf (e : ExpandedTree) (plain : Bool) (cfg : Cfg Untimed) : Type 0 where
+  pub start : Point
+  pub starts : first_point e.pieces ≡ Some start
+  pub first : cfg.first.0 ≡ 0
+  pub nodes : map node_of cfg.nodes.items ≡ laid_out (converted_of e plain start) e.result

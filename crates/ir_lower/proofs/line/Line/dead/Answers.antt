@@ -1,0 +1,6 @@
+use Rattle.block_meaning.specs.Trees.{break_}
+use Rattle.block_draft.specs.Drafts.{opened}
+use Rattle.ir_lower.proofs.line.Line.dead.Goals as goal
+
+pub returns : goal.returns
+returns c = λ rest i. rest (opened (c.in_ok-copy.ensures i) break_ (c.new.ensures i))
