@@ -6,3 +6,4 @@ pub mod Appending
 pub mod Reading
 pub mod Phases
 pub mod Gates
+pub mod Orderly

@@ -1,5 +1,5 @@
 -- The form in which a timed program is run.
-use Rattle.std.specs.Prelude.{◌≡◌, ℕ, ◌+◌, ◌-◌, ◌*◌, ◌/◌, ◌^◌, List, [], ◌∷◌, length, map, min, slice_get, Some}
+use Rattle.std.specs.Prelude.{◌≡◌, ℕ, ◌+◌, ◌-◌, ◌*◌, ◌/◌, ◌^◌, ◌<◌, List, [], ◌∷◌, length, map, min, slice_get, Some}
 use Rattle.std.specs.Option.{option_map}
 use Rattle.hls_base.specs.declared.number.NodeId.{NodeId}
 use Rattle.ir_core.specs.declared.body.Operand.{Operand}
@@ -38,6 +38,7 @@ pub record IsActionOf (widths : List ℕ) (b : TimedBody) (k : ℕ) (o : TimedOp
   pub guard : a.guard ≡ option_map (read_of b o.start) o.op.guard
   pub start : a.start ≡ o.start
   pub ready : a.ready ≡ o.start + latency o
+  pub soon : a.ready < 2 ^ 64
   pub gate : a.gate ≡ place b.interval (known b) o.start 0
   pub wait : a.wait ≡ (latency o - 1) / b.interval
   pub entry : a.entry ≡ entry_in b.outs k
@@ -93,7 +94,7 @@ abbrev pub IsStageOf : List ℕ → TimedNode → Stage → Type 0
 IsStageOf widths (block b e) (stage.Block w way) =
     IsWorkOf widths b b.interval 0 w × IsWayOf b b.interval e way × ((depth : ℕ) × ((size : ℕ) × (IsDeep depth size w × CoversWay depth way)))
 IsStageOf widths (overlapped b exit next) (stage.Loop w e) =
-    IsWorkOf widths b exit 1 w × (e.exit ≡ exit) × (e.gate ≡ place b.interval (known b) exit 0) × (e.next.0 ≡ next) × ((depth : ℕ) × ((size : ℕ) × IsDeep depth size w))
+    IsWorkOf widths b exit 1 w × (e.exit ≡ exit) × (exit < 2 ^ 32) × (e.gate ≡ place b.interval (known b) exit 0) × (e.next.0 ≡ next) × ((depth : ℕ) × ((size : ℕ) × IsDeep depth size w))
 IsStageOf widths n s = ⊥
 
 pub record IsProgramOf (p : TimedProgram) (g : Program) : Type 0 where

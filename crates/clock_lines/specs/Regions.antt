@@ -1,5 +1,5 @@
 -- Bodies whose times are within what a machine counts.
-use Rattle.std.specs.Prelude.{◌≡◌, ℕ, ◌<◌, ◌^◌, slice_get, Some}
+use Rattle.std.specs.Prelude.{◌≡◌, ℕ, ◌<◌, ◌≤◌, ◌^◌, slice_get, Some}
 use Rattle.ir_core.specs.declared.body.Body.{Body}
 use Rattle.ir_core.specs.declared.cfg.Cfg.{Cfg}
 use Rattle.ir_core.specs.declared.cfg.Node.{Node}
@@ -20,10 +20,11 @@ pub record IsOrderly (r : Region) : Type 0 where
 
 -- ---- programs
 
+-- Each operation starts before 2 to the power of 32, iterations begin some cycles apart, and a test is known before the next one begins.
 pub record IsOrderlyBody (interval : ℕ) (b : Body Timed) : Type 0 where
   pub early : AreEarly b.ops.items
   pub positive : 0 < interval
-  pub known : known (timed_body interval b) < 2 ^ 32
+  pub known : known (timed_body interval b) ≤ interval
 
 abbrev pub IsOrderlyNode : Node Timed → Type 0
 IsOrderlyNode (node.Plain block) = IsOrderlyBody block.length block.body

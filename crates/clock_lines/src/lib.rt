@@ -4,6 +4,7 @@
 pub mod agenda;
 mod depths;
 mod forms;
+pub mod laws;
 pub mod making;
 pub mod program;
 mod reads;

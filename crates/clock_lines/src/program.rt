@@ -1,4 +1,7 @@
 //! A timed program in the form in which it is run.
+ghost use Rattle.std.specs.Prelude.{◌≡◌};
+ghost use Rattle.clock_lines.specs.Stages.{work_in};
+
 use crate::agenda::Agenda;
 use hls_base::number::{ArrayId, NodeId};
 use ir_core::body::OpKind;
@@ -95,7 +98,9 @@ pub struct Program {
     pub is_void: bool,
 }
 
-pub fn work_of(stage: &Stage) -> &Work {
+pub fn work_of(stage: &Stage) -> &Work
+    ensures { result.now ≡ work_in stage.now }
+{
     match stage {
         Stage::Block { work, .. } => work,
         Stage::Loop { work, .. } => work,

@@ -1,5 +1,5 @@
 //! The variables, and the lines in which the last values of operations stand.
-ghost use Rattle.std.specs.Prelude.{◌≡◌, ◌≢◌, ◌+◌, ◌<◌, ◌≤◌, ◌^◌, ℕ, length, get_or, slice_get, slice_set, Some};
+ghost use Rattle.std.specs.Prelude.{◌≡◌, ◌≢◌, ◌+◌, ◌-◌, ◌<◌, ◌≤◌, ◌^◌, ℕ, min, length, get_or, slice_get, slice_set, Some};
 ghost use Rattle.clock_lines.specs.Registers as spec;
 
 use crate::program::{Line, Read};
@@ -43,7 +43,7 @@ fn set_head(heads: &mut [usize], number: usize, head: usize)
 /// No line ends behind this.
 pub fn extent(lines: &[Line]) -> usize
     ensures { (k : ℕ) (line : Line) → slice_get lines.now k ≡ Some line →
-        line.first + line.length < 2 ^ 64 → line.first + line.length ≤ result }
+        min (line.first + line.length) (2 ^ 64 - 1) ≤ result }
 {
     let mut most = 0usize;
     for line in lines {

@@ -4,3 +4,15 @@ pub mod TakenWords
 pub mod Made
 pub mod Ready
 pub mod Ticks
+pub mod Effects
+pub mod Doing
+pub mod Storing
+pub mod Beginning
+pub mod Left
+pub mod Staying
+pub mod Turns
+pub mod Entering
+pub mod Going
+pub mod Testing
+pub mod Runs
+pub mod Orderly

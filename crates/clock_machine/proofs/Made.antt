@@ -51,7 +51,7 @@ module _ (widths : List ℕ) (b : TimedBody) (w : Work) (r0 : Registers) (form :
   ]
 
   -- an operation starts at the time of its action
-  start_of : (k : ℕ) (o : TimedOp) → slice_get b.ops k ≡ Some o → get_or starts k 0 ≡ o.start
+  pub start_of : (k : ℕ) (o : TimedOp) → slice_get b.ops k ≡ Some o → get_or starts k 0 ≡ o.start
   start_of k o is =
       let lt = slice_get_within b.ops k o is in
       let lt2 : k < length w.actions.items = omega (arith, lt, form.work.count) in

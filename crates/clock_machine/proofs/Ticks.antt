@@ -1,15 +1,15 @@
 -- Behind a cycle lines show the next one.
-use Rattle.std.proofs.Common.{◌≡◌, ℕ, suc, ◌+◌, ◌*◌, ◌/◌, ◌%◌, ◌<◌, ◌≤◌, ◌^◌, List, [], ◌∷◌, length, get_or, sym, ap, ◌∙◌, subst, arith, div-add-mod', suc-mul}
+use Rattle.std.proofs.Common.{◌≡◌, ℕ, suc, ◌+◌, ◌*◌, ◌/◌, ◌%◌, ◌<◌, ◌≤◌, ◌^◌, List, [], ◌∷◌, length, get_or, refl, sym, ap, ◌∙◌, subst, arith, div-add-mod', suc-mul}
 use Rattle.std.proofs.lemmas.Nat.{mod-mul-add, mod_below}
 use Rattle.std.proofs.lemmas.Option.{slice_get-get_or, slice_get_past}
 use Rattle.block_meaning.specs.Bodies.{Shapes}
-use Rattle.clock_meaning.specs.Flows.{TimedOp, TimedBody, Flow, chain_behind, under_way_behind, tick}
+use Rattle.clock_meaning.specs.Flows.{TimedOp, TimedBody, Flow, behind_stores, chain_behind, gates_now, under_way_behind, tick}
 use Rattle.clock_lines.specs.declared.program.Line.{Line}
 use Rattle.clock_lines.specs.declared.program.Work.{Work}
 use Rattle.clock_lines.specs.declared.registers.Registers.{Registers}
 use Rattle.clock_lines.specs.Registers.{held}
-use Rattle.clock_lines.specs.Showing.{Shows, ShowsChain, ShowsMade}
-use Rattle.clock_machine.specs.Keeping.{IsForm, ShowsReady}
+use Rattle.clock_lines.specs.Showing.{Shows, ShowsChain, ShowsGates, ShowsMade}
+use Rattle.clock_machine.specs.Keeping.{IsForm, IsMoment, IsNextMoment, ShowsReady}
 
 op_in : (xs : List TimedOp) (k : ℕ) → k < length xs → TimedOp
 op_in [] k lt = absurd (omega (arith, lt))
@@ -55,3 +55,21 @@ goes_round time w some le =
     let small = mod_below time w some in
     let next = suc-mul (time / w) w in
     ap (λ x. x % w) (let z : suc time ≡ suc (time / w) * w + 0 = omega (arith, d, small, next, le) in z) ∙ mod-mul-add (suc (time / w)) w 0 some
+
+-- ---- the moment and the gates of the next cycle
+
+pub next_moment : (shapes : Shapes) (b : TimedBody) (f : Flow) (phase time : ℕ) → IsNextMoment b f phase time → IsMoment b (tick shapes b f) phase time
+unfolding tick
+next_moment shapes b f phase time h = record { phase_is = h.phase_is; time_is = h.time_is }
+
+pub next_gates : (shapes : Shapes) (b : TimedBody) (f : Flow) (failed : ℕ) → ShowsGates (gates_now b f) failed → ShowsGates (tick shapes b f).gates failed
+unfolding tick
+next_gates shapes b f failed h = h
+
+pub next_memories : (shapes : Shapes) (b : TimedBody) (f : Flow) → (tick shapes b f).memories ≡ behind_stores shapes b f b.ops f.memories
+unfolding tick
+next_memories shapes b f = refl
+
+pub next_time : (shapes : Shapes) (b : TimedBody) (f : Flow) → (tick shapes b f).time ≡ suc f.time
+unfolding tick
+next_time shapes b f = refl

@@ -17,9 +17,12 @@ pub record IsNextMoment (b : TimedBody) (f : Flow) (phase time : ℕ) : Type 0 w
   pub phase_is : phase ≡ suc f.time % b.interval
   pub time_is : time ≡ min (suc f.time) (2 ^ 64 - 1)
 
--- a buffer has what the operations give that start in this cycle
+-- a buffer has what operation k gives, if it starts in this cycle
+abbrev pub GivesAt : Shapes → TimedBody → Flow → List ℕ → ℕ → Type 0
+GivesAt shapes b f fresh k = (o : TimedOp) → slice_get b.ops k ≡ Some o → is_at b.interval o.start f.time ≡ true → get_or fresh k 0 ≡ given shapes b f o
+
 abbrev pub HasGiven : Shapes → TimedBody → Flow → List ℕ → Type 0
-HasGiven shapes b f fresh = (k : ℕ) (o : TimedOp) → slice_get b.ops k ≡ Some o → is_at b.interval o.start f.time ≡ true → get_or fresh k 0 ≡ given shapes b f o
+HasGiven shapes b f fresh = (k : ℕ) → GivesAt shapes b f fresh k
 
 -- the form of a body whose lines are long enough
 pub record IsForm (widths : List ℕ) (b : TimedBody) (w : Work) (r : Registers) : Type 0 where

@@ -1,6 +1,9 @@
+pub mod Sizes
 pub mod Halts
 pub mod Starts
 pub mod Acts
 pub mod Leaving
 pub mod Starting
 pub mod Keeping
+pub mod Standing
+pub mod Runs

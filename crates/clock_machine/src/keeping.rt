@@ -1,27 +1,50 @@
 //! What goes into lines in a cycle.
-ghost use Rattle.std.specs.Prelude.{◌≡◌, ◌+◌, ◌<◌, ◌≤◌, length, get_or, slice_get, Some};
+ghost use Rattle.std.specs.Prelude.{◌≡◌, ◌+◌, ◌<◌, ◌≤◌, ℕ, length, get_or, slice_get, Some, None};
 ghost use Rattle.block_meaning.specs.Bodies.{Shapes};
-ghost use Rattle.clock_meaning.specs.Flows.{TimedBody, Flow};
+ghost use Rattle.clock_meaning.specs.Flows.{TimedBody, Flow, first_flow};
 ghost use Rattle.clock_lines.specs.declared.program.Action.{Action};
-ghost use Rattle.clock_lines.specs.Registers.{HasPushed, LineIsWithin, SameSizes, value_in};
+ghost use Rattle.clock_lines.specs.Registers.{HasPushed, LineIsWithin, SameSizes, held, value_in};
 ghost use Rattle.clock_lines.specs.Showing.{Shows};
 ghost use Rattle.clock_machine.specs.Keeping.{IsForm, IsMoment, IsNextMoment, HasGiven, ShowsGiven, ShowsReady};
+ghost use Rattle.clock_machine.specs.Standing.{HasWords, IsWholeBody};
 
 use clock_lines::program::{Read, Work};
 use clock_lines::registers::Registers;
 use clock_lines::words::word_at;
 
+/// The line of an operation begins with what a variable holds, if there is one whose next value it makes.
+fn begin_one(registers: &mut Registers, work: &Work, number: usize)
+    ensures rests { (a : Action) → slice_get work.now.actions.items number ≡ Some a → a.entry ≡ None →
+        registers.new ≡ registers.old }
+    ensures pushes { (a : Action) (v : ℕ) → slice_get work.now.actions.items number ≡ Some a → a.entry ≡ Some v →
+        HasPushed registers.old registers.new work.now.lines.items number (held registers.old.variables.items v) }
+    ensures variables { registers.new.variables ≡ registers.old.variables }
+    ensures sizes { SameSizes registers.old registers.new }
+{
+    let count = work.actions.len();
+    if number < count {
+        match work.actions[number].entry {
+            Some(variable) => {
+                let word = word_at(&registers.variables, variable);
+                registers.push(&work.lines, number, word);
+            }
+            None => {}
+        }
+    }
+}
+
 /// The lines begin with what variables hold.
 pub fn begin_lines(registers: &mut Registers, work: &Work)
+    ensures shows { (shapes : Shapes) (b : TimedBody) (memories : ℕ → ℕ → ℕ) →
+        IsForm shapes.widths b work.now registers.old → HasWords work.now registers.old → IsWholeBody shapes b →
+        Shows b work.now.lines.items registers.new
+        (first_flow b (record { variables = held registers.old.variables.items; memories = memories })) }
     ensures variables { registers.new.variables ≡ registers.old.variables }
     ensures sizes { SameSizes registers.old registers.new }
 {
     registers.reset(&work.lines);
-    for (number, action) in work.actions.iter().enumerate() {
-        if let Some(variable) = action.entry {
-            let word = word_at(&registers.variables, variable);
-            registers.push(&work.lines, number, word);
-        }
+    for number in 0..work.actions.len() {
+        begin_one(registers, work, number);
     }
 }
 

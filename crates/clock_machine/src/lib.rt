@@ -6,4 +6,6 @@ mod first;
 mod keeping;
 mod leaving;
 pub mod machine;
+mod room;
 mod state;
+mod steps;

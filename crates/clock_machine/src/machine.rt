@@ -1,12 +1,15 @@
-ghost use Rattle.std.specs.Prelude.{◌≡◌, ◌<◌, ◌==◌, length, map, IfOk, false, true};
+ghost use Rattle.std.specs.Prelude.{◌≡◌, ◌<◌, ◌+◌, ◌==◌, ℕ, Option, length, map, get_or, IfOk, false, true};
 ghost use Rattle.hls_base.specs.ArrayAddress.{addresses};
+ghost use Rattle.block_meaning.specs.Bodies.{Words};
 ghost use Rattle.block_meaning.specs.FirstContents.{first_words};
 ghost use Rattle.machine_laws.specs.Halts.{HasHalted, is_ended};
 ghost use Rattle.machine_memory.specs.Contents.{dims_in, dims_at, element_in};
-ghost use Rattle.clock_meaning.specs.ClockRuns.{timed_program};
+ghost use Rattle.clock_meaning.specs.ClockRuns.{TimedProgram, ended, timed_program, clock_run};
 ghost use Rattle.clock_lines.specs.Forms.{IsProgramOf};
 ghost use Rattle.clock_lines.specs.Regions.{IsOrderlyProgram};
 ghost use Rattle.clock_machine.specs.Halts.{halt_at};
+ghost use Rattle.clock_machine.specs.Runs.{IsBehind};
+ghost use Rattle.clock_machine.specs.Standing.{IsWholeProgram};
 ghost use Rattle.clock_machine.specs.Starts.{IsNamed, IsStarting};
 
 use crate::state::{Position, State};
@@ -35,6 +38,8 @@ impl ClockMachine {
             IsProgramOf (timed_program cfg.now) m.program) }
         ensures begins { IfOk result (λ m. IsNamed cfg.now.frame →
             IsStarting (first_words cfg.now.frame inputs.now) m.state) }
+        ensures first { IfOk result (λ m. IsOrderlyProgram cfg.now → IsWholeProgram (timed_program cfg.now) →
+            IsNamed cfg.now.frame → IsBehind (timed_program cfg.now) (first_words cfg.now.frame inputs.now) 0 m) }
     {
         let program = program_of(alloc, cfg)?;
         let state = State::new(alloc, cfg, &program, inputs)?;
@@ -52,15 +57,34 @@ impl ClockMachine {
         }
     }
 
-    /// So many steps, or fewer where the run ends.
-    fn go_on(&mut self, steps: u64)
-        ensures { self.new.program ≡ self.old.program }
+    /// One edge of the clock, if the run has not ended.
+    fn go_on(&mut self)
+        ensures stays { HasHalted (halt_at self.old.state.position) → self.new ≡ self.old }
+        ensures program { self.new.program ≡ self.old.program }
+        ensures run { (p : TimedProgram) (t : Words) (n : ℕ) →
+            IsBehind p t n self.old → IsBehind p t (n + 1) self.new }
     {
-        for _ in 0..steps {
-            if self.state.position == Position::Ended {
-                break;
+        if let Position::Ended = self.state.position {
+            return;
+        }
+        self.state.step(&self.program);
+    }
+
+    /// So many edges, or fewer where the run ends.
+    fn go_far(&mut self, steps: u64)
+        ensures stays { HasHalted (halt_at self.old.state.position) → self.new ≡ self.old }
+        ensures none { steps ≡ 0 → self.new ≡ self.old }
+        ensures program { self.new.program ≡ self.old.program }
+        ensures run { (p : TimedProgram) (t : Words) (n : ℕ) →
+            IsBehind p t n self.old → IsBehind p t (n + steps) self.new }
+    {
+        let mut left = steps;
+        while left > 0 {
+            if let Position::Ended = self.state.position {
+                return;
             }
-            self.state.step(&self.program);
+            self.go_on();
+            left -= 1;
         }
     }
 }
@@ -72,10 +96,10 @@ impl Machine<Timed> for ClockMachine {
         ensures answer { result ≡ halt_at self.new.state.position }
         ensures stays { HasHalted (halt_at self.old.state.position) → self.new ≡ self.old }
         ensures program { self.new.program ≡ self.old.program }
+        ensures run { (p : TimedProgram) (t : Words) (n : ℕ) →
+            IsBehind p t n self.old → IsBehind p t (n + 1) self.new }
     {
-        if self.halt() == Halt::Running {
-            self.state.step(&self.program);
-        }
+        self.go_on();
         self.halt()
     }
 
@@ -84,10 +108,10 @@ impl Machine<Timed> for ClockMachine {
         ensures stays { HasHalted (halt_at self.old.state.position) → self.new ≡ self.old }
         ensures none { steps ≡ 0 → self.new ≡ self.old }
         ensures program { self.new.program ≡ self.old.program }
+        ensures run { (p : TimedProgram) (t : Words) (n : ℕ) →
+            IsBehind p t n self.old → IsBehind p t (n + steps) self.new }
     {
-        if steps > 0 && self.halt() == Halt::Running {
-            self.go_on(steps);
-        }
+        self.go_far(steps);
         self.halt()
     }
 
@@ -96,6 +120,8 @@ impl Machine<Timed> for ClockMachine {
         ensures void { self.now.program.is_void ≡ true → result ≡ None }
         ensures result { is_ended (halt_at self.now.state.position) ≡ true →
             self.now.program.is_void ≡ false → result ≡ self.now.state.returned }
+        ensures word { (p : TimedProgram) (t last : Words) (n : ℕ) (w : Option ℕ) → IsBehind p t n self.now →
+            clock_run p t n ≡ ended w last → self.now.program.is_void ≡ false → result ≡ w }
     {
         if self.program.is_void || self.halt() != Halt::Ended {
             None
@@ -105,8 +131,11 @@ impl Machine<Timed> for ClockMachine {
     }
 
     fn element(&self, array: ArrayId, index: u32) -> u64
-        ensures { index < length (addresses (dims_at (dims_in self.now.state.memories) array)) →
+        ensures at { index < length (addresses (dims_at (dims_in self.now.state.memories) array)) →
             result ≡ element_in self.now.state.memories array index }
+        ensures last { (p : TimedProgram) (t last : Words) (n : ℕ) (w : Option ℕ) → IsBehind p t n self.now →
+            clock_run p t n ≡ ended w last → index < length (addresses (dims_at p.shapes.dims array)) →
+            result ≡ last.memories array.0 (get_or (addresses (dims_at p.shapes.dims array)) index 0) }
     {
         self.state.memories.element(array, index)
     }

@@ -19,6 +19,7 @@ returns c = λ k orderly early same entry.
       guard = c.operand_if.ensures orderly early;
       start = refl;
       ready = c.ready_by.ensures early;
+      soon = omega arith;
       gate = c.place.ensures orderly.positive orderly.small (omega arith) early ∙ ap (λ n. flows.place c.args.self.now.interval n op.stamp.start 0) same;
       wait = c.wait_of.ensures orderly.positive;
       entry = entry;

@@ -13,4 +13,4 @@ returns-clause-zero c = λ k back line is small lt deep.
     let head_is : get_or (take r.heads.len (heads ++ drop (length heads) r.heads.items)) k 0 ≡ 0 = ap (λ xs. get_or xs k 0) (written_back r.heads.len heads r.heads.items heads_count) ∙ c.zero_numbers.ensures k lt in
     let place = place_far line.length 0 back (omega arith) in
     ap₂ (λ ws h. value_back ws line h back) (written_back r.words.len words r.words.items words_count) head_is
-    ∙ c.zero_words.ensures (line.first + place_back line.length 0 back) (omega (arith, place, c.extent.ensures k line is small, deep))
+    ∙ c.zero_words.ensures (line.first + place_back line.length 0 back) (let far = c.extent.ensures k line is in omega (arith, place, far, small, deep))

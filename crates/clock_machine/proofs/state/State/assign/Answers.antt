@@ -1,4 +1,4 @@
-use Rattle.std.proofs.Common.{◌≡◌, ◌≤◌, ℕ, List, length, take, map, ap, ◌∙◌, subst, arith}
+use Rattle.std.proofs.Common.{◌≡◌, ◌≤◌, ℕ, List, length, take, map, refl, ap, ◌∙◌, subst, arith}
 use Rattle.machine_memory.proofs.Banks.{written_back}
 use Rattle.clock_lines.specs.declared.program.Assignment.{Assignment}
 use Rattle.clock_lines.specs.declared.program.Line.{Line}
@@ -27,3 +27,23 @@ returns-clause-does c = λ long within there.
     let sets = subst (λ us. Sets xs into us) c.deref_mut-2.ensures.value
     (subst (λ ws. Sets xs ws c.deref_mut-2.result.now) buffer (subst (λ as_. Sets as_ c.deref-4.result.now c.deref_mut-2.result.now) c.deref-3.ensures.value c.set_assigned.ensures)) (omega (arith, long, into_count, s.fresh.ok.0)) there in
     ap held (written_back r.variables.len new vs new_count) ∙ sets ∙ words_read (word_read r lines) xs into (held vs) reads
+
+pub returns-clause-room : goal.returns-clause-room
+returns-clause-room c =
+    let s = c.args.self.now in
+    let r = s.registers in
+    let into = c.read_assigned.new.into in
+    let new = c.set_assigned.new.variables in
+    let into_count : length into ≡ s.fresh.len = omega (arith, c.read_assigned.auto.into, ap length c.deref_mut.ensures.value, s.fresh.ok.0) in
+    let new_count : length new ≡ r.variables.len = omega (arith, c.set_assigned.auto.variables, ap length c.deref_mut-2.ensures.value, r.variables.ok.0) in
+    record {
+      registers = record {
+        variables = ap length (written_back r.variables.len new r.variables.items new_count) ∙ new_count ∙ r.variables.ok.0;
+        words = refl;
+        heads = refl;
+      };
+      args = refl;
+      fresh = ap length (written_back s.fresh.len into s.fresh.items into_count) ∙ into_count ∙ s.fresh.ok.0;
+      dims = refl;
+      first = refl;
+    }

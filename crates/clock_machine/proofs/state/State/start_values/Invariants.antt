@@ -1,14 +1,23 @@
-use Rattle.std.proofs.Common.{◌≡◌, ◌-◌, length}
-use Rattle.machine_memory.specs.Contents.{dims_in}
+use Rattle.std.proofs.Common.{◌≡◌, ◌-◌, ◌<◌, ℕ, length, map}
+use Rattle.block_meaning.specs.Bodies.{Shapes}
+use Rattle.machine_memory.specs.Contents.{words_in}
+use Rattle.clock_meaning.specs.Flows.{TimedBody, Flow}
+use Rattle.clock_lines.specs.declared.program.Action.{Action}
+use Rattle.clock_lines.specs.Agendas.{phase_at}
+use Rattle.clock_machine.specs.Keeping.{GivesAt}
+use Rattle.clock_machine.specs.Standing.{IsAt}
 use Rattle.clock_machine.proofs.state.State.start_values.Given as goal
 
 abbrev pub invariant-loop-number : goal.invariant-loop-number
 invariant-loop-number l = record {
-  memories : l.self.memories ≡ l.initial.self.memories;
-  dims : dims_in l.self.memories ≡ dims_in l.initial.self.memories;
-  registers : l.self.registers ≡ l.initial.self.registers;
-  moment : l.self.moment ≡ l.initial.self.moment;
+  same : l.self ≡ record l.initial.self { args = l.self.args; fresh = l.self.fresh };
   args : length l.self.args.items ≡ length l.initial.self.args.items;
+  fresh : length l.self.fresh.items ≡ length l.initial.self.fresh.items;
+  given : (shapes : Shapes) (b : TimedBody) (f : Flow) → IsAt shapes b l.work f l.initial.self → words_in l.initial.self.memories ≡ f.memories
+      → record {
+        at : l.number < length l.work.actions.items → phase_at b.interval (map (λ (a : Action). a.start) l.work.actions.items) l.number ≡ l.initial.self.moment.phase;
+        given : (k : ℕ) → k < l.number → GivesAt shapes b f l.self.fresh.items k;
+      };
 }
 
 abbrev pub decreases-loop-number : goal.decreases-loop-number
