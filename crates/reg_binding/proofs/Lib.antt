@@ -1,2 +1,6 @@
 pub mod Examples
+pub mod Meeting
+pub mod Members
+pub mod Pools
+pub mod Rows
 pub mod Sharing

@@ -1,2 +1,4 @@
+pub mod Assigned
 pub mod Lives
+pub mod Pools
 pub mod Sharing

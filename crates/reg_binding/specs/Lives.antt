@@ -1,6 +1,6 @@
--- When the results of operations are read, and from when until when those of a block are to be held.
-use Rattle.std.specs.Prelude.{ℕ, suc, ◌+◌, ◌-◌, ◌*◌, ◌==◌, nat_lt, nat_le, Bool, if◌then◌else◌, List, [], ◌∷◌, ◌++◌, max, slice_get, Option, Some, None, option_to_list}
-use Rattle.std.specs.List.{flat_map}
+-- When the results of operations are read, and from when until when they are to be held.
+use Rattle.std.specs.Prelude.{ℕ, suc, ◌+◌, ◌-◌, ◌*◌, ◌/◌, ◌==◌, nat_lt, nat_le, Bool, false, if◌then◌else◌, List, [], ◌∷◌, ◌++◌, map, min, max, slice_get, Option, Some, None, option_to_list}
+use Rattle.std.specs.List.{flat_map, list_any, range_with_len}
 use Rattle.hls_base.specs.declared.number.NodeId.{NodeId}
 use Rattle.ir_core.specs.declared.body.Op.{Op}
 use Rattle.ir_core.specs.declared.body.Operand.{Operand}
@@ -11,6 +11,8 @@ use Rattle.ir_core.specs.declared.cfg.Block.{Block}
 use Rattle.ir_core.specs.declared.cfg.End.{End}
 use Rattle.ir_core.specs.declared.cfg.Loop.{Loop}
 use Rattle.ir_core.specs.declared.cfg.End.TheVariants as end
+use Rattle.ir_core.specs.declared.cfg.Node.{Node}
+use Rattle.ir_core.specs.declared.cfg.Node.TheVariants as node
 use Rattle.ir_operation.specs.Timing.{latency, result_bits}
 use Rattle.clock_ir.specs.declared.timed.Timed.{Timed}
 use Rattle.reg_binding.specs.declared.life.Life.{Life}
@@ -79,13 +81,14 @@ block_life k op (Some last) =
     then record { first = ready op; op = k; place = 0; width = result_bits op.kind op.bits; start = ready op; length = last - ready op + 1; entry = 0 } ∷ []
     else []
 
-abbrev pub lives_from : List Read → ℕ → List (Op Timed) → List Life
-lives_from reads k [] = []
-lives_from reads k (op ∷ ops) = block_life k op (last_read reads k) ++ lives_from reads (suc k) ops
+-- the lives of the results of these operations, of which the first has number k
+abbrev pub lives_from : (ℕ → Op Timed → Option ℕ → List Life) → List Read → ℕ → List (Op Timed) → List Life
+lives_from lives_of reads k [] = []
+lives_from lives_of reads k (op ∷ ops) = lives_of k op (last_read reads k) ++ lives_from lives_of reads (suc k) ops
 
 -- the lives of the results of a block, in the order of its operations
 abbrev pub block_lives : (ℕ → Bool) → Block Timed → List Life
-block_lives behind block = lives_from (block_reads behind block) 0 block.body.ops.items
+block_lives behind block = lives_from block_life (block_reads behind block) 0 block.body.ops.items
 
 -- ---- what the iterations of a loop read when, counted from the beginning of the iteration that makes the value
 
@@ -139,3 +142,61 @@ abbrev pub loop_reads : (ℕ → Bool) → Loop Timed → List Read
 loop_reads behind region =
     flat_map (iteration_op_reads region.body.outs.items region.ii) region.body.ops.items ++ flat_map (test_reads region) (option_to_list region.body.test)
     ++ flat_map (left_reads behind region.body.outs.items region.ii (region.ii + region.exit)) region.body.outs.items
+
+-- ---- the lives of the results of a loop, in each place of their chains
+
+-- so many cycles after an iteration the next one begins
+abbrev pub period : Loop Timed → ℕ
+period region = max 1 region.ii
+
+abbrev pub is_result : ℕ → Source → Bool
+is_result k (source.Constant word) = false
+is_result k (source.Variable v) = false
+is_result k (source.Result op) = op.0 == k
+
+-- a variable takes over the result of this operation
+abbrev pub is_taken_over : List Out → ℕ → Bool
+is_taken_over outs k = list_any (λ out. is_result k out.value.value) outs
+
+-- A result is in place 0 as it is there, and one period later in each further place; it is held there for a period, or up to its last read.
+abbrev pub place_life : ℕ → ℕ → Op Timed → ℕ → ℕ → Life
+place_life period k op last place = record {
+  first = ready op + place * period;
+  op = k;
+  place = place;
+  width = result_bits op.kind op.bits;
+  start = ready op + place * period;
+  length = min period (last - (ready op + place * period) + 1);
+  entry = 0;
+}
+
+-- The value that a variable has at entry is that of the iteration before the first one. It is in place 0 from the first cycle on.
+abbrev pub with_entry : ℕ → Life → Life
+with_entry period life =
+    if life.place == 0
+    then record life { first = 0; entry = max 1 (life.start + life.length - period) }
+    else record life { first = life.start - period; start = life.start - period }
+
+abbrev pub chain_life : List Out → ℕ → ℕ → Op Timed → ℕ → ℕ → Life
+chain_life outs period k op last place = if is_taken_over outs k then with_entry period (place_life period k op last place) else place_life period k op last place
+
+-- the places through which a result passes up to its last read
+abbrev pub chain_lives : List Out → ℕ → ℕ → Op Timed → Option ℕ → List Life
+chain_lives outs period k op None = []
+chain_lives outs period k op (Some last) =
+    if nat_le (ready op) last then map (chain_life outs period k op last) (range_with_len 0 ((last - ready op) / period + 1)) else []
+
+-- the lives of the results of a loop, in the order of its operations
+abbrev pub loop_lives : (ℕ → Bool) → Loop Timed → List Life
+loop_lives behind region = lives_from (chain_lives region.body.outs.items (period region)) (loop_reads behind region) 0 region.body.ops.items
+
+-- ---- nodes
+
+abbrev pub node_lives : (ℕ → Bool) → Node Timed → List Life
+node_lives behind (node.Plain block) = block_lives behind block
+node_lives behind (node.Looped region) = loop_lives behind region
+
+-- where the cycles of a node come again, and after how many
+abbrev pub node_period : Node Timed → Option ℕ
+node_period (node.Plain block) = None
+node_period (node.Looped region) = Some (period region)

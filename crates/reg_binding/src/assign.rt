@@ -1,6 +1,15 @@
+//! The registers of a whole program.
+ghost use Rattle.std.specs.Prelude.{◌≡◌, ◌++◌, length, map, IfOk, OnOk};
+ghost use Rattle.std.specs.List.{zip};
+ghost use Rattle.std.specs.List.Sorted.{IsPermutation};
+ghost use Rattle.live_variables.specs.Sets.{has};
+ghost use Rattle.reg_binding.specs.Lives.{node_lives, node_period};
+ghost use Rattle.reg_binding.specs.Sharing.{IsPeriod};
+ghost use Rattle.reg_binding.specs.Assigned as spec;
+
 use crate::block_reads::block_lives;
 use crate::life::Life;
-use crate::loop_reads::loop_lives;
+use crate::loop_reads::{loop_lives, period};
 use crate::registers::{Held, Registers};
 use crate::share::share;
 use clock_ir::timed::Timed;
@@ -11,50 +20,88 @@ use live_variables::live::live_variables;
 use live_variables::var_set::VarSet;
 use std::alloc::{AllocError, Global};
 
-/// The lives of the values of a node, sorted by the cycle from which they are there, and the interval of a loop. Variables that are not live behind the node take no values over.
-fn lives_of(
-    alloc: Global,
-    node: &Node<Timed>,
-    behind: &VarSet,
-) -> Result<(Vec<Life>, Option<u32>), AllocError> {
-    let (mut lives, ii) = match node {
-        Node::Plain(block) => (block_lives(alloc, block, behind)?, None),
-        Node::Looped(region) => (loop_lives(alloc, region, behind)?, Some(region.ii)),
-    };
+fn lives_of(alloc: Global, node: &Node<Timed>, behind: &VarSet) -> Result<Vec<Life>, AllocError>
+    ensures { IfOk result (λ lives. lives.items ≡ node_lives (has behind.now) node.now) }
+{
+    match node {
+        Node::Plain(block) => block_lives(alloc, block, behind),
+        Node::Looped(region) => loop_lives(alloc, region, behind),
+    }
+}
+
+/// The lives of the values of a node, sorted by their widths and by the cycles from which they are there.
+fn sorted_lives(alloc: Global, node: &Node<Timed>, behind: &VarSet) -> Result<Vec<Life>, AllocError>
+    ensures { IfOk result (λ lives. IsPermutation (node_lives (has behind.now) node.now) lives.items) }
+{
+    let mut lives = lives_of(alloc, node, behind)?;
     lives.sort()?;
-    Ok((lives, ii))
+    Ok(lives)
+}
+
+fn period_of(node: &Node<Timed>) -> Option<u32>
+    ensures value { result ≡ node_period node.now }
+    ensures period { IsPeriod result }
+{
+    match node {
+        Node::Plain(_) => None,
+        Node::Looped(region) => Some(period(region)),
+    }
 }
 
 /// Adds which register holds which value of a node.
-fn add_held(
+fn add_rows(
     node: NodeId,
     lives: &[Life],
     choices: &[usize],
     held: &mut Vec<Held>,
-) -> Result<(), AllocError> {
-    for (life, register) in lives.iter().zip(choices) {
+) -> Result<(), AllocError>
+    requires { length choices.now ≡ length lives.now }
+    ensures { OnOk result (held.new.items ≡ held.old.items ++ map (spec.row node.0) (zip lives.now choices.now)) }
+{
+    for number in 0..lives.len() {
+        let life = &lives[number];
         held.push(Held {
             node,
             op: OpId(life.op),
             place: life.place,
-            register: *register as u64,
+            register: choices[number] as u64,
         })?;
     }
     Ok(())
 }
 
+/// Gives registers to the values of a node, which need not be more than there are.
+fn assign_node(
+    alloc: Global,
+    id: NodeId,
+    node: &Node<Timed>,
+    behind: &VarSet,
+    registers: &mut Registers,
+) -> Result<(), AllocError>
+    ensures { OnOk result (spec.AddsRows id.0 (node_lives (has behind.now) node.now) (node_period node.now) registers.old registers.new) }
+{
+    let lives = sorted_lives(alloc, node, behind)?;
+    let choices = share(alloc, &lives, period_of(node), &mut registers.widths)?;
+    add_rows(id, &lives, &choices, &mut registers.held)?;
+    Ok(())
+}
+
 /// Gives each value that is read a register of its width in each place of its chain, in which no other value of its node is there in the same cycle. The registers of one node serve the others too.
-pub fn assign(alloc: Global, cfg: &Cfg<Timed>) -> Result<Registers, AllocError> {
-    let mut widths = Vec::new(alloc);
-    let mut held = Vec::new(alloc);
+pub fn assign(alloc: Global, cfg: &Cfg<Timed>) -> Result<Registers, AllocError>
+    ensures { IfOk result (λ registers. spec.IsAssignment cfg.now registers) }
+{
+    let mut registers = Registers {
+        widths: Vec::new(alloc),
+        held: Vec::new(alloc),
+    };
     let live = live_variables(alloc, cfg)?;
-    for (number, node) in cfg.nodes.iter().enumerate() {
+    for number in 0..cfg.nodes.len() {
         let Ok(id) = u32::try_from(number) else {
             return Err(impossible());
         };
-        let (lives, ii) = lives_of(alloc, node, &live.behind(alloc, node)?)?;
-        let choices = share(alloc, &lives, ii, &mut widths)?;
-        add_held(NodeId(id), &lives, &choices, &mut held)?;
+        let node = &cfg.nodes[number];
+        let behind = live.behind(alloc, node)?;
+        assign_node(alloc, NodeId(id), node, &behind, &mut registers)?;
     }
-    Ok(Registers { widths, held })
+    Ok(registers)
 }

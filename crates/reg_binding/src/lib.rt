@@ -5,5 +5,6 @@ pub mod assign;
 pub mod block_reads;
 pub mod life;
 pub mod loop_reads;
+pub(crate) mod pool;
 pub mod registers;
 pub mod share;

@@ -5,16 +5,8 @@ ghost use Rattle.reg_binding.specs.Lives as spec;
 use clock_ir::timed::Timed;
 use hls_base::refusal::impossible;
 use ir_core::body::Op;
-use ir_core::stamp::Stamp;
 use ir_operation::timing::latency;
 use std::alloc::AllocError;
-
-/// The time at which the result of an operation is there.
-pub fn available<S: Stamp>(op: &Op<S>) -> u64 {
-    op.stamp
-        .time()
-        .saturating_add(u64::from(latency(op.kind, op.bits)))
-}
 
 /// The cycle from which the result of an operation is there, which is a number of 64 bits.
 pub fn ready(op: &Op<Timed>) -> Result<u64, AllocError>
@@ -37,13 +29,13 @@ pub struct Read {
     pub time: u64,
 }
 
-/// The cycles in which one place of an operation's chain holds a value that is still to be read: `length` cycles from `start` on, and in a loop the same `interval` cycles later, and so on. Before that it is held from cycle 0 up to cycle `entry`, where the value that a variable had as the loop was entered is held as well.
+/// The cycles in which one place of an operation's chain holds a value that is still to be read: `length` cycles from `start` on, in a loop again in each later iteration. Where a variable takes the result over, the value that it has as the loop is entered is there before cycle `entry`. The first cycle of all these is `first`.
 #[derive(Clone, Copy, Debug, PartialEq, Eq, PartialOrd, Ord)]
 pub struct Life {
+    pub width: u8,
     pub first: u64,
     pub op: u32,
     pub place: u32,
-    pub width: u8,
     pub start: u64,
     pub length: u64,
     pub entry: u64,

@@ -1,11 +1,11 @@
 //! The lives of the results of a loop's operations, in all places of their chains.
-ghost use Rattle.std.specs.Prelude.{◌≡◌, ◌+◌, ◌*◌, ◌++◌, None, option_to_list, IfOk, OnOk};
-ghost use Rattle.std.specs.List.{flat_map};
+ghost use Rattle.std.specs.Prelude.{◌≡◌, ◌+◌, ◌*◌, ◌^◌, ◌<◌, ◌≤◌, ◌++◌, None, map, option_to_list, IfOk, OnOk};
+ghost use Rattle.std.specs.List.{flat_map, range_with_len};
 ghost use Rattle.live_variables.specs.Sets.{has};
 ghost use Rattle.reg_binding.specs.Lives as spec;
 
 use crate::block_reads::last_reads;
-use crate::life::{Life, Read, available, ready};
+use crate::life::{Life, Read, ready};
 use clock_ir::timed::Timed;
 use hls_base::number::VarId;
 use hls_base::refusal::impossible;
@@ -166,70 +166,148 @@ fn loop_reads(alloc: Global, region: &Loop<Timed>, behind: &VarSet) -> Result<Ve
     Ok(reads)
 }
 
-/// Whether a variable takes over the result of an operation.
-fn makes(outs: &[Out], op: u32) -> bool {
-    outs.iter().any(|out| matches!(out.value.value, Source::Result(made) if made.0 == op))
+/// So many cycles after an iteration the next one begins.
+pub fn period(region: &Loop<Timed>) -> u32
+    ensures value { result ≡ spec.period region.now }
+    ensures some { 0 < result }
+{
+    region.ii.max(1)
 }
 
-/// One place of a chain, whose last read is at a time counted from the beginning of the iteration.
-fn place_life(op: &Op<Timed>, id: u32, place: u32, ii: u32, last: u64) -> Life {
-    let period = u64::from(ii);
-    let start = available(op).saturating_add(u64::from(place) * period);
-    let left = last.saturating_sub(start).saturating_add(1);
-    Life {
-        width: result_bits(op),
+fn is_result(op: u32, value: Source) -> bool
+    ensures { result ≡ spec.is_result op value }
+{
+    match value {
+        Source::Result(made) => made.0 == op,
+        _ => false,
+    }
+}
+
+/// Whether a variable takes over the result of an operation.
+fn is_taken_over(outs: &[Out], op: u32) -> bool
+    ensures { result ≡ spec.is_taken_over outs.now op }
+{
+    for out in outs {
+        if is_result(op, out.value.value) {
+            return true;
+        }
+    }
+    false
+}
+
+/// One place of the chain of a result that is there at a time and is read for the last time at another, both counted from the beginning of the iteration.
+fn place_life(
+    op: &Op<Timed>,
+    id: u32,
+    place: u32,
+    period: u32,
+    last: u64,
+) -> Result<Life, AllocError>
+    ensures { IfOk result (λ life. life ≡ spec.place_life period id op.now last place) }
+{
+    let start = later_by(ready(op)?, place, period)?;
+    let left = last.saturating_sub(start);
+    let length = if left < u64::from(period) {
+        left + 1
+    } else {
+        u64::from(period)
+    };
+    Ok(Life {
         first: start,
         op: id,
         place,
+        width: result_bits(op),
         start,
-        length: left.min(period),
+        length,
         entry: 0,
+    })
+}
+
+/// The same where a variable takes the result over, and has another value before the first iteration.
+fn with_entry(life: Life, period: u32) -> Life
+    requires { life.length ≤ period }
+    ensures { result ≡ spec.with_entry period life }
+{
+    let period = u64::from(period);
+    if life.place == 0 {
+        let entry = life.start.saturating_sub(period - life.length).max(1);
+        Life {
+            first: 0,
+            entry,
+            ..life
+        }
+    } else {
+        let start = life.start.saturating_sub(period);
+        Life {
+            first: start,
+            start,
+            ..life
+        }
     }
 }
 
-/// The same where the operation makes a variable's value: the value from before the first iteration comes through the chain as well, and stands in place 0 from the beginning.
-fn entered_life(life: Life, ii: u32) -> Life {
-    let period = u64::from(ii);
-    let first = if life.place == 0 {
-        0
+fn chain_life(
+    outs: &[Out],
+    op: &Op<Timed>,
+    id: u32,
+    place: u32,
+    period: u32,
+    last: u64,
+) -> Result<Life, AllocError>
+    requires { 0 < period }
+    ensures { IfOk result (λ life. life ≡ spec.chain_life outs.now period id op.now last place) }
+{
+    let life = place_life(op, id, place, period, last)?;
+    if is_taken_over(outs, id) {
+        Ok(with_entry(life, period))
     } else {
-        life.start.saturating_sub(period)
-    };
-    let entry = if life.place == 0 {
-        life.start
-            .saturating_add(life.length)
-            .saturating_sub(period)
-    } else {
-        0
-    };
-    Life {
-        first,
-        entry,
-        ..life
+        Ok(life)
     }
+}
+
+/// Adds the first places of a chain, so many.
+fn push_places(
+    outs: &[Out],
+    op: &Op<Timed>,
+    id: u32,
+    count: u64,
+    period: u32,
+    last: u64,
+    lives: &mut Vec<Life>,
+) -> Result<(), AllocError>
+    requires some { 0 < period }
+    requires few { count ≤ 2 ^ 32 }
+    ensures { OnOk result (lives.new.items ≡ lives.old.items ++ map (spec.chain_life outs.now period id op.now last) (range_with_len 0 count)) }
+{
+    for number in 0..count {
+        lives.push(chain_life(outs, op, id, number as u32, period, last)?)?;
+    }
+    Ok(())
 }
 
 /// Adds the places through which the result of an operation passes up to its last read.
-fn add_places(
+fn push_chain(
+    region: &Loop<Timed>,
     op: &Op<Timed>,
     id: u32,
-    ii: u32,
-    made: (bool, u64),
+    last: Option<u64>,
     lives: &mut Vec<Life>,
-) -> Result<(), AllocError> {
-    let (makes, last) = made;
-    let start = available(op);
-    if ii == 0 || last < start {
+) -> Result<(), AllocError>
+    ensures { OnOk result (lives.new.items ≡ lives.old.items ++ spec.chain_lives region.now.body.outs.items (spec.period region.now) id op.now last) }
+{
+    let Some(last) = last else {
+        return Ok(());
+    };
+    let start = ready(op)?;
+    if last < start {
         return Ok(());
     }
-    let Ok(greatest) = u32::try_from((last - start) / u64::from(ii)) else {
+    let period = period(region);
+    let Ok(greatest) = u32::try_from((last - start) / u64::from(period)) else {
         return Err(impossible());
     };
-    for place in 0..=greatest {
-        let life = place_life(op, id, place, ii, last);
-        lives.push(if makes { entered_life(life, ii) } else { life })?;
-    }
-    Ok(())
+    let count = u64::from(greatest) + 1;
+    push_places(&region.body.outs, op, id, count, period, last, lives)
 }
 
 /// The lives of the results that are read, in each place through which they pass.
@@ -237,19 +315,18 @@ pub fn loop_lives(
     alloc: Global,
     region: &Loop<Timed>,
     behind: &VarSet,
-) -> Result<Vec<Life>, AllocError> {
-    let body = &region.body;
+) -> Result<Vec<Life>, AllocError>
+    ensures { IfOk result (λ lives. lives.items ≡ spec.loop_lives (has behind.now) region.now) }
+{
+    let ops = &region.body.ops;
     let reads = loop_reads(alloc, region, behind)?;
-    let last = last_reads(alloc, body.ops.len(), &reads)?;
+    let last = last_reads(alloc, ops.len(), &reads)?;
     let mut lives = Vec::new(alloc);
-    for number in 0..body.ops.len() {
+    for number in 0..ops.len() {
         let Ok(id) = u32::try_from(number) else {
             return Err(impossible());
         };
-        if let Some(time) = last[number] {
-            let made = (makes(&body.outs, id), time);
-            add_places(&body.ops[number], id, region.ii, made, &mut lives)?;
-        }
+        push_chain(region, &ops[number], id, last[number], &mut lives)?;
     }
     Ok(lives)
 }
