@@ -1,0 +1,7 @@
+mod Bits
+mod Equalities
+mod Folding
+mod Folds
+mod Making
+mod Setting
+mod Showing
