@@ -1,0 +1,11 @@
+pub mod Sums
+pub mod Traces
+pub mod Counting
+pub mod Whole
+pub mod Pieces
+pub mod Places
+pub mod Safe
+pub mod Fitting
+pub mod Kept
+pub mod Lowered
+pub mod LaidOut

@@ -1,0 +1,4 @@
+//! The clocked run of the program that a source is: all steps of the compiler before the circuit, one after another.
+#![tactic(auto)]
+
+pub mod laws;

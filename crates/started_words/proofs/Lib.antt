@@ -1,0 +1,5 @@
+pub mod Places
+pub mod Starting
+pub mod Ending
+pub mod FirstWords
+pub mod FirstWidths

@@ -1,0 +1,3 @@
+pub mod Contents
+pub mod FirstWords
+pub mod Laws
