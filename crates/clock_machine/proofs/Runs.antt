@@ -1,10 +1,12 @@
 -- Steps of a run, and a run that has ended.
-use Rattle.std.proofs.Common.{◌≡◌, ℕ, zero, suc, ◌+◌, Option, refl, sym, ap, ◌∙◌, subst, arith}
+use Rattle.std.proofs.Common.{◌≡◌, ℕ, zero, suc, ◌+◌, inl, inr, Option, refl, sym, ap, ap₂, ◌∙◌, subst, arith}
+use Rattle.std.proofs.lemmas.Bool.{cases_eq}
 use Rattle.block_meaning.specs.Bodies.{Words}
-use Rattle.clock_meaning.specs.ClockRuns.{TimedProgram, starting, ended, clock_step, clock_run}
+use Rattle.clock_meaning.specs.ClockRuns.{TimedProgram, Phase, starting, loading, inside, ended, clock_step, clock_run}
 use Rattle.clock_lines.specs.declared.program.Program.{Program}
 use Rattle.clock_machine.specs.declared.state.Position.TheVariants as position
 use Rattle.clock_machine.specs.declared.state.State.{State}
+use Rattle.clock_machine.specs.Runs.{IsUnended, GoesOn}
 use Rattle.clock_machine.specs.Standing.{StandsAt}
 use Rattle.clock_machine.specs.Starts.{words_of}
 use Rattle.clock_machine.proofs.Entering.{from_end}
@@ -35,3 +37,28 @@ ends_so p g t n k m s h is e = subst (λ i. StandsAt p g (clock_run p t i) s) (s
 -- what a machine has at the end of a run
 pub last_of : (p : TimedProgram) (g : Program) (t last : Words) (n : ℕ) (w : Option ℕ) (s : State) → StandsAt p g (clock_run p t n) s → clock_run p t n ≡ ended w last → (s.position ≡ position.Ended) × (s.returned ≡ w) × (words_of s ≡ last)
 last_of p g t last n w s h e = (subst (λ x. StandsAt p g x s) e h).in_phase
+
+-- ---- whether a run has ended
+
+end_of : (p : TimedProgram) (g : Program) (phase : Phase) (s : State) → StandsAt p g phase s → s.position ≡ position.Ended → phase ≡ ended s.returned (words_of s)
+end_of p g (starting t) s h is = absurd (let z = sym h.in_phase.0 ∙ is in cc)
+end_of p g (loading i t) s h is = absurd (let z = sym h.in_phase.0 ∙ is in cc)
+end_of p g (inside i f) s h is = absurd (let z = sym h.in_phase.0 ∙ is in cc)
+end_of p g (ended w t) s h is = ap₂ ended (sym h.in_phase.1) (sym h.in_phase.2)
+
+-- where a machine is at its end
+pub is_over : (p : TimedProgram) (g : Program) (t : Words) (n : ℕ) (s : State) → StandsAt p g (clock_run p t n) s → s.position ≡ position.Ended → clock_run p t n ≡ ended s.returned (words_of s)
+is_over p g t n s h is = end_of p g (clock_run p t n) s h is
+
+-- where it is not
+pub is_unended : (p : TimedProgram) (g : Program) (t : Words) (n : ℕ) (s : State) → StandsAt p g (clock_run p t n) s → (s.position ≡ position.Ended → ⊥) → IsUnended p t n
+is_unended p g t n s h no_ word last e = no_ (last_of p g t last n word s h e).0
+
+pub goes_on_first : (p : TimedProgram) (t : Words) → GoesOn p t 0
+goes_on_first p t m le word last e = (let z : m ≡ 0 = omega (arith, le) in let q : starting t ≡ ended word last = sym (begins_run p t) ∙ ap (clock_run p t) (sym z) ∙ e in absurd (cc))
+
+pub goes_on_more : (p : TimedProgram) (t : Words) (n : ℕ) → GoesOn p t n → IsUnended p t (n + 1) → GoesOn p t (n + 1)
+goes_on_more p t n before this m le = elim (cases_eq m (n + 1)) [
+  | inl same ↦ subst (IsUnended p t) (sym same) this
+  | inr differ ↦ before m (omega (arith, le, differ))
+]

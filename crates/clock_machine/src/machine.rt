@@ -1,4 +1,5 @@
 ghost use Rattle.std.specs.Prelude.{◌≡◌, ◌<◌, ◌+◌, ◌==◌, ℕ, Option, length, map, get_or, IfOk, false, true};
+ghost use Rattle.std.specs.Option.{IfSome, IfNone};
 ghost use Rattle.hls_base.specs.ArrayAddress.{addresses};
 ghost use Rattle.block_meaning.specs.Bodies.{Words};
 ghost use Rattle.block_meaning.specs.FirstContents.{first_words};
@@ -8,9 +9,9 @@ ghost use Rattle.clock_meaning.specs.ClockRuns.{TimedProgram, ended, timed_progr
 ghost use Rattle.clock_lines.specs.Forms.{IsProgramOf};
 ghost use Rattle.clock_lines.specs.Regions.{IsOrderlyProgram};
 ghost use Rattle.clock_machine.specs.Halts.{halt_at};
-ghost use Rattle.clock_machine.specs.Runs.{IsBehind};
+ghost use Rattle.clock_machine.specs.Runs.{IsBehind, GoesOn, RunEndsAfter};
 ghost use Rattle.clock_machine.specs.Standing.{IsWholeProgram};
-ghost use Rattle.clock_machine.specs.Starts.{IsNamed, IsStarting};
+ghost use Rattle.clock_machine.specs.Starts.{IsNamed, IsStarting, words_of};
 
 use crate::state::{Position, State};
 use clock_ir::timed::Timed;
@@ -86,6 +87,22 @@ impl ClockMachine {
             self.go_on();
             left -= 1;
         }
+    }
+
+    /// The number of edges to the end of the run, of so many at most.
+    pub fn steps_to_end(&mut self, most: u64) -> Option<u64>
+        ensures program { self.new.program ≡ self.old.program }
+        ensures end { (p : TimedProgram) (t : Words) → IsBehind p t 0 self.old → IfSome result (λ n.
+            IsBehind p t n self.new × RunEndsAfter p t n self.new.state.returned (words_of self.new.state)) }
+        ensures none { (p : TimedProgram) (t : Words) → IsBehind p t 0 self.old → IfNone result (GoesOn p t most) }
+    {
+        for steps in 0..most {
+            self.go_on();
+            if let Position::Ended = self.state.position {
+                return Some(steps + 1);
+            }
+        }
+        None
     }
 }
 

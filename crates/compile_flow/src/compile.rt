@@ -9,6 +9,7 @@ ghost use Rattle.ir_lower.specs.Frames.{frame_view, frame_of};
 ghost use Rattle.rtl_core.specs.Netlist.{netlist_of};
 ghost use Rattle.cycle_report.specs.PlainReport.{plain_of, loop_of};
 ghost use Rattle.compile_flow.specs.Flat.{IsFlatOf};
+ghost use Rattle.compile_flow.specs.Runs.{IsWithoutFaults, RunsAsProgram};
 ghost use Rattle.compile_flow.specs.Resets.{expanded_frame, AreAddressable, reset_cycles};
 ghost use Rattle.compile_flow.specs.Reports.{allowed_units, IsTimed, EachNodeCounts, IsReportOf, KeepsSettings};
 
@@ -45,11 +46,12 @@ pub struct Compiled {
     pub report: Report,
 }
 
-/// The program with its calls expanded. It is refused where it is too large then.
+/// The program with its calls expanded, which runs as the program does. It is refused where it is too large then.
 pub fn expanded(alloc: Global, checked: &Checked) -> Result<Expanded, Fail>
     ensures made { IfOk result (λ e. expanded_of e ≡ expansion (program_elaborated (program_of checked.now.program) checked.now.top)) }
     ensures within { IfOk result (λ e. expanded_weight (program_elaborated (program_of checked.now.program) checked.now.top) ≤ 8192) }
     ensures refused { IfRefused result (λ r. IsOverweight (program_elaborated (program_of checked.now.program) checked.now.top) r) }
+    ensures runs { IsWithoutFaults (program_of checked.now.program) checked.now.top → IfOk result (λ e. RunsAsProgram (program_of checked.now.program) checked.now.top (expanded_of e)) }
 {
     let program = elaborate(alloc, checked)?;
     expand(alloc, &program)

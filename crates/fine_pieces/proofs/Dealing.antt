@@ -15,21 +15,21 @@ use Rattle.apart_points.proofs.Apart.{IsIn, Covers, Disjoint, split, in_left, in
 use Rattle.begun_pieces.specs.Points.{arm_by, points_in, points_of, first_points, arm_points, begin_points, dropped_points, EachPoint, is_among, MarksDiffer}
 
 -- a list of which each point is dealt to one of two
-record Dealt (xs ys all : List Point) : Type 0 where
-  left : Covers all xs
-  right : Covers all ys
-  disjoint : AreApart all → Disjoint xs ys
+pub record Dealt (xs ys all : List Point) : Type 0 where
+  pub left : Covers all xs
+  pub right : Covers all ys
+  pub disjoint : AreApart all → Disjoint xs ys
 
-dealt_none : Dealt [] [] []
+pub dealt_none : Dealt [] [] []
 dealt_none = record { left = λ q i. i; right = λ q i. i; disjoint = λ h q i j. i }
 
-dealt_left : (p : Point) → Dealt (p ∷ []) [] (p ∷ [])
+pub dealt_left : (p : Point) → Dealt (p ∷ []) [] (p ∷ [])
 dealt_left p = record { left = λ q i. i; right = λ q i. absurd i; disjoint = λ h q i j. j }
 
-dealt_right : (p : Point) → Dealt [] (p ∷ []) (p ∷ [])
+pub dealt_right : (p : Point) → Dealt [] (p ∷ []) (p ∷ [])
 dealt_right p = record { left = λ q i. absurd i; right = λ q i. i; disjoint = λ h q i j. i }
 
-dealt_append : (xs ys all xs1 ys1 all1 : List Point) → Dealt xs ys all → Dealt xs1 ys1 all1 → Dealt (xs ++ xs1) (ys ++ ys1) (all ++ all1)
+pub dealt_append : (xs ys all xs1 ys1 all1 : List Point) → Dealt xs ys all → Dealt xs1 ys1 all1 → Dealt (xs ++ xs1) (ys ++ ys1) (all ++ all1)
 dealt_append xs ys all xs1 ys1 all1 d e = record {
   left = λ q i. (elim (in_either q xs xs1 i) [ inl j ↦ in_left q all all1 (d.left q j) | inr j ↦ in_right q all all1 (e.left q j) ]);
   right = λ q i. (elim (in_either q ys ys1 i) [ inl j ↦ in_left q all all1 (d.right q j) | inr j ↦ in_right q all all1 (e.right q j) ]);

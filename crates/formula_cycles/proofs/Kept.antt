@@ -55,7 +55,7 @@ selections_point : (widths : List ℕ) (test : Operand) (b : BlockTree) (cs : Li
 selections_point widths test b [] = refl
 selections_point widths test b (c ∷ cs) = selections_point widths test (with_selection widths test b c) cs
 
-joined_point : (widths : List ℕ) (b after : BlockTree) (f : Branches) → (joined widths (merged widths b f) after).point ≡ b.point
+pub joined_point : (widths : List ℕ) (b after : BlockTree) (f : Branches) → (joined widths (merged widths b f) after).point ≡ b.point
 joined_point widths b after f =
     let y = branched widths b.ops b.outs (Some f.test) (is_taken f.test) f.yes_ in
     let n = branched widths y.ops b.outs (Some f.test) [] f.no_ in

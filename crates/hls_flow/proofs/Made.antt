@@ -5,7 +5,7 @@ use Rattle.c_tree.specs.Tree.{ProgramTree}
 use Rattle.c_checked.specs.Programs.{program_faults, top_name}
 use Rattle.rtl_core.specs.ModuleText.{IsModuleText}
 use Rattle.cycle_report.specs.ReportForm.{IsReport}
-use Rattle.checked_source.specs.Sources.{IsTheProgramOf}
+use Rattle.checked_source.specs.Sources.{IsTheProgramOf, end_of}
 use Rattle.checked_source.proofs.BodyOnce.{top_of}
 use Rattle.c_elaborate.specs.Programs.{program_elaborated}
 use Rattle.pieces.specs.Program.{ExpandedTree}
@@ -13,6 +13,10 @@ use Rattle.c_expand.specs.Expansion.{expansion, expanded_weight}
 use Rattle.sum_program.specs.declared.program.Sum.{Sum}
 use Rattle.sum_program.specs.SumForm.{IsWord, IsSum}
 use Rattle.sum_circuit.specs.SumCircuit.{sum_netlist}
+use Rattle.compile_flow.specs.Reports.{allowed_units}
+use Rattle.source_runs.specs.Laws.{IsFaultless}
+use Rattle.compiled_answers.specs.Laws.{AnswersAlways}
+use Rattle.compiled_answers.proofs.Whole.{answer}
 use Rattle.hls_flow.specs.FirstFault.{IsAccepted, IsSumSource, IsFound}
 use Rattle.hls_flow.specs.Synthesis.{HasScheduledTexts, IsSynthesis}
 use Rattle.hls_flow.specs.SumReport.{sum_report}
@@ -52,7 +56,28 @@ sum_synthesis source settings s m r accepted found text report = record {
   texts = record { report = sum_report s settings; report_is = report; design = sum_netlist s; module_is = text; resources = sum_resources s settings };
   agrees = λ _ _. correct source settings s m r found text report;
   scheduled = λ none. absurd (none s found.is);
+  answers = λ none. absurd (none s found.is);
 }
+
+-- the source as the laws on the way to the clocked run take it
+faultless_source : (source top : List ℕ) (p : ProgramTree) (index : ℕ) → IsTheProgramOf source p → program_faults p top ≡ [] → top_name p index ≡ Some top → IsFaultless source p index top
+faultless_source source top p index the faultless named = record {
+  tokens = the.is.replaced.tokens;
+  replaced = the.is.tokens;
+  end = end_of source;
+  spelled = the.is.replaced.spelled;
+  becomes = the.is.replaced.becomes;
+  derives = the.is.is.0;
+  named = named;
+  faultless = faultless;
+}
+
+answers_always : (source : List ℕ) (settings : Settings) (p : ProgramTree) (index : ℕ) (m r : List ℕ) → IsTheProgramOf source p → program_faults p settings.top ≡ [] → top_name p index ≡ Some settings.top
+    → (made : HasScheduledTexts settings (expansion (program_elaborated p index)) m r) → AnswersAlways p index made.scheduled.timed made.texts.report.rows
+answers_always source settings p index m r the faultless named made =
+    let s = made.scheduled in
+    answer source p index settings.top (faultless_source source settings.top p index the faultless named) settings.plain s.untimed s.flat (allowed_units settings) s.timed made.texts.report.loops s.is_timed s.frame
+    made.texts.report.rows s.reported.rows
 
 pub other_synthesis : (source : List ℕ) (settings : Settings) (p : ProgramTree) (index : ℕ) (e : ExpandedTree) (m r : List ℕ) → IsTheProgramOf source p → program_faults p settings.top ≡ []
     → top_name p index ≡ Some settings.top → expanded_weight (program_elaborated p index) ≤ 8192 → e ≡ expansion (program_elaborated p index)
@@ -66,4 +91,5 @@ other_synthesis source settings p index e m r the faultless named within same no
       texts = texts.texts;
       agrees = λ s is. absurd (no_sum source settings.top p the none s is);
       scheduled = λ _. texts.scheduled;
+      answers = λ _. answers_always source settings p index m r the faultless named texts;
     }

@@ -7,14 +7,14 @@ use Rattle.c_checked.specs.Programs.{program_faults, top_name, body_name_of}
 use Rattle.c_meaning.specs.declared.outcome.Final.{Final}
 use Rattle.checked_source.specs.Sources.{IsTheProgramOf}
 use Rattle.c_elaborate.specs.Programs.{program_elaborated}
-use Rattle.c_expand.specs.Expansion.{expanded_weight}
+use Rattle.c_expand.specs.Expansion.{expansion, expanded_weight}
 use Rattle.cycle_report.specs.FormulaValue.{cycles}
 use Rattle.cosim_levels.specs.declared.verdict.Difference.{Difference}
 use Rattle.cosim_levels.specs.Verdicts.{PlainVerdict, agree, differ}
 use Rattle.cosim_levels.specs.Comparison.{result_number, array_parameters, shown_arrays, first_difference, differ_or}
 use Rattle.hls_flow.specs.declared.verdict.CosimInputs.{CosimInputs}
 use Rattle.hls_flow.specs.FirstFault.{IsAccepted}
-use Rattle.hls_flow.specs.Verdicts.{Files, IsCompared}
+use Rattle.hls_flow.specs.Verdicts.{Files, inputs_of, IsCompared}
 use Rattle.hls_flow.specs.Comparing.{AreCompared, IsAgreement}
 
 name_is : (name top : List ℕ) → Some name ≡ Some top → name ≡ top
@@ -39,8 +39,8 @@ accepted_at source top program index f is faultless named within item body = rec
   within = within;
 }
 
-module _ (given : CosimInputs) (f : FunctionTree) (files : Files) (final : Final) (count : ℕ) (o : Option Difference) (c : AreCompared given f files final count o) where
-  pub differs : (d : Difference) → o ≡ Some d → IsCompared given f files final (differ d)
+module _ (given : CosimInputs) (program : ProgramTree) (index : ℕ) (f : FunctionTree) (files : Files) (final : Final) (count : ℕ) (o : Option Difference) (c : AreCompared given f files final count o) where
+  pub differs : (d : Difference) → o ≡ Some d → IsCompared given program index f files final (differ d)
   differs d same =
       let found : first_difference f final.ret final.arrays (cycles files.report.base files.report.rows final.tally) c.shown ≡ Some d =
       sym (ap (λ n. first_difference f final.ret final.arrays n c.shown) c.counted) ∙ sym c.difference_is ∙ same in
@@ -48,10 +48,11 @@ module _ (given : CosimInputs) (f : FunctionTree) (files : Files) (final : Final
         shown = c.shown;
         run = c.run;
         clock = 0;
+        clock_is = λ none_. (let z = sym found ∙ none_ in absurd (cc));
         is = sym (ap (λ x. differ_or x (agree (result_number f.result final.ret) (shown_arrays (array_parameters f) final.arrays) (cycles files.report.base files.report.rows final.tally) 0)) found);
       }
 
-  pub agrees : (verdict : PlainVerdict) → o ≡ None → IsAgreement f final count verdict → IsCompared given f files final verdict
+  pub agrees : (verdict : PlainVerdict) → o ≡ None → IsAgreement (expansion (program_elaborated program index)) files.report.settings (inputs_of files) f final count verdict → IsCompared given program index f files final verdict
   agrees verdict same a =
       let found : first_difference f final.ret final.arrays (cycles files.report.base files.report.rows final.tally) c.shown ≡ None =
       sym (ap (λ n. first_difference f final.ret final.arrays n c.shown) c.counted) ∙ sym c.difference_is ∙ same in
@@ -59,6 +60,7 @@ module _ (given : CosimInputs) (f : FunctionTree) (files : Files) (final : Final
         shown = c.shown;
         run = c.run;
         clock = a.clock;
+        clock_is = λ none_. a.clock_is;
         is =
             a.is
             ∙ ap (λ n. agree (result_number f.result final.ret) (shown_arrays (array_parameters f) final.arrays) n a.clock) c.counted

@@ -1,6 +1,9 @@
 -- What the steps of a comparison give.
 use Rattle.std.specs.Prelude.{◌≡◌, ℕ, Option, Some}
+use Rattle.hls_base.specs.declared.inputs.Inputs.{Inputs}
+use Rattle.hls_base.specs.declared.settings.Settings.{Settings}
 use Rattle.c_tree.specs.Tree.{FunctionTree}
+use Rattle.pieces.specs.Program.{ExpandedTree}
 use Rattle.c_meaning.specs.declared.outcome.Final.{Final}
 use Rattle.rtl_core.specs.Netlist.{netlist_of}
 use Rattle.cycle_report.specs.PlainReport.{plain_of}
@@ -9,6 +12,7 @@ use Rattle.cosim_pins.specs.declared.drive.Shown.{Shown}
 use Rattle.cosim_levels.specs.declared.verdict.Difference.{Difference}
 use Rattle.cosim_levels.specs.Verdicts.{PlainVerdict, agree}
 use Rattle.cosim_levels.specs.Comparison.{result_number, array_parameters, shown_arrays, first_difference}
+use Rattle.hls_flow.specs.Clocked.{IsClockOf}
 use Rattle.hls_flow.specs.declared.files.Read.{Read}
 use Rattle.hls_flow.specs.declared.verdict.CosimInputs.{CosimInputs}
 use Rattle.hls_flow.specs.Verdicts.{Files, run_of_module}
@@ -23,7 +27,8 @@ pub record AreCompared (given : CosimInputs) (f : FunctionTree) (files : Files) 
   pub counted : count ≡ cycles files.report.base files.report.rows final.tally
   pub difference_is : difference ≡ first_difference f final.ret final.arrays count shown
 
--- the verdict where no number differs
-pub record IsAgreement (f : FunctionTree) (final : Final) (count : ℕ) (verdict : PlainVerdict) : Type 0 where
+-- The verdict where no number differs: it tells how many edges the clocked run takes of the program that this one is compiled to with these settings.
+pub record IsAgreement (e : ExpandedTree) (settings : Settings) (inputs : Inputs) (f : FunctionTree) (final : Final) (count : ℕ) (verdict : PlainVerdict) : Type 0 where
   pub clock : ℕ
+  pub clock_is : IsClockOf e settings inputs clock
   pub is : verdict ≡ agree (result_number f.result final.ret) (shown_arrays (array_parameters f) final.arrays) count clock

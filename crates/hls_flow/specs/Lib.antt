@@ -2,6 +2,7 @@ pub mod FirstFault
 pub mod Laws
 pub mod Synthesis
 pub mod SumReport
+pub mod Clocked
 pub mod Verdicts
 pub mod Comparing
 pub mod SoakRun

@@ -22,6 +22,7 @@ use Rattle.ir_lower.specs.Frames.{frame_view}
 use Rattle.compile_flow.specs.Flat.{IsFlatOf}
 use Rattle.compile_flow.specs.Resets.{expanded_frame, AreAddressable, reset_cycles}
 use Rattle.compile_flow.specs.Reports.{allowed_units, IsTimed, EachNodeCounts, ReportsDesign, IsReportOf, KeepsSettings}
+use Rattle.compiled_answers.specs.Laws.{AnswersAlways}
 use Rattle.checked_source.specs.Sources.{IsTheProgramOf, IsTopFunction}
 use Rattle.sum_program.specs.declared.program.Sum.{Sum}
 use Rattle.cosim_pins.specs.FunctionPins.{interface_of}
@@ -93,10 +94,11 @@ pub record HasScheduledTexts (settings : Settings) (expanded : ExpandedTree) (mo
   pub texts : HasTexts settings module_bytes report_bytes
   pub scheduled : IsScheduledReport settings expanded texts.report texts.design
 
--- What a synthesis gives: the source is accepted, so that it has no fault, and both files have their texts. Where the program is a sum, the circuit agrees with it; for the others that is not proved, and the report is that of the expanded program with times.
+-- What a synthesis gives: the source is accepted, so that it has no fault, and both files have their texts. Where the program is a sum, the circuit agrees with it; for the others that is not proved, but the report is that of the expanded program with times, whose clocked runs answer what the runs in C answer, in exactly the cycles that the report's formula gives.
 pub record IsSynthesis (source : List ℕ) (settings : Settings) (module_bytes report_bytes : List ℕ) : Type 0 where
   pub accepted : IsAccepted source settings.top
   pub no_fault : (fault : Refusal) → ¬ IsFirstFault source settings.top fault
   pub texts : HasTexts settings module_bytes report_bytes
   pub agrees : (sum : Sum) → IsSumSource source settings.top sum → SynthesisIsCorrect source settings module_bytes report_bytes
   pub scheduled : ((sum : Sum) → ¬ IsSumSource source settings.top sum) → IsScheduledReport settings (expansion_of accepted) texts.report texts.design
+  pub answers : (none : (sum : Sum) → ¬ IsSumSource source settings.top sum) → AnswersAlways accepted.program accepted.index (scheduled none).timed texts.report.rows

@@ -1,5 +1,6 @@
 -- What a comparison of a program, its module, its report and a run file comes to. The cases stand in the order of the work: the report, the module, the run file, the run in C, that of the module, and the first difference.
-use Rattle.std.specs.Prelude.{◌≡◌, ◌≢◌, ◌≤◌, ℕ, List, length, Option, Some}
+use Rattle.std.specs.Prelude.{◌≡◌, ◌≢◌, ◌≤◌, ℕ, List, length, Option, Some, None}
+use Rattle.hls_base.specs.declared.inputs.Inputs.{Inputs}
 use Rattle.hls_base.specs.declared.place.Place.{Place}
 use Rattle.hls_base.specs.declared.refusal.Refusal.{Refusal}
 use Rattle.c_tree.specs.Tree.{FunctionTree, ProgramTree}
@@ -19,8 +20,11 @@ use Rattle.cosim_pins.specs.FunctionPins.{interface_of}
 use Rattle.cosim_pins.specs.ModuleRun.{module_run}
 use Rattle.run_file.specs.RunFile.{reading_of, inputs, refused}
 use Rattle.cosim_levels.specs.Verdicts.{PlainVerdict, run_line, module_bad, report_bad}
-use Rattle.cosim_levels.specs.Comparison.{compared_with}
+use Rattle.c_elaborate.specs.Programs.{program_elaborated}
+use Rattle.c_expand.specs.Expansion.{expansion}
+use Rattle.cosim_levels.specs.Comparison.{first_difference, compared_with}
 use Rattle.cosim_levels.specs.Levels.{EndsWith, IsUnended, IsWaiting}
+use Rattle.hls_flow.specs.Clocked.{IsClockOf}
 use Rattle.hls_flow.specs.FirstFault.{IsAccepted}
 use Rattle.hls_flow.specs.declared.verdict.CosimInputs.{CosimInputs}
 
@@ -93,11 +97,15 @@ run_in_c given program index files = c_run program index (first_contents program
 abbrev pub run_of_module : CosimInputs → FunctionTree → Files → Option Shown
 run_of_module given f files = module_run files.circuit (interface_of f) files.scalars files.arrays given.cycles
 
--- The verdict on two runs that ended: they are compared, with the cycles that the report's formula gives for the points that the run in C passed. The steps of the clocked machine are told where they agree.
-pub record IsCompared (given : CosimInputs) (f : FunctionTree) (files : Files) (final : Final) (verdict : PlainVerdict) : Type 0 where
+abbrev pub inputs_of : Files → Inputs
+inputs_of files = record { scalars = files.scalars; arrays = files.arrays }
+
+-- The verdict on two runs that ended: they are compared, with the cycles that the report's formula gives for the points that the run in C passed. Where they agree, it is told how many edges the clocked run takes of the program that the source is compiled to with the settings of the report.
+pub record IsCompared (given : CosimInputs) (program : ProgramTree) (index : ℕ) (f : FunctionTree) (files : Files) (final : Final) (verdict : PlainVerdict) : Type 0 where
   pub shown : Shown
   pub run : run_of_module given f files ≡ Some shown
   pub clock : ℕ
+  pub clock_is : first_difference f final.ret final.arrays (cycles files.report.base files.report.rows final.tally) shown ≡ None → IsClockOf (expansion (program_elaborated program index)) files.report.settings (inputs_of files) clock
   pub is : verdict ≡ compared_with f final.ret final.arrays (cycles files.report.base files.report.rows final.tally) shown clock
 
 -- ---- the verdict
@@ -109,7 +117,7 @@ pub data IsVerdictOn (given : CosimInputs) (program : ProgramTree) (index : ℕ)
   waiting : (files : Files) (final : Final) → AreFiles given f files → EndsWith (run_in_c given program index files) final
       → IsWaiting files.circuit (interface_of f) files.scalars files.arrays given.cycles verdict → IsVerdictOn given program index f verdict
   compared : (files : Files) (final : Final) → AreFiles given f files → EndsWith (run_in_c given program index files) final
-      → IsCompared given f files final verdict → IsVerdictOn given program index f verdict
+      → IsCompared given program index f files final verdict → IsVerdictOn given program index f verdict
 
 -- The source is accepted, and this is the verdict on its program.
 pub record IsVerdict (given : CosimInputs) (verdict : PlainVerdict) : Type 0 where

@@ -2,11 +2,14 @@ ghost use Rattle.std.specs.Prelude.{◌≡◌, length, IfOk};
 ghost use Rattle.hls_base.specs.Refusals.{IfRefused};
 ghost use Rattle.hls_base.specs.declared.refusal.Refusal.{Refusal};
 ghost use Rattle.c_tree.specs.View.{program_of, function_of};
+ghost use Rattle.c_elaborate.specs.Programs.{program_elaborated};
+ghost use Rattle.c_expand.specs.Expansion.{expansion};
+ghost use Rattle.pieces.specs.Program.{expanded_of};
 ghost use Rattle.cosim_pins.specs.FunctionPins.{interface_of, plain};
 ghost use Rattle.cosim_levels.specs.Verdicts.{verdict_of, IfStopped};
 ghost use Rattle.cosim_levels.specs.Levels.{IsWaiting};
 ghost use Rattle.hls_flow.specs.FirstFault.{IsFirstFault};
-ghost use Rattle.hls_flow.specs.Verdicts.{AreFiles, IsVerdictOn, IsVerdict};
+ghost use Rattle.hls_flow.specs.Verdicts.{AreFiles, IsVerdictOn, IsVerdict, inputs_of};
 ghost use Rattle.hls_flow.specs.Comparing.{files_of, AreCompared, IsAgreement};
 
 use crate::files::{Read, read_files};
@@ -54,6 +57,8 @@ fn compare_module(
     requires interface { plain read.interface ≡ interface_of (function_of function.now) }
     requires files { AreFiles given.now (function_of function.now) (files_of read) }
     requires scalars { length read.inputs.scalars ≡ length read.interface.scalars.items }
+    ensures settings { IfOk result (λ c. c.counted.settings ≡ (files_of read).report.settings) }
+    ensures inputs { IfOk result (λ c. c.counted.inputs ≡ inputs_of (files_of read)) }
     ensures compared { IfOk result (λ c. AreCompared given.now (function_of function.now) (files_of read) ended.now c.counted.cycles c.difference) }
     ensures waiting { IfStopped result (IsWaiting (files_of read).circuit (interface_of (function_of function.now)) (files_of read).scalars (files_of read).arrays given.now.cycles) }
 {
@@ -84,7 +89,7 @@ fn agreement(
     counted: &Counted,
     ended: &Final,
 ) -> Result<Verdict, AllocError>
-    ensures { IfOk result (λ v. IsAgreement (function_of function.now) ended.now counted.now.cycles (verdict_of v)) }
+    ensures { IfOk result (λ v. IsAgreement (expanded_of expanded.now) counted.now.settings counted.now.inputs (function_of function.now) ended.now counted.now.cycles (verdict_of v)) }
 {
     let compiled = compile_expanded(alloc, expanded, &counted.settings)?;
     let clock = clocked_steps(
@@ -105,6 +110,7 @@ fn compare(
     function: &Function,
     expanded: &Expanded,
 ) -> Result<Verdict, Stop>
+    requires expanded { expanded_of expanded.now ≡ expansion (program_elaborated (program_of checked.now.program) checked.now.top) }
     ensures ran { IfOk result (λ v. IsVerdictOn given.now (program_of checked.now.program) checked.now.top (function_of function.now) (verdict_of v)) }
     ensures stopped { IfStopped result (IsVerdictOn given.now (program_of checked.now.program) checked.now.top (function_of function.now)) }
 {

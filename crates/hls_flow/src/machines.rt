@@ -1,4 +1,7 @@
 //! The machines that run a compiled program: operation by operation, and cycle by cycle.
+ghost use Rattle.std.specs.Prelude.{IfOk};
+ghost use Rattle.hls_flow.specs.Clocked.{TakesEdges};
+
 use c_meaning::outcome::Final;
 use clock_ir::timed::Timed;
 use clock_machine::machine::ClockMachine;
@@ -55,25 +58,17 @@ fn run_sequential(
     }
 }
 
-/// The number of steps to the end, of so many at most.
-fn steps_to_end<S: Stamp, M: Machine<S>>(machine: &mut M, most: u64) -> Option<u64> {
-    for k in 0..most {
-        if machine.step() == Halt::Ended {
-            return Some(k + 1);
-        }
-    }
-    None
-}
-
 /// Runs the program cycle by cycle to its end, which is that of the run in C, and counts the cycles.
 fn run_clocked(
     alloc: Global,
     cfg: &Cfg<Timed>,
     inputs: &Inputs,
     ended: &Final,
-) -> Result<u64, AllocError> {
+) -> Result<u64, AllocError>
+    ensures { IfOk result (TakesEdges cfg.now inputs.now) }
+{
     let mut machine = ClockMachine::new(alloc, cfg, inputs)?;
-    match steps_to_end(&mut machine, u64::MAX) {
+    match machine.steps_to_end(u64::MAX) {
         Some(steps) if ended_so(&machine, ended) => Ok(steps),
         _ => Err(impossible()),
     }
@@ -86,7 +81,9 @@ pub fn clocked_steps(
     timed: &Cfg<Timed>,
     inputs: &Inputs,
     ended: &Final,
-) -> Result<u64, AllocError> {
+) -> Result<u64, AllocError>
+    ensures { IfOk result (TakesEdges timed.now inputs.now) }
+{
     run_sequential(alloc, untimed, inputs, ended)?;
     run_clocked(alloc, timed, inputs, ended)
 }

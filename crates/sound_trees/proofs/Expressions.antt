@@ -72,12 +72,14 @@ module _ (shapes : Shapes) (words : List ℕ) (stores : Bool) where
   Computes o.Store = ⊥
   Computes kind = Unit {0}
 
-  unflagged : (before : List OpTree) (kind : OpKind) (bits : ℕ) (args : List Operand) → Computes kind → IsChecked shapes words stores before (plain kind bits args) kind
-  unflagged before o.Load bits args c = absurd c
-  unflagged before o.Store bits args c = absurd c
-  unflagged before o.Add bits args c = λ e. absurd cc
-  unflagged before o.Sub bits args c = λ e. absurd cc
-  unflagged before kind bits args c = tt
+  unflagged : (before : List OpTree) (kind : OpKind) (bits : ℕ) (args : List Operand) (signed : Bool) → Computes kind → is_total kind signed ≡ true → IsChecked shapes words stores before (plain kind bits args) kind
+  unflagged before o.Load bits args signed c e = absurd c
+  unflagged before o.Store bits args signed c e = absurd c
+  unflagged before o.Add bits args signed c e = λ q. absurd cc
+  unflagged before o.Sub bits args signed c e = λ q. absurd cc
+  unflagged before o.Div bits args signed c e = absurd cc
+  unflagged before o.Rem bits args signed c e = absurd cc
+  unflagged before kind bits args signed c e = tt
 
   computed_ready : (ops : List OpTree) (gs : List Guard) (kind : OpKind) (k : CType) (at : Place) (args : List Operand) → Typed ops → GuardsTyped shapes.widths words ops gs → Ready shapes words stores ops → GuardsAreNear shapes words stores gs
       → Computes kind → AreNear args → HasFew kind args
@@ -87,7 +89,7 @@ module _ (shapes : Shapes) (words : List ℕ) (stores : Bool) where
     either : (d : Bool) → is_total kind (is_signed k) ≡ d
         → EvalReady (if d then with_value gs k (added ops (plain kind (width k) args)) else under_guard k (flagged kind (is_signed k) (width k) args None at) (guarded ops gs))
     either true e =
-        value_ready gs k (added ops (plain kind (width k) args)) g (added_gives shapes words stores ops (plain kind (width k) args) h (record { args = n; guard = tt; few = few; kind = unflagged ops kind (width k) args c }))
+        value_ready gs k (added ops (plain kind (width k) args)) g (added_gives shapes words stores ops (plain kind (width k) args) h (record { args = n; guard = tt; few = few; kind = unflagged ops kind (width k) args (is_signed k) c e }))
     either false e =
         under_guard_ready ops gs k (flagged kind (is_signed k) (width k) args None at) t gt h g (λ before bit e1 b. record { args = n; guard = b; few = few; kind = checked before bit e1 e })
 
@@ -95,6 +97,8 @@ module _ (shapes : Shapes) (words : List ℕ) (stores : Bool) where
   abbrev Suits : Binary → List OpTree → CType → Operand → Operand → Type 0
   Suits b.Add ops k x y = HasBits shapes.widths words ops (width k) x.value × HasBits shapes.widths words ops (width k) y.value
   Suits b.Sub ops k x y = HasBits shapes.widths words ops (width k) x.value × HasBits shapes.widths words ops (width k) y.value
+  Suits b.Div ops k x y = HasBits shapes.widths words ops (width k) x.value × HasBits shapes.widths words ops (width k) y.value
+  Suits b.Rem ops k x y = HasBits shapes.widths words ops (width k) x.value × HasBits shapes.widths words ops (width k) y.value
   Suits f ops k x y = Unit {0}
 
   module _ (ops : List OpTree) (gs : List Guard) (k : CType) (at : Place) (x y : Operand) (t : Typed ops) (gt : GuardsTyped shapes.widths words ops gs) (h : Ready shapes words stores ops) (g : GuardsAreNear shapes words stores gs) (nx : IsNear x) (ny : IsNear y) where
@@ -106,8 +110,12 @@ module _ (shapes : Shapes) (words : List ℕ) (stores : Bool) where
     operated_ready b.Eq s = truth_ready gs ops (plain o.Eq (width k) (x ∷ y ∷ [])) g h (record { args = (nx, (ny, tt)); guard = tt; few = omega arith; kind = tt })
     operated_ready b.Ne s = truth_ready gs ops (plain o.Ne (width k) (x ∷ y ∷ [])) g h (record { args = (nx, (ny, tt)); guard = tt; few = omega arith; kind = tt })
     operated_ready b.Mul s = computed_ready ops gs o.Mul k at (x ∷ y ∷ []) t gt h g tt (nx, (ny, tt)) (omega arith) (λ before bit e q. tt)
-    operated_ready b.Div s = computed_ready ops gs o.Div k at (x ∷ y ∷ []) t gt h g tt (nx, (ny, tt)) (omega arith) (λ before bit e q. tt)
-    operated_ready b.Rem s = computed_ready ops gs o.Rem k at (x ∷ y ∷ []) t gt h g tt (nx, (ny, tt)) (omega arith) (λ before bit e q. tt)
+    operated_ready b.Div s =
+        computed_ready ops gs o.Div k at (x ∷ y ∷ []) t gt h g tt (nx, (ny, tt)) (omega arith)
+        (λ before bit e q. (has_on shapes.widths words ops before e (width k) x.value s.0, (has_on shapes.widths words ops before e (width k) y.value s.1, tt)))
+    operated_ready b.Rem s =
+        computed_ready ops gs o.Rem k at (x ∷ y ∷ []) t gt h g tt (nx, (ny, tt)) (omega arith)
+        (λ before bit e q. (has_on shapes.widths words ops before e (width k) x.value s.0, (has_on shapes.widths words ops before e (width k) y.value s.1, tt)))
     operated_ready b.Add s =
         computed_ready ops gs o.Add k at (x ∷ y ∷ []) t gt h g tt (nx, (ny, tt)) (omega arith)
         (λ before bit e q f. record { signed = not_false (is_signed k) q; some = width_positive k; widths = (has_on shapes.widths words ops before e (width k) x.value s.0, (has_on shapes.widths words ops before e (width k) y.value s.1, tt)) })
@@ -213,8 +221,8 @@ module _ (shapes : Shapes) (words : List ℕ) (stores : Bool) where
     binary_ready b.Add right k at second typed other = joined_ready b.Add k k at second typed other (λ ops x y p q. (p, q))
     binary_ready b.Sub right k at second typed other = joined_ready b.Sub k k at second typed other (λ ops x y p q. (p, q))
     binary_ready b.Mul right k at second typed other = joined_ready b.Mul k k at second typed other (λ ops x y p q. tt)
-    binary_ready b.Div right k at second typed other = joined_ready b.Div k k at second typed other (λ ops x y p q. tt)
-    binary_ready b.Rem right k at second typed other = joined_ready b.Rem k k at second typed other (λ ops x y p q. tt)
+    binary_ready b.Div right k at second typed other = joined_ready b.Div k k at second typed other (λ ops x y p q. (p, q))
+    binary_ready b.Rem right k at second typed other = joined_ready b.Rem k k at second typed other (λ ops x y p q. (p, q))
     binary_ready b.And right k at second typed other = joined_ready b.And k k at second typed other (λ ops x y p q. tt)
     binary_ready b.Xor right k at second typed other = joined_ready b.Xor k k at second typed other (λ ops x y p q. tt)
     binary_ready b.Or right k at second typed other = joined_ready b.Or k k at second typed other (λ ops x y p q. tt)

@@ -88,6 +88,8 @@ module _ (shapes : Shapes) (words : List ℕ) (stores : Bool) (f : Operand → O
       (h.0, access_same op (record op { args = map f op.args; guard = g }) (length (map f op.args) - 1) refl refl (length op.args - 1) (ap (λ n. n - 1) (length_map f op.args)) h.1)
   kind_same op g o.Add h = sum_same op g h
   kind_same op g o.Sub h = sum_same op g h
+  kind_same op g o.Div h = args_have op.bits op.args h
+  kind_same op g o.Rem h = args_have op.bits op.args h
   kind_same op g kind h = tt
 
   -- an operation on what stands for its operands, with another guard

@@ -63,6 +63,8 @@ module _ (shapes : Shapes) (words : List ℕ) (stores : Bool) where
   IsChecked before op o.Store = (stores ≡ true) × IsSoundAccess shapes op (length op.args - 1)
   IsChecked before op o.Add = is_some op.flag ≡ true → IsCheckedSum before op
   IsChecked before op o.Sub = is_some op.flag ≡ true → IsCheckedSum before op
+  IsChecked before op o.Div = AllHave before op.bits op.args
+  IsChecked before op o.Rem = AllHave before op.bits op.args
   IsChecked before op kind = Unit {0}
 
   pub record OpIsReady (before : List OpTree) (op : OpTree) : Type 0 where

@@ -41,17 +41,17 @@ use Rattle.source_runs.specs.Laws.{IsFaultless, expanded, EndsAs, RunsAs, Source
 -- ---- what an answer says of the pieces' run
 
 -- a run that ends
-record Ends (e : ExpandedTree) (trace : List Point) (o : Outcome Store Way) (result : Option ℕ) (arrays : List (List ℕ)) (kept : FileScope) (passed : List Point) : Type 0 where
-  way : Way
-  store : Store
-  left : ℕ
-  at : o ≡ went way store left
-  result_is : result_word e e.ret e.result store ≡ result
-  arrays_are : host_arrays e.arrays 0 store ≡ arrays
-  kept_is : kept_of e store ≡ kept
-  trace_is : trace ≡ passed
+pub record Ends (e : ExpandedTree) (trace : List Point) (o : Outcome Store Way) (result : Option ℕ) (arrays : List (List ℕ)) (kept : FileScope) (passed : List Point) : Type 0 where
+  pub way : Way
+  pub store : Store
+  pub left : ℕ
+  pub at : o ≡ went way store left
+  pub result_is : result_word e e.ret e.result store ≡ result
+  pub arrays_are : host_arrays e.arrays 0 store ≡ arrays
+  pub kept_is : kept_of e store ≡ kept
+  pub trace_is : trace ≡ passed
 
-ends_as : (e : ExpandedTree) (trace : List Point) (o : Outcome Store Way) (result : Option ℕ) (arrays : List (List ℕ)) (kept : FileScope) (passed : List Point)
+pub ends_as : (e : ExpandedTree) (trace : List Point) (o : Outcome Store Way) (result : Option ℕ) (arrays : List (List ℕ)) (kept : FileScope) (passed : List Point)
     → answer_of e trace o ≡ ended result arrays kept passed → Ends e trace o result arrays kept passed
 ends_as e trace (steps.went w t n) result arrays kept passed h =
     record { way = w; store = t; left = n; at = refl; result_is = cc; arrays_are = cc; kept_is = cc; trace_is = cc }
@@ -59,27 +59,27 @@ ends_as e trace (steps.undefined rule at) result arrays kept passed h = absurd (
 ends_as e trace steps.waiting result arrays kept passed h = absurd (cc)
 
 -- a run that waits
-waits_as : (e : ExpandedTree) (trace : List Point) (o : Outcome Store Way) → answer_of e trace o ≡ running → o ≡ waiting
+pub waits_as : (e : ExpandedTree) (trace : List Point) (o : Outcome Store Way) → answer_of e trace o ≡ running → o ≡ waiting
 waits_as e trace (steps.went w t n) h = absurd (cc)
 waits_as e trace (steps.undefined rule at) h = absurd (cc)
 waits_as e trace steps.waiting h = refl
 
-ended_defined : (a : Answer) (result : Option ℕ) (arrays : List (List ℕ)) (kept : FileScope) (passed : List Point) → a ≡ ended result arrays kept passed → IsDefined a
+pub ended_defined : (a : Answer) (result : Option ℕ) (arrays : List (List ℕ)) (kept : FileScope) (passed : List Point) → a ≡ ended result arrays kept passed → IsDefined a
 ended_defined a result arrays kept passed h = subst IsDefined (sym h) tt
 
-running_defined : (a : Answer) → a ≡ running → IsDefined a
+pub running_defined : (a : Answer) → a ≡ running → IsDefined a
 running_defined a h = subst IsDefined (sym h) tt
 
 -- ---- the whole
 
 -- each run in C of such a program is one of its pieces
-same_answer : (source : List ℕ) (p : ProgramTree) (top : ℕ) (name : List ℕ) (s : IsFaultless source p top name) (first : Store) (kept : FileScope) (scalars : List ℕ) (arrays : List (List ℕ)) (n : ℕ)
+pub same_answer : (source : List ℕ) (p : ProgramTree) (top : ℕ) (name : List ℕ) (s : IsFaultless source p top name) (first : Store) (kept : FileScope) (scalars : List ℕ) (arrays : List (List ℕ)) (n : ℕ)
     → IsTyped (frame_of (expanded p top)) first → ProgramInputsFit p top kept scalars arrays → IsDefined (c_run p top kept scalars arrays n)
     → pieces_answer (expanded p top) first kept scalars arrays n ≡ c_run p top kept scalars arrays n
 same_answer source p top name s =
     checked_kept (terminals s.replaced) s.end p top name (numbers_fit source s.tokens s.replaced s.spelled s.becomes) s.derives s.named s.faultless
 
-runs_as : (source : List ℕ) (p : ProgramTree) (top : ℕ) (name : List ℕ) (s : IsFaultless source p top name) (start : Point)
+pub runs_as : (source : List ℕ) (p : ProgramTree) (top : ℕ) (name : List ℕ) (s : IsFaultless source p top name) (start : Point)
     → IsFine (frame_of (expanded p top)) (begins_at (expanded p top).pieces) (expanded p top).pieces start → PiecesSubscriptsFit (expanded p top).arrays (expanded p top).pieces
     → (choice : Choice) (cfg : Cfg Untimed) → IsLaidOut (frame_of (expanded p top)) choice (expanded p top).pieces start (expanded p top).result cfg
     → (units : Units) (timed : Cfg Timed) (rows : List PlainLoop) → HasTimes units cfg timed rows

@@ -28,7 +28,7 @@ abbrev or_none : Option ℕ → ℕ
 or_none None = 0
 or_none (Some n) = n
 
-of_some : {A : Type 0} (g : A → ℕ) (o : Option A) (n : ℕ) → option_map g o ≡ Some n → (x : A) × (o ≡ Some x) × (g x ≡ n)
+pub of_some : {A : Type 0} (g : A → ℕ) (o : Option A) (n : ℕ) → option_map g o ≡ Some n → (x : A) × (o ≡ Some x) × (g x ≡ n)
 of_some g None n e = absurd cc
 of_some g (Some x) n e = (x, refl, ap or_none e)
 

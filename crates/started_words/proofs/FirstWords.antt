@@ -9,7 +9,7 @@ use Rattle.hls_base.specs.declared.number.Kept.{Kept}
 use Rattle.hls_base.specs.declared.number.VarId.{VarId}
 use Rattle.array_address.specs.AddressWords.{AreRising}
 use Rattle.array_address.specs.AddressWords as address
-use Rattle.array_address.proofs.Rising.{addresses-rise}
+use Rattle.array_address.proofs.Rising.{addresses-rise, rising-bound}
 use Rattle.ir_core.specs.declared.cfg.Frame.{Frame}
 use Rattle.ir_core.specs.declared.cfg.Memory.{Memory}
 use Rattle.ir_lower.specs.Frames as frames
@@ -30,7 +30,7 @@ use Rattle.started_words.proofs.Places.{address_count}
 
 -- ---- rows
 
-short_dims : (dims : List ℕ) → AreShort dims → address.AreShort dims
+pub short_dims : (dims : List ℕ) → AreShort dims → address.AreShort dims
 short_dims [] h = h
 short_dims (len ∷ dims) h = (h.0, short_dims dims h.1)
 
@@ -39,14 +39,15 @@ none_given [] q w = refl
 none_given (p ∷ places) q w = refl
 
 -- A memory that has these words at these addresses holds them.
-row_held : (low high : ℕ) (places row : List ℕ) (memory other : ℕ → ℕ) → AreRising low places high → length row ≡ length places → ((q : ℕ) → low ≤ q → memory q ≡ given_at places row q (other q)) → map memory places ≡ row
+pub row_held : (low high : ℕ) (places row : List ℕ) (memory other : ℕ → ℕ) → AreRising low places high → length row ≡ length places → ((q : ℕ) → low ≤ q → q < high → memory q ≡ given_at places row q (other q)) → map memory places ≡ row
 row_held low high [] [] memory other rise long each = refl
 row_held low high [] (x ∷ row) memory other rise long each = absurd (omega (arith, long))
 row_held low high (p ∷ places) [] memory other rise long each = absurd (omega (arith, long))
 row_held low high (p ∷ places) (x ∷ row) memory other rise long each =
-    let first : memory p ≡ x = each p rise.0 ∙ ap (λ b. if b then x else given_at places row p (other p)) (eq-eqb p p refl) in
-    let later : (q : ℕ) → suc p ≤ q → memory q ≡ given_at places row q (other q) = λ q h.
-    each q (let lo = rise.0 in omega (arith, lo, h)) ∙ ap (λ b. if b then x else given_at places row q (other q)) (ne_eqb p q (λ e. omega (arith, h, e))) in
+    let below : p < high = rising-bound (suc p) high places rise.1 in
+    let first : memory p ≡ x = each p rise.0 below ∙ ap (λ b. if b then x else given_at places row p (other p)) (eq-eqb p p refl) in
+    let later : (q : ℕ) → suc p ≤ q → q < high → memory q ≡ given_at places row q (other q) = λ q h g.
+    each q (let lo = rise.0 in omega (arith, lo, h)) g ∙ ap (λ b. if b then x else given_at places row q (other q)) (ne_eqb p q (λ e. omega (arith, h, e))) in
     ap₂ (λ y ys. y ∷ ys) first (row_held (suc p) high places row memory other rise.1 (omega (arith, long)) later)
 
 -- ---- variables
@@ -133,7 +134,7 @@ module _ (x : Expanded) (frame : Frame) (same : frame_view frame ≡ frames.fram
         let given = get_or rows k [] in
         let other = λ (q : ℕ). given_at places (elements_or_none a.initial) q (given_at places (elements_or_none a.table) q 0) in
         row_held 0 (2 ^ address_bits a.lengths) places given (memories k) other (rise_of k a at) (fill.0 ∙ sym (address_count a.lengths))
-        (λ q h. word_is k a at q ∙ ap (λ b. given_at places (if b then given else []) q (other q)) is)
+        (λ q h g. word_is k a at q ∙ ap (λ b. given_at places (if b then given else []) q (other q)) is)
 
     initial_row : (k : ℕ) (a : ArrayTree) (row : List ℕ) → slice_get e.arrays k ≡ Some a → a.host ≡ false → a.initial ≡ Some row → FillsArray a row → elements_at a.lengths (memories k) ≡ row
     initial_row k a row at is own fill =
@@ -141,7 +142,7 @@ module _ (x : Expanded) (frame : Frame) (same : frame_view frame ≡ frames.fram
         let given = get_or rows k [] in
         let other = λ (q : ℕ). given_at places (elements_or_none a.table) q 0 in
         row_held 0 (2 ^ address_bits a.lengths) places row (memories k) other (rise_of k a at) (fill.0 ∙ sym (address_count a.lengths))
-        (λ q h. word_is k a at q ∙ ap (λ b. given_at places (if b then given else []) q (given_at places (elements_or_none a.initial) q (other q))) is
+        (λ q h g. word_is k a at q ∙ ap (λ b. given_at places (if b then given else []) q (given_at places (elements_or_none a.initial) q (other q))) is
         ∙ none_given places q (given_at places (elements_or_none a.initial) q (other q)) ∙ ap (λ o. given_at places (elements_or_none o) q (other q)) own)
 
     table_row : (k : ℕ) (a : ArrayTree) (row : List ℕ) → slice_get e.arrays k ≡ Some a → a.host ≡ false → a.initial ≡ None → a.table ≡ Some row → FillsArray a row → elements_at a.lengths (memories k) ≡ row
@@ -150,7 +151,7 @@ module _ (x : Expanded) (frame : Frame) (same : frame_view frame ≡ frames.fram
         let given = get_or rows k [] in
         let other = λ (q : ℕ). given_at places (elements_or_none a.table) q 0 in
         row_held 0 (2 ^ address_bits a.lengths) places row (memories k) (λ q. 0) (rise_of k a at) (fill.0 ∙ sym (address_count a.lengths))
-        (λ q h. word_is k a at q ∙ ap (λ b. given_at places (if b then given else []) q (given_at places (elements_or_none a.initial) q (other q))) is
+        (λ q h g. word_is k a at q ∙ ap (λ b. given_at places (if b then given else []) q (given_at places (elements_or_none a.initial) q (other q))) is
         ∙ none_given places q (given_at places (elements_or_none a.initial) q (other q)) ∙ ap (λ o. given_at places (elements_or_none o) q (other q)) none
         ∙ none_given places q (other q) ∙ ap (λ o. given_at places (elements_or_none o) q 0) own)
 

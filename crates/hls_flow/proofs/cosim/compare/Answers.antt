@@ -6,8 +6,10 @@ use Rattle.cosim_levels.specs.Verdicts.{verdict_of}
 use Rattle.cosim_levels.specs.Levels.{IsUnended, IsWaiting}
 use Rattle.hls_flow.specs.declared.files.Read.{Read}
 use Rattle.hls_flow.specs.declared.cosim.Compared.{Compared}
-use Rattle.hls_flow.specs.Verdicts.{IsStoppedAtFiles, IsVerdictOn, run_in_c, at_files, unended, waiting, compared}
-use Rattle.hls_flow.specs.Comparing.{files_of}
+use Rattle.hls_flow.specs.Verdicts.{IsStoppedAtFiles, IsVerdictOn, run_in_c, at_files, unended, waiting, compared, inputs_of}
+use Rattle.c_elaborate.specs.Programs.{program_elaborated}
+use Rattle.c_expand.specs.Expansion.{expansion}
+use Rattle.hls_flow.specs.Comparing.{files_of, IsAgreement}
 use Rattle.hls_flow.proofs.Stopped.{stopped_on}
 use Rattle.hls_flow.proofs.VerdictCases.{differs, agrees}
 use Rattle.hls_flow.proofs.cosim.compare.Goals as goal
@@ -46,7 +48,7 @@ returns-in-Some-clause-ran c =
     let same : c.in_ok-counted.field-0.difference ≡ Some c.in-Some.difference = cc in
     subst (IsVerdictOn given (program_of c.args.checked.now.program) c.args.checked.now.top f) (sym c.differing.ensures)
     (compared files c.in_ok-ended.ended c.in_ok-read.ensures.files c.in_ok-ended.ensures.ended
-    (differs given f files c.in_ok-ended.ended c.in_ok-counted.field-0.counted.cycles c.in_ok-counted.field-0.difference c.in_ok-counted.ensures.compared c.in-Some.difference same))
+    (differs given (program_of c.args.checked.now.program) c.args.checked.now.top f files c.in_ok-ended.ended c.in_ok-counted.field-0.counted.cycles c.in_ok-counted.field-0.difference c.in_ok-counted.ensures.compared c.in-Some.difference same))
 
 pub returns-clause-ran : goal.returns-clause-ran
 returns-clause-ran c =
@@ -54,5 +56,14 @@ returns-clause-ran c =
     let files = files_of c.in_ok-read.read in
     let verdict = verdict_of c.in_ok-agreement-in-None.field-0 in
     let same : c.in_ok-counted.field-0.difference ≡ None = cc in
+    let program = program_of c.args.checked.now.program in
+    let index = c.args.checked.now.top in
+    let e = expansion (program_elaborated program index) in
+    let counted = c.in_ok-counted.field-0.counted in
+    let final = c.in_ok-ended.ended in
+    let agreement : IsAgreement e files.report.settings (inputs_of files) f final counted.cycles verdict =
+    subst (λ i. IsAgreement e files.report.settings i f final counted.cycles verdict) c.in_ok-counted.ensures.inputs
+    (subst (λ s. IsAgreement e s counted.inputs f final counted.cycles verdict) c.in_ok-counted.ensures.settings
+    (subst (λ x. IsAgreement x counted.settings counted.inputs f final counted.cycles verdict) c.requires.expanded c.in_ok-agreement-in-None.ensures)) in
     compared files c.in_ok-ended.ended c.in_ok-read.ensures.files c.in_ok-ended.ensures.ended
-    (agrees c.args.given.now f files c.in_ok-ended.ended c.in_ok-counted.field-0.counted.cycles c.in_ok-counted.field-0.difference c.in_ok-counted.ensures.compared verdict same c.in_ok-agreement-in-None.ensures)
+    (agrees c.args.given.now program index f files c.in_ok-ended.ended c.in_ok-counted.field-0.counted.cycles c.in_ok-counted.field-0.difference c.in_ok-counted.ensures.compared verdict same agreement)

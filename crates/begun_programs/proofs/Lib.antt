@@ -1,0 +1,4 @@
+pub mod Numbers
+pub mod Variables
+pub mod Arrays
+pub mod Programs

@@ -1,0 +1,4 @@
+mod Bodies
+mod LaidOut
+pub mod Whole
+pub mod Machines
