@@ -15,7 +15,8 @@ use Rattle.dep_graph.specs.Dependences.{maker_by, maker_of}
 use Rattle.clock_meaning.specs.Flows.{TimedOp, TimedBody, Flow, ready, ready_in, latency, is_at, place, pushed, held, operand_at, given, chain_behind, first_flow, tick}
 use Rattle.clock_meaning.specs.ClockRuns.{inside, node_step, clock_step}
 use Rattle.datapath.specs.Plans.{Plan, Placed, body_at, span, numbered}
-use Rattle.datapath.specs.Cycles.{Ready, Initial, Time, Active, Load, Variable, Value, Contents, Cycle, in_cycle, holds, where_, is_any_wanted, AllWant}
+use Rattle.datapath.specs.Cycles.{Ready, Initial, Time, Active, Load, Variable, Value, Contents, Cycle, in_cycle, holds}
+use Rattle.rtl_logic.specs.Choosing.{where_, is_any_wanted, AllWant}
 use Rattle.datapath.specs.Reading.{at, at_iteration, has_passed, is_place, held_by, result_at, read_from, read_by, operand, arguments}
 use Rattle.datapath.specs.Control.{is_loop}
 use Rattle.datapath.specs.Values.{arriving_of, arriving, entry_of, is_alone, arrival, place_arrival, moves, entry_writes, moved, block_writes, loop_writes, held_writes, value_writes, argument_writes, kept_writes, out_writes}
@@ -41,7 +42,7 @@ first_place w a t d none from h =
     below n w h = let e : n ≡ 0 * w + n = omega arith in ap (λ k. k / w) e ∙ div-mul-add 0 w n h
 
 -- a time of the block has come where the counter shows it
-at_time : (p : Plan) (c : Cycle) (i t s : ℕ) → c.regs (Active i) ≡ 1 → c.regs Time ≡ t → 1 < span p i → s < span p i → at p c i s ≡ (t == s)
+pub at_time : (p : Plan) (c : Cycle) (i t s : ℕ) → c.regs (Active i) ≡ 1 → c.regs Time ≡ t → 1 < span p i → s < span p i → at p c i s ≡ (t == s)
 at_time p c i t s active now long h =
     let small : s % span p i ≡ s = mod-eq_of_lt h in
     ap₂ (λ x y. x && (y || (c.regs Time == s % span p i))) (on c (Active i) active) (lt-leb (span p i) 1 long) ∙ ap₂ (λ x y. x == y) now small
@@ -72,7 +73,7 @@ same_source p i end_ f x c y (source.Result op) b s same short reads is =
     ap (λ g. g (Value h.held.register)) same ∙ s.results op f.time h.held r (b.waits op f.time r) (omega arith) h.found in
     (ap (read_by p c i f.time y) made ∙ (ap (result_at p c i op.0) first ∙ (stands ∙ has))) ∙ sym (ap (held (body_at p i) f f.time y) made ∙ ap (f.chain op.0) first)
 
-same_map : {A : Type 0} (f g : A → ℕ) (xs : List A) → ((n : ℕ) (a : A) → slice_get xs n ≡ Some a → f a ≡ g a) → map f xs ≡ map g xs
+pub same_map : {A : Type 0} (f g : A → ℕ) (xs : List A) → ((n : ℕ) (a : A) → slice_get xs n ≡ Some a → f a ≡ g a) → map f xs ≡ map g xs
 same_map f g [] h = refl
 same_map f g (a ∷ xs) h = ap₂ (λ x l. x ∷ l) (h 0 a refl) (same_map f g xs (λ n b e. h (suc n) b e))
 
@@ -102,7 +103,7 @@ if_false false x y e f = f
 off_iteration : (p : Plan) (c : Cycle) (i t : ℕ) → c.regs (Active i) ≡ 0 → at_iteration p c i t ≡ false
 off_iteration p c i t e = and_left _ (has_passed c (t / span p i)) (off_at p c i t e)
 
-moves_off : (p : Plan) (c : Cycle) (h : Held) (e : Option ℕ) → c.regs (Active h.node.0) ≡ 0 → moves p c h e ≡ false
+pub moves_off : (p : Plan) (c : Cycle) (h : Held) (e : Option ℕ) → c.regs (Active h.node.0) ≡ 0 → moves p c h e ≡ false
 moves_off p c h None off_ =
     if_false (is_alone p h) (at p c h.node.0 (arrival p h)) (at_iteration p c h.node.0 (place_arrival p h 0)) (off_at p c h.node.0 (arrival p h) off_) (off_iteration p c h.node.0 (place_arrival p h 0) off_)
 moves_off p c h (Some v) off_ =
@@ -110,7 +111,7 @@ moves_off p c h (Some v) off_ =
     (off_iteration p c h.node.0 (place_arrival p h 1) off_)
 
 -- a node that is not under way writes no result
-other_node : (p : Plan) (c : Cycle) (h : Held) → c.regs (Active h.node.0) ≡ 0 → c.regs (Load h.node.0) ≡ 0 → NoneWanted (held_writes p c h)
+pub other_node : (p : Plan) (c : Cycle) (h : Held) → c.regs (Active h.node.0) ≡ 0 → c.regs (Load h.node.0) ≡ 0 → NoneWanted (held_writes p c h)
 other_node p c h inactive unloaded =
     none_if (is_loop (slice_get p.program.nodes h.node.0)) (loop_writes p c h) (block_writes p c h)
     (none_both (entry_writes c h (entry_of p h)) (where_ (moves p c h (entry_of p h)) (moved p c h h.place) ∷ []) (entry_off c h (entry_of p h) unloaded)

@@ -8,7 +8,8 @@ use Rattle.rtl_core.specs.Interface.{reset_of}
 use Rattle.clock_meaning.specs.Flows.{TimedBody, known}
 use Rattle.clock_meaning.specs.ClockRuns.{TimedNode, block, overlapped}
 use Rattle.datapath.specs.Plans.{Plan, span, numbered, body_at, initial_cycles}
-use Rattle.datapath.specs.Cycles.{Register, Ready, Done, Initial, Time, Active, Load, Contents, Cycle, in_cycle, holds, resets, starts, bit, Takes}
+use Rattle.datapath.specs.Cycles.{Register, Ready, Done, Initial, Time, Active, Load, Contents, Cycle, in_cycle, holds, resets, starts, bit}
+use Rattle.rtl_logic.specs.Choosing.{Takes}
 use Rattle.datapath.specs.Reading.{at, has_passed}
 use Rattle.datapath.specs.Control.{has_test, is_tested, wait, leaves_loop, leaves_as, leaves, leads_as, is_taken, is_entered, returns_as, is_ending, next_initial, waits_on, next_ready, next_done, is_loop, leaves_if, begins_as, begins, next_load, next_active, stays_as, is_within, goes_on, next_time, time_bits}
 use Rattle.datapath.specs.Ports.{is_enabled, behind_ports, port_count}
@@ -40,7 +41,7 @@ on c r e = ap (λ x. x == 1) e
 pub off_at : (p : Plan) (c : Cycle) (i t : ℕ) → c.regs (Active i) ≡ 0 → at p c i t ≡ false
 off_at p c i t e = and_left _ _ (off c (Active i) e)
 
-off_tested : (p : Plan) (c : Cycle) (i : ℕ) → c.regs (Active i) ≡ 0 → is_tested p c i ≡ false
+pub off_tested : (p : Plan) (c : Cycle) (i : ℕ) → c.regs (Active i) ≡ 0 → is_tested p c i ≡ false
 off_tested p c i e = and_right (has_test p i) _ (and_left _ (has_passed c (known (body_at p i) / span p i)) (off_at p c i (known (body_at p i)) e))
 
 off_loop : (p : Plan) (c : Cycle) (i n : ℕ) → c.regs (Active i) ≡ 0 → leaves_loop p c i n ≡ false
@@ -175,7 +176,7 @@ done_as p c b r e = ap₂ (λ x y. x && not y) e r ∙ and_unit b
 or_from_left : (a b : Bool) → a ≡ false → (a || b) ≡ b
 or_from_left a b e = ap (λ x. x || b) e
 
-holds_bit : (c : Cycle) (r : Register) (b : Bool) → c.regs r ≡ bit b → holds c r ≡ b
+pub holds_bit : (c : Cycle) (r : Register) (b : Bool) → c.regs r ≡ bit b → holds c r ≡ b
 holds_bit c r true e = on c r e
 holds_bit c r false e = off c r e
 

@@ -64,7 +64,7 @@ first_within f t (x ∷ xs) =
     let rest = first_within f (max t (f x)) xs in
     omega (arith, here, rest)
 
-node_within : (f : ℕ × TimedNode → ℕ) (t k j : ℕ) (xs : List TimedNode) (x : TimedNode) → slice_get xs j ≡ Some x → f (k + j, x) ≤ fold (at_most f) t (enumerate_from k xs)
+pub node_within : (f : ℕ × TimedNode → ℕ) (t k j : ℕ) (xs : List TimedNode) (x : TimedNode) → slice_get xs j ≡ Some x → f (k + j, x) ≤ fold (at_most f) t (enumerate_from k xs)
 node_within f t k j [] x at_ = absurd (cc)
 node_within f t k zero (y ∷ ys) x at_ =
     let same : y ≡ x = cc in

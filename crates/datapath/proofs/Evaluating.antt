@@ -2,7 +2,8 @@
 use Rattle.std.proofs.Common.{◌≡◌, ℕ, Bool, true, false, List, [], ◌∷◌, Option, Some, None, refl}
 use Rattle.std.specs.Prelude.{if◌then◌else◌, ◌||◌}
 use Rattle.datapath.specs.Plans.{Plan}
-use Rattle.datapath.specs.Cycles.{Contents, Signal, LeftOf, RightOf, SignedOf, AddressOf, StoredOf, Cycle, in_cycle, Write, is_any_wanted, AllWant, IsElse, Takes}
+use Rattle.datapath.specs.Cycles.{Contents, Signal, LeftOf, RightOf, SignedOf, AddressOf, StoredOf, Cycle, in_cycle}
+use Rattle.rtl_logic.specs.Choosing.{Write, is_any_wanted, AllWant, IsElse, Takes}
 use Rattle.datapath.specs.Circuits.{signal_writes, signal_else, register_writes, IsCycle, Step}
 use Rattle.datapath.specs.Ports.{next_words}
 

@@ -17,7 +17,8 @@ use Rattle.dep_graph.specs.Dependences.{maker_by, maker_of}
 use Rattle.clock_meaning.specs.Flows.{TimedOp, TimedBody, Flow, ready, place, held, operand_at, tick, taken}
 use Rattle.clock_meaning.specs.ClockRuns.{TimedNode, block, overlapped, inside, node_step, goes_to, going_by, chosen_by, clock_step}
 use Rattle.datapath.specs.Plans.{Plan, body_at, span}
-use Rattle.datapath.specs.Cycles.{Ready, Initial, Time, Active, Variable, Result, Contents, Cycle, in_cycle, holds, where_, is_any_wanted, AllWant}
+use Rattle.datapath.specs.Cycles.{Ready, Initial, Time, Active, Variable, Result, Contents, Cycle, in_cycle, holds}
+use Rattle.rtl_logic.specs.Choosing.{where_, is_any_wanted, AllWant}
 use Rattle.datapath.specs.Reading.{operand}
 use Rattle.datapath.specs.Control.{leaves_as}
 use Rattle.datapath.specs.Values.{last_value, out_value, out_writes, argument_writes, kept_writes, returned}
@@ -107,13 +108,13 @@ at_last p i end_ f x c l = let e = l.last in omega (arith, e)
 
 -- ---- ends
 
-chosen_same : (f g : Operand → ℕ) (cases : List (Operand × NodeId)) (other : NodeId) → ((n : ℕ) (z : Operand) (next : NodeId) → slice_get cases n ≡ Some (z, next) → f z ≡ g z)
+pub chosen_same : (f g : Operand → ℕ) (cases : List (Operand × NodeId)) (other : NodeId) → ((n : ℕ) (z : Operand) (next : NodeId) → slice_get cases n ≡ Some (z, next) → f z ≡ g z)
     → chosen_by f cases other ≡ chosen_by g cases other
 chosen_same f g [] other h = refl
 chosen_same f g (case ∷ cases) other h =
     ap₂ (λ b r. if not (b == 0) then case.1.0 else r) (h 0 case.0 case.1 refl) (chosen_same f g cases other (λ n z next e. h (suc n) z next e))
 
-going_same : (f g : Operand → ℕ) (e : End) → ((z : Operand) → EndReads e z → f z ≡ g z) → going_by f e ≡ going_by g e
+pub going_same : (f g : Operand → ℕ) (e : End) → ((z : Operand) → EndReads e z → f z ≡ g z) → going_by f e ≡ going_by g e
 going_same f g (end.Jump n) h = refl
 going_same f g (end.Branch test left right) h = ap (λ b. to (if not (b == 0) then left.0 else right.0)) (h test refl)
 going_same f g (end.Choose cases other) h = ap to (chosen_same f g cases.items other (λ n z next e. h z (n, next, e)))
@@ -169,12 +170,12 @@ out_same p i end_ f x c n out (source.Result op) l is from =
           omega (arith, r, early, now, e))
     ]
 
-taken_none : (read : Operand → ℕ) (xs : List Out) (vars : ℕ → ℕ) (v : ℕ) → ((n : ℕ) (out : Out) → slice_get xs n ≡ Some out → out.variable.0 ≢ v) → taken read xs vars v ≡ vars v
+pub taken_none : (read : Operand → ℕ) (xs : List Out) (vars : ℕ → ℕ) (v : ℕ) → ((n : ℕ) (out : Out) → slice_get xs n ≡ Some out → out.variable.0 ≢ v) → taken read xs vars v ≡ vars v
 taken_none read [] vars v h = refl
 taken_none read (x ∷ xs) vars v h =
     taken_none read xs (with_word vars x.variable.0 (read x.value)) v (λ n out e. h (suc n) out e) ∙ cond-false _ _ _ (ne_eqb x.variable.0 v (h 0 x refl))
 
-taken_at : (read : Operand → ℕ) (xs : List Out) (vars : ℕ → ℕ) (n : ℕ) (out : Out) → slice_get xs n ≡ Some out → AreApart xs → taken read xs vars out.variable.0 ≡ read out.value
+pub taken_at : (read : Operand → ℕ) (xs : List Out) (vars : ℕ → ℕ) (n : ℕ) (out : Out) → slice_get xs n ≡ Some out → AreApart xs → taken read xs vars out.variable.0 ≡ read out.value
 taken_at read [] vars n out is apart = absurd (cc)
 taken_at read (x ∷ xs) vars zero out is apart =
     let same : x ≡ out = cc in
@@ -184,13 +185,13 @@ taken_at read (x ∷ xs) vars (suc n) out is apart =
     taken_at read xs (with_word vars x.variable.0 (read x.value)) n out is (λ a b y z e g same. let up : suc a ≡ suc b = apart (suc a) (suc b) y z e g same in omega (arith, up))
 
 -- neither a start nor the initial sequence writes
-quiet_arguments : (p : Plan) (c : Cycle) (v : ℕ) → holds c Ready ≡ false → NoneWanted (argument_writes p c v)
+pub quiet_arguments : (p : Plan) (c : Cycle) (v : ℕ) → holds c Ready ≡ false → NoneWanted (argument_writes p c v)
 quiet_arguments p c v unready = none_map _ _ (λ q. and_left _ _ unready)
 
-quiet_kept : (p : Plan) (c : Cycle) (v : ℕ) → holds c Initial ≡ false → NoneWanted (kept_writes p c v)
+pub quiet_kept : (p : Plan) (c : Cycle) (v : ℕ) → holds c Initial ≡ false → NoneWanted (kept_writes p c v)
 quiet_kept p c v uninitial = none_map _ _ (λ q. uninitial)
 
-off_outs : (p : Plan) (c : Cycle) (v j : ℕ) (node : TimedNode) → c.regs (Active j) ≡ 0 → NoneWanted (out_writes p c v (j, node))
+pub off_outs : (p : Plan) (c : Cycle) (v j : ℕ) (node : TimedNode) → c.regs (Active j) ≡ 0 → NoneWanted (out_writes p c v (j, node))
 off_outs p c v j node off_ = none_if (p.savings.behind j v) _ [] (none_map _ _ (λ o. off_leaves p c j node off_)) refl
 
 is_ready_off : (p : Plan) (i : ℕ) (end_ : End) (f : Flow) (x : Contents) (c : Cycle) → Last p i end_ f x c → holds c Ready ≡ false
@@ -206,7 +207,7 @@ is_leaving : (p : Plan) (i : ℕ) (end_ : End) (f : Flow) (x : Contents) (c : Cy
 is_leaving p i end_ f x c l =
     left_now p i (body_at p i) end_ c (ap (λ r. r Time) l.same ∙ (l.stands.inside.time ∙ sym (last_span p i end_ f x c l))) (ap (λ r. r (Active i)) l.same ∙ l.stands.inside.active)
 
-zero_more : (j : ℕ) → j ≡ 0 + j
+pub zero_more : (j : ℕ) → j ≡ 0 + j
 zero_more j = omega arith
 
 -- a variable that is set takes its value
@@ -252,7 +253,7 @@ keeps_variable p i end_ f x y c v l after unset =
 
 -- ---- the result
 
-off_returned : (p : Plan) (c : Cycle) (j : ℕ) (node : TimedNode) → c.regs (Active j) ≡ 0 → NoneWanted (returned p c j node)
+pub off_returned : (p : Plan) (c : Cycle) (j : ℕ) (node : TimedNode) → c.regs (Active j) ≡ 0 → NoneWanted (returned p c j node)
 off_returned p c j (block body (end.Jump n)) off_ = refl
 off_returned p c j (block body (end.Branch test left right)) off_ = refl
 off_returned p c j (block body (end.Choose cases other)) off_ = refl
@@ -261,14 +262,14 @@ off_returned p c j (block body (end.Return (Some z))) off_ = or_from _ false (of
 off_returned p c j (overlapped body exit next) off_ = refl
 
 -- what the end of the block writes
-all_returned : (p : Plan) (c : Cycle) (i : ℕ) (body : TimedBody) (e : End) (w : ℕ) → leads_to p i e c ≡ ends (Some w) → AllWant (returned p c i (block body e)) w
+pub all_returned : (p : Plan) (c : Cycle) (i : ℕ) (body : TimedBody) (e : End) (w : ℕ) → leads_to p i e c ≡ ends (Some w) → AllWant (returned p c i (block body e)) w
 all_returned p c i body (end.Jump n) w there = absurd (cc)
 all_returned p c i body (end.Branch test left right) w there = absurd (cc)
 all_returned p c i body (end.Choose cases other) w there = absurd (cc)
 all_returned p c i body (end.Return None) w there = absurd (cc)
 all_returned p c i body (end.Return (Some z)) w there = ((λ wanted. let same : operand p c i (span p i - 1) z ≡ w = cc in same), _)
 
-some_returned : (p : Plan) (c : Cycle) (i : ℕ) (body : TimedBody) (e : End) (w : ℕ) → leads_to p i e c ≡ ends (Some w) → leaves_as p c i (block body e) ≡ true
+pub some_returned : (p : Plan) (c : Cycle) (i : ℕ) (body : TimedBody) (e : End) (w : ℕ) → leads_to p i e c ≡ ends (Some w) → leaves_as p c i (block body e) ≡ true
     → is_any_wanted (returned p c i (block body e)) ≡ true
 some_returned p c i body (end.Jump n) w there left_ = absurd (cc)
 some_returned p c i body (end.Branch test left right) w there left_ = absurd (cc)

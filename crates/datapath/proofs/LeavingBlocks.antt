@@ -1,5 +1,5 @@
 -- A block is left.
-use Rattle.std.proofs.Common.{◌≡◌, ◌≢◌, ℕ, ◌-◌, ◌%◌, ◌<◌, true, false, not, ◌&&◌, Option, Some, refl, sym, ap, ◌∙◌, subst, inl, inr, mod-eq_of_lt, arith}
+use Rattle.std.proofs.Common.{◌≡◌, ◌≢◌, ℕ, ◌-◌, ◌%◌, ◌<◌, true, false, not, ◌&&◌, List, Option, Some, refl, sym, ap, ◌∙◌, subst, inl, inr, mod-eq_of_lt, arith}
 use Rattle.std.specs.Prelude.{◌==◌, nat_le, nat_lt, slice_get, max}
 use Rattle.std.specs.List.{list_any}
 use Rattle.std.proofs.lemmas.Bool.{and_from, and_left, and_right, or_from, or_left, or_right, not_from_true, ne_eqb, eq-eqb, cases_eq, cond-false}
@@ -13,21 +13,22 @@ use Rattle.datapath.specs.Plans.{Plan, span, numbered, body_at, initial_cycles}
 use Rattle.datapath.specs.Cycles.{Ready, Done, Initial, Time, Active, Load, Contents, Cycle, in_cycle, holds, resets, starts}
 use Rattle.datapath.specs.Reading.{operand}
 use Rattle.datapath.specs.Control.{leaves_as, leaves, is_to, end_leads, leads_as, is_taken, is_entered, is_return, returns_as, is_ending, waits_on, leaves_if, begins, stays_as, is_within, goes_on}
-use Rattle.datapath.specs.Circuits.{IsAfter}
-use Rattle.datapath.specs.Standing.{IsWaiting, IsEntered}
-use Rattle.datapath.specs.Laws.{leads_to, LeavesBlocks}
+use Rattle.rtl_core.specs.Interface.{reset_of}
+use Rattle.datapath.specs.Circuits.{IsAfter, Step}
+use Rattle.datapath.specs.Standing.{IsWaiting, IsInside, IsEntered}
+use Rattle.datapath.specs.Laws.{leads_to, Leaves, LeavesBlocks}
 use Rattle.datapath.proofs.Nodes.{none_passes, some_passes}
 use Rattle.datapath.proofs.Controller.{off, on, unreset, taken, bit_true, bit_false, ready_as, done_as, stays_uninitial, not_begun, not_loaded, off_leaves, off_stays, entered}
 
 -- ---- ends
 
-no_return : (read : Operand → ℕ) (e : End) (j : ℕ) → going_by read e ≡ to j → is_return e ≡ false
+pub no_return : (read : Operand → ℕ) (e : End) (j : ℕ) → going_by read e ≡ to j → is_return e ≡ false
 no_return read (end.Jump n) j h = refl
 no_return read (end.Branch test left right) j h = refl
 no_return read (end.Choose cases other) j h = refl
 no_return read (end.Return x) j h = absurd (cc)
 
-is_returned : (read : Operand → ℕ) (e : End) (word : Option ℕ) → going_by read e ≡ ends word → is_return e ≡ true
+pub is_returned : (read : Operand → ℕ) (e : End) (word : Option ℕ) → going_by read e ≡ ends word → is_return e ≡ true
 is_returned read (end.Jump n) word h = absurd (cc)
 is_returned read (end.Branch test left right) word h = absurd (cc)
 is_returned read (end.Choose cases other) word h = absurd (cc)
@@ -37,7 +38,7 @@ is_returned read (end.Return x) word h = refl
 
 pub record LastCycle (p : Plan) (i : ℕ) (body : TimedBody) (end_ : End) (c : Cycle) : Type 0 where
   pub node : slice_get p.program.nodes i ≡ Some (block body end_)
-  pub ordered : p.savings.exclusive i ≡ false
+  pub leads_ : (k : ℕ) → leads_as p c i (block body end_) k ≡ is_to k (leads_to p i end_ c)
   pub unset : resets c ≡ false
   pub ready : c.regs Ready ≡ 0
   pub done_ : c.regs Done ≡ 0
@@ -72,7 +73,7 @@ by_node p i it P at_ here others j node is =
     ]
 
 leads : (p : Plan) (i : ℕ) (body : TimedBody) (end_ : End) (c : Cycle) (k : ℕ) → LastCycle p i body end_ c → leads_as p c i (block body end_) k ≡ is_to k (leads_to p i end_ c)
-leads p i body end_ c k l = ap (λ b. end_leads (operand p c i (span p i - 1)) b end_ k) l.ordered
+leads p i body end_ c k l = l.leads_ k
 
 untaken : (p : Plan) (i : ℕ) (body : TimedBody) (end_ : End) (c : Cycle) → LastCycle p i body end_ c → is_taken c ≡ false
 untaken p i body end_ c l = and_left _ (starts c) (off c Ready l.ready)
@@ -151,12 +152,16 @@ leaves_last p i body end_ c y word l after there =
       };
     }
 
-pub leaves_blocks : LeavesBlocks
-leaves_blocks p i body end_ x y pins at_ ordered r inside step =
+-- a block is left so wherever its cases lead as their order says
+pub leaves_as_led : (p : Plan) (i : ℕ) (body : TimedBody) (end_ : End) (x y : Contents) (pins : List ℕ) → slice_get p.program.nodes i ≡ Some (block body end_) → reset_of pins ≡ 0
+    → IsInside i (span p i - 1) x → (step : Step p x pins y)
+    → ((k : ℕ) → leads_as p (in_cycle x step.signals pins) i (block body end_) k ≡ is_to k (leads_to p i end_ (in_cycle x step.signals pins)))
+    → Leaves p i end_ (in_cycle x step.signals pins) y
+leaves_as_led p i body end_ x y pins at_ r inside step led =
     let c : Cycle = in_cycle x step.signals pins in
     let l : LastCycle p i body end_ c = record {
       node = at_;
-      ordered = ordered;
+      leads_ = led;
       unset = unreset pins r;
       ready = inside.busy.ready;
       done_ = inside.busy.done_;
@@ -167,3 +172,7 @@ leaves_blocks p i body end_ x y pins at_ ordered r inside step =
       load = inside.load;
     } in
     record { enters = λ j there. leaves_for p i body end_ c y j l step.is_after there; ends_ = λ word there. leaves_last p i body end_ c y word l step.is_after there }
+
+pub leaves_blocks : LeavesBlocks
+leaves_blocks p i body end_ x y pins at_ ordered r inside step =
+    leaves_as_led p i body end_ x y pins at_ r inside step (λ k. ap (λ b. end_leads (operand p (in_cycle x step.signals pins) i (span p i - 1)) b end_ k) ordered)

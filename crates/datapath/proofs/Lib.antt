@@ -1,13 +1,13 @@
-mod Evaluating
-mod Examples
-mod Nodes
-mod Counters
-mod Controller
-mod Writes
-mod Simple
-mod BlockSteps
-mod LeavingBlocks
-mod Reducing
-mod LastCycles
-mod Loops
-mod Sequence
+pub mod Evaluating
+pub mod Examples
+pub mod Nodes
+pub mod Counters
+pub mod Controller
+pub mod Writes
+pub mod Simple
+pub mod BlockSteps
+pub mod LeavingBlocks
+pub mod Reducing
+pub mod LastCycles
+pub mod Loops
+pub mod Sequence

@@ -11,7 +11,8 @@ use Rattle.rtl_core.specs.Interface.{ArrayShape, HoldArrays}
 use Rattle.datapath.specs.Plans.{Plan, interface}
 use Rattle.datapath.specs.Cycles.{Register, Ready, Contents}
 use Rattle.datapath.specs.Circuits.{width, Shows}
-use Rattle.datapath.specs.Netlists.{memory_of, Holds, kept_registers, sized, AreBelow, ReducedIsCircuit}
+use Rattle.rtl_logic.specs.Reducing.{kept_registers, sized, AreBelow}
+use Rattle.datapath.specs.Netlists.{memory_of, Holds, ReducedIsCircuit}
 
 -- ---- registers
 

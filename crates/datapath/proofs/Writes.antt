@@ -3,7 +3,7 @@ use Rattle.std.proofs.Common.{◌≡◌, ℕ, zero, suc, ◌+◌, Bool, true, fa
 use Rattle.std.specs.Prelude.{slice_get, ◌||◌, cond, filter, flat_map, find, if◌then◌else◌}
 use Rattle.std.specs.List.{enumerate_from}
 use Rattle.std.proofs.lemmas.Bool.{cases_Bool, or_from, or_left, or_right, or_parts}
-use Rattle.datapath.specs.Cycles.{Write, is_any_wanted, AllWant}
+use Rattle.rtl_logic.specs.Choosing.{Write, is_any_wanted, AllWant}
 
 -- nothing is wanted
 abbrev pub NoneWanted : List Write → Type 0

@@ -4,7 +4,8 @@ use Rattle.ir_operation.specs.declared.timing.UnitClass.TheVariants as u
 use Rattle.rtl_core.specs.Interface.{select_of, ready_of, done_of, read_data_of, ret_of}
 use Rattle.datapath.specs.Plans.{Plan, array_at, host_arrays, bits_of}
 use Rattle.datapath.specs.Cycles as c
-use Rattle.datapath.specs.Cycles.{Register, Contents, Signal, Cycle, in_cycle, bit, Write, where_, Takes}
+use Rattle.datapath.specs.Cycles.{Register, Contents, Signal, Cycle, in_cycle, bit}
+use Rattle.rtl_logic.specs.Choosing.{Write, where_, Takes}
 use Rattle.datapath.specs.Control.{next_ready, next_done, next_initial, next_time, time_bits, next_active, next_load, gate_writes, passed_write, waited_write, wait_bits}
 use Rattle.datapath.specs.Units.{argument_writes, signed_writes, product, steps_writes, dividend_writes, remainder_writes, divisor_writes, quotient_sign_writes, remainder_sign_writes}
 use Rattle.datapath.specs.Values.{value_writes, variable_writes, result_writes}

@@ -11,7 +11,8 @@ use Rattle.block_meaning.specs.FlatRuns.{Going, to, ends}
 use Rattle.clock_meaning.specs.Flows.{TimedBody, known}
 use Rattle.clock_meaning.specs.ClockRuns.{TimedNode, block, overlapped, going_by}
 use Rattle.datapath.specs.Plans.{Plan, Placed, body_at, span, numbered, initial_cycles, bits_of}
-use Rattle.datapath.specs.Cycles.{Register, Ready, Done, Initial, Time, Active, Load, Gate, Waited, Cycle, holds, resets, starts, bit, Write, where_}
+use Rattle.datapath.specs.Cycles.{Register, Ready, Done, Initial, Time, Active, Load, Gate, Waited, Cycle, holds, resets, starts, bit}
+use Rattle.rtl_logic.specs.Choosing.{Write, where_}
 use Rattle.datapath.specs.Reading.{at, has_passed, at_iteration, operand, is_true}
 
 -- ---- loops

@@ -1,6 +1,5 @@
 -- What a circuit holds, and what is seen in one of its cycles.
-use Rattle.std.specs.Prelude.{◌≡◌, ℕ, ◌==◌, Bool, true, false, List, [], ◌∷◌, Option, Some, None}
-use Rattle.std.specs.List.{list_any}
+use Rattle.std.specs.Prelude.{ℕ, ◌==◌, Bool, true, false, List}
 use Rattle.ir_operation.specs.declared.timing.UnitClass.{UnitClass}
 use Rattle.rtl_core.specs.Interface.{reset_of, start_of}
 
@@ -78,30 +77,3 @@ starts c = start_of c.pins == 1
 abbrev pub bit : Bool → ℕ
 bit true = 1
 bit false = 0
-
--- ---- guarded writes
-
--- in this cycle the value is wanted, or not
-pub record Write : Type 0 where
-  pub wanted : Bool
-  pub value : ℕ
-
-abbrev pub where_ : Bool → ℕ → Write
-where_ wanted value = record { wanted = wanted; value = value }
-
-abbrev pub is_any_wanted : List Write → Bool
-is_any_wanted writes = list_any (λ (w : Write). w.wanted) writes
-
--- all that is wanted is this value
-abbrev pub AllWant : List Write → ℕ → Type 0
-AllWant [] x = Unit {0}
-AllWant (w ∷ ws) x = (w.wanted ≡ true → w.value ≡ x) × AllWant ws x
-
-abbrev pub IsElse : Option ℕ → ℕ → Type 0
-IsElse None x = Unit {0}
-IsElse (Some y) x = x ≡ y
-
--- What is written is the value that is wanted. Where none is wanted it is the other one, if there is one. Nothing is said where two values are wanted, and where there is nothing.
-pub record Takes (writes : List Write) (other : Option ℕ) (x : ℕ) : Type 0 where
-  pub wanted : (y : ℕ) → is_any_wanted writes ≡ true → AllWant writes y → x ≡ y
-  pub else_ : is_any_wanted writes ≡ false → IsElse other x

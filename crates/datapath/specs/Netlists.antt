@@ -1,8 +1,9 @@
 -- Which netlists are the circuit of a plan. A netlist may leave out registers that are not needed and share wires as it likes, but what it holds and shows in each cycle is what the circuit may hold and show.
-use Rattle.std.specs.Prelude.{◌≡◌, ℕ, ◌^◌, ◌<◌, List, [], map, take, count_by, slice_index, None, is_none, ◌∷◌, length}
-use Rattle.rtl_core.specs.Netlist.{Netlist, Memory}
+use Rattle.std.specs.Prelude.{◌≡◌, ℕ, ◌^◌, ◌<◌, List, map, take, count_by, None, is_none}
+use Rattle.rtl_core.specs.Netlist.{Netlist}
 use Rattle.rtl_core.specs.ClockStep.{State, IsState, ArePins, register_widths, word_at, stepped, outputs}
-use Rattle.rtl_core.specs.Interface.{HasPins, HoldArrays, outer}
+use Rattle.rtl_core.specs.Interface.{HasPins, HoldArrays}
+use Rattle.rtl_logic.specs.Reducing.{IsReducedBy}
 use Rattle.datapath.specs.Plans.{Plan, Array, array_at, depth, interface}
 use Rattle.datapath.specs.Cycles.{Register, Contents}
 use Rattle.datapath.specs.Circuits.{width, Step, Shows}
@@ -34,29 +35,6 @@ pub record IsCircuitOf (p : Plan) (d : Netlist) : Type 0 where
   pub goes_on : (s : State) (pins : List ℕ) (x : Contents) → IsState d s → ArePins d pins → Holds p names s x → Follows p names d s pins x
 
 -- ---- the same circuit with fewer registers and wires
-
--- the contents of some of the registers
-abbrev pub kept_registers : List ℕ → State → State
-kept_registers keep s = record { regs = map (λ k. slice_index s.regs k) keep; mems = s.mems }
-
--- a memory without its ports
-abbrev pub sized : Memory → Memory
-sized m = record m { ports = [] }
-
-abbrev pub AreBelow : ℕ → List ℕ → Type 0
-AreBelow n [] = Unit {0}
-AreBelow n (k ∷ ks) = (k < n) × AreBelow n ks
-
--- The second netlist has some registers of the first one, in this order, and may hold whatever these may hold. In each cycle, from whatever they hold, these registers, the memories and the outputs have the values that they have in the first.
-pub record IsReducedBy (keep : List ℕ) (d e : Netlist) : Type 0 where
-  pub inputs : e.inputs ≡ d.inputs
-  pub pins : map outer e.outputs ≡ map outer d.outputs
-  pub memories : map sized e.mems ≡ map sized d.mems
-  pub below : AreBelow (length d.regs) keep
-  pub widths : register_widths e ≡ map (λ k. slice_index (register_widths d) k) keep
-  pub begins : (t : State) → IsState e t → (s : State) × (IsState d s × (kept_registers keep s ≡ t))
-  pub shows : (s : State) (pins : List ℕ) → IsState d s → ArePins d pins → outputs e (kept_registers keep s) pins ≡ outputs d s pins
-  pub steps : (s : State) (pins : List ℕ) → IsState d s → ArePins d pins → stepped e (kept_registers keep s) pins ≡ kept_registers keep (stepped d s pins)
 
 -- what is reduced stays the circuit
 abbrev pub ReducedIsCircuit : Type 0

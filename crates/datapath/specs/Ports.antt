@@ -10,7 +10,8 @@ use Rattle.block_meaning.specs.Bodies.{address_of as address_in, subscripts, sto
 use Rattle.block_meaning.specs.FirstContents.{given_at, elements_or_none}
 use Rattle.clock_meaning.specs.Flows.{TimedOp}
 use Rattle.datapath.specs.Plans.{Plan, Placed, Array, array_at, depth, span, body_at, all_ops, unit_of}
-use Rattle.datapath.specs.Cycles.{Ready, Initial, Time, AddressOf, StoredOf, Cycle, holds, resets, starts, Write, where_}
+use Rattle.datapath.specs.Cycles.{Ready, Initial, Time, AddressOf, StoredOf, Cycle, holds, resets, starts}
+use Rattle.rtl_logic.specs.Choosing.{Write, where_}
 use Rattle.datapath.specs.Reading.{is_starting, arguments, is_allowed}
 use Rattle.datapath.specs.Control.{may_store}
 

@@ -17,7 +17,8 @@ use Rattle.block_meaning.specs.Bodies.{first_bits}
 use Rattle.clock_meaning.specs.Flows.{TimedOp, ready, is_result}
 use Rattle.clock_meaning.specs.ClockRuns.{TimedNode, block, overlapped, later}
 use Rattle.datapath.specs.Plans.{Plan, Placed, body_at, span, numbered, unit_of}
-use Rattle.datapath.specs.Cycles.{Initial, Load, Variable, Word, Cycle, holds, Write, where_}
+use Rattle.datapath.specs.Cycles.{Initial, Load, Variable, Word, Cycle, holds}
+use Rattle.rtl_logic.specs.Choosing.{Write, where_}
 use Rattle.datapath.specs.Reading.{at, at_iteration, result_at, operand, arguments}
 use Rattle.datapath.specs.Control.{is_taken, is_loop, leaves_as}
 use Rattle.datapath.specs.Units.{product, quotient, remainder}

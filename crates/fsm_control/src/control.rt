@@ -1,9 +1,21 @@
 //! The registers of the controller, and the bits that say where a run is.
-use crate::pins::{RESET, START};
-use crate::sizes::{bits_of, greatest_time, greatest_wait, initial_cycles, span};
+ghost use Rattle.std.specs.Prelude.{◌≡◌, ◌<◌, ◌+◌, ◌-◌, ◌%◌, ◌^◌, ◌==◌, ℕ, true, List, length, slice_get, nat_lt, IfOk, Some};
+ghost use Rattle.rtl_core.specs.Valid.{IsBetween};
+ghost use Rattle.rtl_logic.specs.Making.{circuit};
+ghost use Rattle.clock_meaning.specs.ClockRuns.{timed_node};
+ghost use Rattle.datapath.specs.Plans as plans;
+ghost use Rattle.datapath.specs.Plans.{Plan};
+ghost use Rattle.datapath.specs.Cycles.{Register, Cycle, Active, Load, Gate, Passed, Time};
+ghost use Rattle.datapath.specs.Circuits.{width};
+ghost use Rattle.datapath.specs.Control.{is_loop, is_taken};
+ghost use Rattle.circuit_wires.specs.Carrying.{IsRegister, IsBegun, MakesCarrying, MakesTelling};
+ghost use Rattle.fsm_control.specs.Controllers.{IsThereIf, IsCounter, AreLine, AreOfNode, IsControl, HasFound, HasReached, HasMade};
+
 use clock_ir::timed::Timed;
 use hls_base::number::NodeId;
 use ir_core::cfg::{Cfg, Node};
+use plan_sizes::pins::{RESET, START};
+use plan_sizes::sizes::{bits_of, greatest_time, greatest_wait, initial_cycles, span};
 use rtl_core::design::{Atom, Pair};
 use rtl_logic::logic::Logic;
 use rtl_logic::select::constant;
@@ -40,14 +52,20 @@ pub struct Control {
     pub ended: Vec<Atom>,
 }
 
-fn counter(logic: &mut Logic, greatest: u64) -> Result<Option<Atom>, AllocError> {
+fn counter(logic: &mut Logic, greatest: u64) -> Result<Option<Atom>, AllocError>
+    ensures { (p : Plan) (names : List Register) (r : Register) → IsBegun p names (circuit logic.old) → (0 < greatest → width p r ≡ plans.bits_of greatest)
+        → IfOk result (λ o. HasMade p names (circuit logic.old) (circuit logic.new) (λ all. IsThereIf (nat_lt 0 greatest) all o r)) }
+{
     if greatest == 0 {
         return Ok(None);
     }
     Ok(Some(logic.register(bits_of(greatest))?))
 }
 
-fn new_state(alloc: Global, logic: &mut Logic, node: &Node<Timed>) -> Result<State, AllocError> {
+fn new_state(alloc: Global, logic: &mut Logic, node: &Node<Timed>) -> Result<State, AllocError>
+    ensures { (p : Plan) (names : List Register) (i : ℕ) → IsBegun p names (circuit logic.old) → slice_get p.program.nodes i ≡ Some (timed_node node.now)
+        → IfOk result (λ s. HasMade p names (circuit logic.old) (circuit logic.new) (λ all. AreOfNode p all i s)) }
+{
     let active = logic.register(1)?;
     let load = match node {
         Node::Plain(_) => None,
@@ -89,11 +107,16 @@ impl Control {
     }
 
     /// Whether the time within the node is this one.
-    pub fn time_is(&self, logic: &mut Logic, time: u64) -> Result<Atom, AllocError> {
+    pub fn time_is(&self, logic: &mut Logic, time: u64) -> Result<Atom, AllocError>
+        ensures { (p : Plan) (names : List Register) → IsBegun p names (circuit logic.old) → IsControl p names self.now → time < 2 ^ width p Time
+            → IfOk result (λ a. MakesTelling p names (circuit logic.old) (circuit logic.new) a (λ (c : Cycle). c.regs Time == time)) }
+    {
         is_count(logic, self.time, time)
     }
 
-    pub fn active(&self, node: NodeId) -> Atom {
+    pub fn active(&self, node: NodeId) -> Atom
+        ensures { (p : Plan) (names : List Register) → IsControl p names self.now → node.0 < length p.program.nodes → IsRegister names result (Active node.0) }
+    {
         match self.states.get(node.0 as usize) {
             Some(state) => state.active,
             None => constant(1, 0),
@@ -101,7 +124,9 @@ impl Control {
     }
 
     /// The bit of a loop's first cycle, in which it takes the values that it begins with.
-    pub fn load(&self, node: NodeId) -> Atom {
+    pub fn load(&self, node: NodeId) -> Atom
+        ensures { (p : Plan) (names : List Register) → IsControl p names self.now → is_loop (slice_get p.program.nodes node.0) ≡ true → IsRegister names result (Load node.0) }
+    {
         match self.states.get(node.0 as usize) {
             Some(state) => state.load.unwrap_or(constant(1, 0)),
             None => constant(1, 0),
@@ -109,7 +134,9 @@ impl Control {
     }
 
     /// The bit of a node's last cycle.
-    pub fn leave(&self, node: NodeId) -> Atom {
+    pub fn leave(&self, node: NodeId) -> Atom
+        ensures { (s : State) → slice_get self.now.states.items node.0 ≡ Some s → result ≡ s.leave }
+    {
         match self.states.get(node.0 as usize) {
             Some(state) => state.leave,
             None => constant(1, 0),
@@ -131,12 +158,18 @@ impl Control {
     }
 
     /// The register that is 1 once a loop has passed so many intervals, at least one.
-    pub fn stage(&mut self, logic: &mut Logic, intervals: u64) -> Result<Atom, AllocError> {
+    pub fn stage(&mut self, logic: &mut Logic, intervals: u64) -> Result<Atom, AllocError>
+        ensures { (p : Plan) (names : List Register) → 0 < intervals → IsBegun p names (circuit logic.old) → IsControl p names self.old
+            → IfOk result (λ a. HasFound p names (circuit logic.old) (circuit logic.new) self.new a (Passed intervals)) }
+    {
         register_at(logic, &mut self.loops.stages, intervals)
     }
 
     /// The register that is 1 while no test has failed.
-    pub fn running(&mut self, logic: &mut Logic) -> Result<Atom, AllocError> {
+    pub fn running(&mut self, logic: &mut Logic) -> Result<Atom, AllocError>
+        ensures { (p : Plan) (names : List Register) → IsBegun p names (circuit logic.old) → IsControl p names self.old
+            → IfOk result (λ a. HasFound p names (circuit logic.old) (circuit logic.new) self.new a (Gate 0)) }
+    {
         match self.loops.running {
             Some(register) => Ok(register),
             None => {
@@ -148,7 +181,10 @@ impl Control {
     }
 
     /// Whether no test had failed before the last so many tests.
-    pub fn running_before(&mut self, logic: &mut Logic, tests: u64) -> Result<Atom, AllocError> {
+    pub fn running_before(&mut self, logic: &mut Logic, tests: u64) -> Result<Atom, AllocError>
+        ensures { (p : Plan) (names : List Register) → IsBegun p names (circuit logic.old) → IsControl p names self.old
+            → IfOk result (λ a. HasFound p names (circuit logic.old) (circuit logic.new) self.new a (Gate tests)) }
+    {
         if tests == 0 {
             return self.running(logic);
         }
@@ -156,13 +192,19 @@ impl Control {
     }
 
     /// The bit of a start that is taken.
-    pub fn taken(&self, logic: &mut Logic) -> Result<Atom, AllocError> {
+    pub fn taken(&self, logic: &mut Logic) -> Result<Atom, AllocError>
+        ensures { (p : Plan) (names : List Register) → IsBegun p names (circuit logic.old) → IsControl p names self.now
+            → IfOk result (λ a. MakesTelling p names (circuit logic.old) (circuit logic.new) a is_taken) }
+    {
         logic.and(self.ready, START)
     }
 }
 
 /// The register with this number, from 1, of a line that grows.
-fn register_at(logic: &mut Logic, line: &mut Vec<Atom>, number: u64) -> Result<Atom, AllocError> {
+fn register_at(logic: &mut Logic, line: &mut Vec<Atom>, number: u64) -> Result<Atom, AllocError>
+    ensures { (p : Plan) (names : List Register) (r : ℕ → Register) → ((k : ℕ) → width p (r k) ≡ 1) → 0 < number → IsBegun p names (circuit logic.old) → AreLine names line.old.items r
+        → IfOk result (λ a. HasReached p names (circuit logic.old) (circuit logic.new) line.new.items a r (number - 1)) }
+{
     let missing = (number as usize).saturating_sub(line.len());
     for _ in 0..missing {
         line.push(logic.register(1)?)?;
@@ -174,7 +216,10 @@ fn register_at(logic: &mut Logic, line: &mut Vec<Atom>, number: u64) -> Result<A
 }
 
 /// Whether a counter, if there is one, has this value.
-pub fn is_count(logic: &mut Logic, counter: Option<Atom>, value: u64) -> Result<Atom, AllocError> {
+pub fn is_count(logic: &mut Logic, counter: Option<Atom>, value: u64) -> Result<Atom, AllocError>
+    ensures { (p : Plan) (names : List Register) (r : Register) → IsBegun p names (circuit logic.old) → IsCounter p names counter r → value < 2 ^ width p r
+        → IfOk result (λ a. MakesTelling p names (circuit logic.old) (circuit logic.new) a (λ (c : Cycle). c.regs r == value)) }
+{
     match counter {
         Some(register) => {
             let bits = logic.width(register);
@@ -185,7 +230,10 @@ pub fn is_count(logic: &mut Logic, counter: Option<Atom>, value: u64) -> Result<
 }
 
 /// A counter's next value.
-fn counted(logic: &mut Logic, register: Atom) -> Result<Atom, AllocError> {
+fn counted(logic: &mut Logic, register: Atom) -> Result<Atom, AllocError>
+    ensures { (p : Plan) (names : List Register) (r : Register) → IsBegun p names (circuit logic.old) → IsBetween 1 64 (width p r) → IsRegister names register r
+        → IfOk result (λ a. MakesCarrying p names (circuit logic.old) (circuit logic.new) (width p r) a (λ (c : Cycle). (c.regs r + 1) % 2 ^ width p r)) }
+{
     let bits = logic.width(register);
     logic.two(Pair::Add, bits, register, constant(bits, 1))
 }

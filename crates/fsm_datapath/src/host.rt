@@ -1,7 +1,7 @@
 //! What the host reads.
-use fsm_control::pins::HOST_SELECT;
-use fsm_control::sizes::{array_id, bits_of, host_memories};
 use fsm_values::circuit::Circuit;
+use plan_sizes::pins::HOST_SELECT;
+use plan_sizes::sizes::{array_id, bits_of, host_memories};
 use rtl_core::design::Atom;
 use rtl_logic::select::constant;
 use std::alloc::AllocError;

@@ -1,13 +1,13 @@
 //! The memories and tables, with all that reads and writes them.
-use fsm_control::pins::{
-    HOST_ADDRESS, HOST_DATA, HOST_ENABLE, HOST_SELECT, HOST_WRITE, RESET, START,
-};
-use fsm_control::sizes::{array_id, depth_log};
 use fsm_control::units::Access;
-use fsm_control::words::words_by_address;
 use fsm_values::circuit::Circuit;
 use hls_base::number::ArrayId;
 use ir_core::cfg::Memory;
+use plan_sizes::pins::{
+    HOST_ADDRESS, HOST_DATA, HOST_ENABLE, HOST_SELECT, HOST_WRITE, RESET, START,
+};
+use plan_sizes::sizes::{array_id, depth_log};
+use plan_sizes::words::words_by_address;
 use rtl_core::design::{Atom, Port};
 use rtl_logic::select::constant;
 use rtl_units::builder::Fragment;

@@ -1,9 +1,9 @@
 //! The address of an element: the low bits of its subscripts side by side.
 use crate::circuit::Circuit;
 use crate::operands::Reading;
-use fsm_control::sizes::{dimension_bits, memory_at};
 use hls_base::number::ArrayId;
 use ir_core::body::Operand;
+use plan_sizes::sizes::{dimension_bits, memory_at};
 use rtl_core::design::Atom;
 use rtl_logic::select::constant;
 use std::alloc::AllocError;

@@ -1,6 +1,5 @@
 use clock_ir::timed::Timed;
 use fsm_control::control::Control;
-use fsm_control::sizes::body_of;
 use fsm_control::units::UnitTable;
 use hls_base::number::{NodeId, OpId, VarId};
 use hls_base::refusal::impossible;
@@ -8,6 +7,7 @@ use ir_core::body::{Body, Op, Operand, Source};
 use ir_core::cfg::{Cfg, End, Node};
 use live_variables::live::{Live, live_variables};
 use live_variables::var_set::VarSet;
+use plan_sizes::sizes::body_of;
 use reg_binding::registers::Registers;
 use rtl_core::design::{Atom, Design};
 use rtl_logic::logic::Logic;

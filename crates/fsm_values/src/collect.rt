@@ -2,11 +2,11 @@
 use crate::circuit::Circuit;
 use crate::operands::Reading;
 use clock_ir::timed::Timed;
-use fsm_control::sizes::{at_least_one, body_of, node_id, span};
 use fsm_control::units::Given;
 use hls_base::number::{ArrayId, NodeId};
 use ir_core::body::{Op, OpKind, Operand};
 use ir_operation::timing::{UnitClass, is_table};
+use plan_sizes::sizes::{at_least_one, body_of, node_id, span};
 use rtl_core::design::Atom;
 use rtl_logic::select::Choice;
 use std::alloc::AllocError;

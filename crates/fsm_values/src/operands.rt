@@ -1,11 +1,11 @@
 //! Where operands stand when they are read.
 use crate::circuit::Circuit;
 use clock_ir::timed::Timed;
-use fsm_control::sizes::{at_least_one, available, body_of, chain_of};
 use hls_base::number::{NodeId, OpId, VarId};
 use hls_base::refusal::impossible;
 use ir_core::body::{Body, Operand, Source};
 use ir_core::cfg::Node;
+use plan_sizes::sizes::{at_least_one, available, body_of, chain_of};
 use rtl_core::design::Atom;
 use rtl_logic::select::constant;
 use std::alloc::AllocError;

@@ -2,8 +2,8 @@
 use crate::circuit::Circuit;
 use crate::operands::Reading;
 use clock_ir::timed::Timed;
-use fsm_control::operations::{Arguments, argument, constant_widths, value_of};
 use ir_core::body::Op;
+use operation_wires::operations::{Arguments, argument, constant_widths, value_of};
 use rtl_core::design::Atom;
 use std::alloc::AllocError;
 

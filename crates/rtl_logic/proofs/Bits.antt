@@ -1,5 +1,5 @@
 -- Single bits.
-use Rattle.std.proofs.Common.{◌≡◌, ◌<◌, ◌-◌, ◌^◌, ℕ, zero, suc, Bool, true, false, cond, refl, arith}
+use Rattle.std.proofs.Common.{◌≡◌, ◌<◌, ◌-◌, ◌^◌, ℕ, zero, suc, refl, arith}
 use Rattle.std.specs.Prelude.{◌==◌, bit_and, bit_or, if◌then◌else◌}
 use Rattle.rtl_core.specs.ClockStep.{bit_of}
 

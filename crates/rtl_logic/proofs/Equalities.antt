@@ -1,6 +1,6 @@
 -- Wires that a comparison finds equal are the same.
 use Rattle.std.proofs.Common.{◌≡◌, ℕ, Bool, true, false, ◌&&◌, refl, ap, Option, Some, None}
-use Rattle.std.specs.Prelude.{◌==◌, nat_eq}
+use Rattle.std.specs.Prelude.{◌==◌}
 use Rattle.std.specs.Option.{option_eq}
 use Rattle.std.proofs.lemmas.Bool.{false≢true}
 use Rattle.std.proofs.lemmas.Bool.Decides.{Decides-eqb}
@@ -16,11 +16,11 @@ use Rattle.rtl_core.specs.contracts.design.PairPartialEq.TheImpl as pair_impl
 use Rattle.rtl_core.specs.contracts.design.NetPartialEq.TheImpl as net_impl
 use Rattle.rtl_core.specs.contracts.design.WirePartialEq.TheImpl as wire_impl
 
-first : (a b : Bool) → (a && b) ≡ true → a ≡ true
+pub first : (a b : Bool) → (a && b) ≡ true → a ≡ true
 first true b e = refl
 first false b e = e
 
-second : (a b : Bool) → (a && b) ≡ true → b ≡ true
+pub second : (a b : Bool) → (a && b) ≡ true → b ≡ true
 second true b e = e
 second false b e = absurd (false≢true e)
 

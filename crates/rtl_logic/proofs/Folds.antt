@@ -1,6 +1,5 @@
 -- What numbers, operators on numbers, parts and joins show.
-use Rattle.std.proofs.Common.{◌≡◌, ◌<◌, ◌≤◌, ◌⊎◌, ℕ, zero, suc, ◌+◌, ◌-◌, ◌*◌, ◌/◌, ◌%◌, ◌^◌, Bool, true, false, List, slice_get, Option, Some, None, refl, sym, ap, ◌∙◌, subst, arith}
-use Rattle.std.specs.Prelude.{◌==◌, bit_and, bit_or, bit_xor}
+use Rattle.std.proofs.Common.{◌≡◌, ◌<◌, ◌≤◌, ℕ, ◌+◌, ◌-◌, ◌*◌, ◌/◌, ◌%◌, ◌^◌, true, List, slice_get, Option, Some, None, refl, sym, ap, ◌∙◌, subst, arith}
 use Rattle.std.specs.Option.{option_map}
 use Rattle.std.proofs.lemmas.Bool.{false≢true}
 use Rattle.std.proofs.lemmas.Option.{none-some, same_Some, slice_get-map}
@@ -10,13 +9,12 @@ use Rattle.std.proofs.Math.Pow.{not_mod, pow_mono}
 use Rattle.std.proofs.lemmas.Nat.{pow_pos, mul-add-lt, pow-add}
 use Rattle.rtl_core.specs.declared.design.Atom.{Atom}
 use Rattle.rtl_core.specs.declared.design.Atom.TheVariants as atom
-use Rattle.rtl_core.specs.declared.design.Net.{Net}
 use Rattle.rtl_core.specs.declared.design.Net.TheVariants as net
 use Rattle.rtl_core.specs.declared.design.Pair.{Pair}
 use Rattle.rtl_core.specs.declared.design.Pair.TheVariants as pair
 use Rattle.rtl_core.specs.declared.design.Wire.{Wire}
 use Rattle.rtl_core.specs.Netlist.{Netlist}
-use Rattle.rtl_core.specs.ClockStep.{State, Widths, bits_of, bit_of, pair_value, widths, seen, IsState, ArePins}
+use Rattle.rtl_core.specs.ClockStep.{State, Widths, bits_of, pair_value, widths, seen}
 use Rattle.rtl_core.specs.Valid.{HasBits, OperandsFit, NetFits, IsBetween, IsConstant}
 use Rattle.rtl_core.proofs.Fits.{width_is, pair_fits}
 use Rattle.rtl_units.specs.Fragments.{wire_of}
@@ -93,7 +91,7 @@ not_wire d e n bits of a sound between h width adds =
 
 -- ---- operators
 
-operands_as : (op : Pair) (n : ℕ) (A B A2 B2 : ℕ → Type 0) → ((m : ℕ) → A m → A2 m) → ((m : ℕ) → B m → B2 m) → OperandsFit op n A B → OperandsFit op n A2 B2
+pub operands_as : (op : Pair) (n : ℕ) (A B A2 B2 : ℕ → Type 0) → ((m : ℕ) → A m → A2 m) → ((m : ℕ) → B m → B2 m) → OperandsFit op n A B → OperandsFit op n A2 B2
 operands_as pair.Add n A B A2 B2 f g h = (f n h.0, g n h.1)
 operands_as pair.Sub n A B A2 B2 f g h = (f n h.0, g n h.1)
 operands_as pair.Mul n A B A2 B2 f g h = (f n h.0, g n h.1)

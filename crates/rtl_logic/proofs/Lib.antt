@@ -1,7 +1,14 @@
 mod Bits
+mod Choices
 mod Equalities
+mod Fewer
 mod Folding
-mod Folds
-mod Making
+pub mod Folds
+mod Groups
+mod Keeping
+pub mod Making
+mod Pruned
 mod Setting
-mod Showing
+pub mod Showing
+mod Spreading
+mod Trees

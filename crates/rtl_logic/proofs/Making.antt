@@ -1,15 +1,14 @@
 -- Atoms that are made keep what they show.
-use Rattle.std.proofs.Common.{◌≡◌, ◌<◌, ◌⊎◌, inl, inr, ℕ, zero, suc, ◌++◌, ◌^◌, List, [], ◌∷◌, length, slice_get, Option, Some, refl, sym, ap, ◌∙◌, subst, append_assoc}
-use Rattle.std.proofs.lemmas.List.{append-nil, map-append, length-map}
+use Rattle.std.proofs.Common.{◌≡◌, ◌<◌, ◌⊎◌, inl, inr, ℕ, zero, suc, ◌++◌, ◌^◌, List, [], ◌∷◌, slice_get, Some, refl, sym, ap, ◌∙◌, subst, append_assoc}
+use Rattle.std.proofs.lemmas.List.{append-nil, map-append}
 use Rattle.std.proofs.lemmas.Option.{slice_get-map, none-some, same_Some}
 use Rattle.std.specs.Option.{option_map}
 use Rattle.rtl_core.specs.declared.design.Atom.{Atom}
 use Rattle.rtl_core.specs.declared.design.Atom.TheVariants as atom
 use Rattle.rtl_core.specs.declared.design.Net.{Net}
 use Rattle.rtl_core.specs.declared.design.Wire.{Wire}
-use Rattle.rtl_core.specs.declared.design.Reg.{Reg}
 use Rattle.rtl_core.specs.Netlist.{Netlist}
-use Rattle.rtl_core.specs.ClockStep.{State, Widths, bits_of, widths, widths_after, wire_widths, wire_values, seen, net_value, register_widths, Fit, fit_none, IsState, ArePins}
+use Rattle.rtl_core.specs.ClockStep.{State, bits_of, widths, widths_after, wire_widths, wire_values, seen, net_value, register_widths, fit_none, IsState, ArePins}
 use Rattle.rtl_core.specs.Valid.{HasBits, NetFits, WiresFit, IsBetween}
 use Rattle.rtl_core.proofs.Stability.{Extends, Longer, bits_kept, get_same, wire_equation}
 use Rattle.rtl_core.proofs.Growth.{longer_whole, net_grows, wires_append}

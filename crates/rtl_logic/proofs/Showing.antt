@@ -1,5 +1,5 @@
 -- What the atoms show that expressions are folded to.
-use Rattle.std.proofs.Common.{◌≡◌, ◌<◌, ◌≤◌, ◌⊎◌, inl, inr, ℕ, ◌+◌, ◌-◌, ◌^◌, Bool, true, false, List, slice_get, Option, Some, None, refl, sym, ap, ◌∙◌, subst, arith}
+use Rattle.std.proofs.Common.{◌≡◌, ◌<◌, ◌⊎◌, inl, inr, ℕ, ◌-◌, ◌^◌, Bool, true, false, List, slice_get, Option, Some, None, refl, sym, ap, ◌∙◌, subst, arith}
 use Rattle.std.specs.Prelude.{◌==◌, bit_and, bit_or, if◌then◌else◌}
 use Rattle.std.specs.Option.{option_map}
 use Rattle.std.proofs.lemmas.Bool.{false≢true}
@@ -7,16 +7,15 @@ use Rattle.std.proofs.lemmas.Bool.Decides.{Decides-eqb}
 use Rattle.std.proofs.lemmas.Option.{none-some, same_Some, slice_get-map}
 use Rattle.rtl_core.specs.declared.design.Atom.{Atom}
 use Rattle.rtl_core.specs.declared.design.Atom.TheVariants as atom
-use Rattle.rtl_core.specs.declared.design.Net.{Net}
 use Rattle.rtl_core.specs.declared.design.Net.TheVariants as net
 use Rattle.rtl_core.specs.declared.design.Pair.TheVariants as pair
 use Rattle.rtl_core.specs.declared.design.Wire.{Wire}
 use Rattle.rtl_core.specs.Netlist.{Netlist}
-use Rattle.rtl_core.specs.ClockStep.{State, bits_of, bit_of, pair_value, widths, seen, net_value, IsState, ArePins}
-use Rattle.rtl_core.specs.Valid.{HasBits, NetFits, IsBetween}
+use Rattle.rtl_core.specs.ClockStep.{State, bits_of, bit_of, widths, seen, net_value, IsState}
+use Rattle.rtl_core.specs.Valid.{HasBits, IsBetween}
 use Rattle.rtl_core.proofs.Stability.{Extends}
 use Rattle.rtl_units.specs.Fragments.{wire_of}
-use Rattle.rtl_logic.specs.Making.{IsSound, AddsWire, Shows, Makes, number_in, is_same, net_in}
+use Rattle.rtl_logic.specs.Making.{IsSound, AddsWire, Always, Makes, number_in, is_same, net_in}
 use Rattle.rtl_logic.proofs.Making.{made_before, fits_later, seen_bound, wire_value, adds_makes, goes_on, appended, appends_both}
 use Rattle.rtl_logic.proofs.Bits.{and_zero, zero_and, and_one, one_and, and_itself, and_opposite, one_or, or_one, or_zero, zero_or, or_itself, or_opposite, equals_one, equals_zero, pick_or, pick_and, pick_and_not, pick_or_not}
 
@@ -29,10 +28,6 @@ number_seen e s pins k (atom.Reg n) h = absurd (false≢true h)
 number_seen e s pins k (atom.Wire n) h = absurd (false≢true h)
 
 -- ---- an atom that is there
-
--- in each cycle of each circuit that this one becomes
-abbrev Always : Netlist → ((Atom → ℕ) → Type 0) → Type 0
-Always d P = (e : Netlist) (s : State) (pins : List ℕ) → Extends d e → IsSound e → IsState e s → ArePins e pins → P (seen e s pins)
 
 pub there : (d : Netlist) (n : ℕ) (a : Atom) (P : (Atom → ℕ) → ℕ → Type 0) → IsSound d → HasBits (widths d) n a → Always d (λ v. P v (v a)) → Makes d d n a P
 there d n a P sound h always = made_before d n a P sound (record { fits = h; value = always })

@@ -1,1 +1,6 @@
+pub mod Choosing
+pub mod Keys
 pub mod Making
+pub mod Marking
+pub mod Pruning
+pub mod Reducing

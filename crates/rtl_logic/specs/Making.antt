@@ -30,10 +30,14 @@ pub record AddsWire (d e : Netlist) (w : Wire) (a : Atom) : Type 0 where
   pub names : a ≡ atom.Wire number
   pub there : slice_get e.wires number ≡ Some w
 
+-- it holds in each cycle of each circuit that this one becomes, of the values that the atoms have there
+abbrev pub Always : Netlist → ((Atom → ℕ) → Type 0) → Type 0
+Always d P = (e : Netlist) (s : State) (pins : List ℕ) → Extends d e → IsSound e → IsState e s → ArePins e pins → P (seen e s pins)
+
 -- An atom of so many bits. In each cycle of each circuit that this one becomes, its value and the values of all atoms are as P says.
 pub record Shows (d : Netlist) (bits : ℕ) (a : Atom) (P : (Atom → ℕ) → ℕ → Type 0) : Type 0 where
   pub fits : HasBits (widths d) bits a
-  pub value : (e : Netlist) (s : State) (pins : List ℕ) → Extends d e → IsSound e → IsState e s → ArePins e pins → P (seen e s pins) (seen e s pins a)
+  pub value : Always d (λ v. P v (v a))
 
 -- such an atom is made by appending wires
 pub record Makes (d e : Netlist) (bits : ℕ) (a : Atom) (P : (Atom → ℕ) → ℕ → Type 0) : Type 0 where

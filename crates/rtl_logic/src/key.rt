@@ -1,4 +1,7 @@
 //! Expressions of wires in an order.
+ghost use Rattle.std.specs.Prelude.{◌≡◌};
+ghost use Rattle.rtl_logic.specs.Keys.{keyed_atom, keyed_net, keyed_pair};
+
 use rtl_core::design::{Atom, Net, Pair};
 
 #[derive(Clone, Copy, Debug, PartialEq, Eq, PartialOrd, Ord)]
@@ -35,7 +38,9 @@ pub enum NetKey {
     Word(u32, AtomKey),
 }
 
-pub fn atom_key(atom: Atom) -> AtomKey {
+pub fn atom_key(atom: Atom) -> AtomKey
+    ensures { keyed_atom result ≡ atom }
+{
     match atom {
         Atom::Constant { bits, value } => AtomKey::Constant { bits, value },
         Atom::Input(k) => AtomKey::Input(k),
@@ -44,7 +49,9 @@ pub fn atom_key(atom: Atom) -> AtomKey {
     }
 }
 
-fn make_operator(pair: Pair) -> Operator {
+fn make_operator(pair: Pair) -> Operator
+    ensures { keyed_pair result ≡ pair }
+{
     match pair {
         Pair::Add => Operator::Add,
         Pair::Sub => Operator::Sub,
@@ -59,7 +66,9 @@ fn make_operator(pair: Pair) -> Operator {
     }
 }
 
-pub fn net_key(net: Net) -> NetKey {
+pub fn net_key(net: Net) -> NetKey
+    ensures { keyed_net result ≡ net }
+{
     match net {
         Net::Copy(a) => NetKey::Copy(atom_key(a)),
         Net::Not(a) => NetKey::Not(atom_key(a)),

@@ -1,4 +1,4 @@
-use Rattle.std.proofs.Common.{◌≡◌, ◌∙◌, IfOk, sym, ap, Some}
+use Rattle.std.proofs.Common.{◌∙◌, sym, ap, Some}
 use Rattle.std.proofs.lemmas.Result.{IfOk-weaker}
 use Rattle.rtl_logic.specs.Making.{circuit}
 use Rattle.rtl_logic.proofs.Folds.{not_number, not_twice, not_wire}

@@ -1,0 +1,6 @@
+mod Comparing
+mod Giving
+mod Patterns
+mod Shifting
+mod Signs
+mod Steps
