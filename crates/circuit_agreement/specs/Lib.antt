@@ -1,0 +1,5 @@
+pub mod Answers
+pub mod Standing
+pub mod Boxes
+pub mod Laws
+pub mod Relating

@@ -1,0 +1,5 @@
+pub mod Savings
+pub mod Frames
+pub mod Names
+pub mod Operations
+pub mod Laws

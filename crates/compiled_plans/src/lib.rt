@@ -1,0 +1,4 @@
+//! Plans of compiled programs are as the circuit takes for granted.
+#![tactic(auto)]
+
+pub mod laws;

@@ -1,0 +1,3 @@
+pub mod Iterations
+pub mod Gates
+pub mod Laws

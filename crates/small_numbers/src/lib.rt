@@ -1,0 +1,4 @@
+//! Numbers of programs with times are as small as their types.
+#![tactic(auto)]
+
+pub mod numbers;

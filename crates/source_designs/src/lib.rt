@@ -1,0 +1,4 @@
+//! The box of a plan is the box of the C function that it is made from.
+#![tactic(auto)]
+
+pub mod laws;

@@ -1,0 +1,13 @@
+pub mod Dividing
+pub mod Signs
+pub mod Lists
+pub mod Times
+pub mod Operations
+pub mod Turns
+pub mod Cycles
+pub mod Multiplying
+pub mod Loading
+pub mod Widths
+pub mod DivisionSteps
+pub mod Giving
+pub mod Stepping
