@@ -193,6 +193,8 @@ def source_limits():
     yield fits("limit 36 last", heavy + ";}")
     yield Case("limit 36 last, run", 0, "agree", words=COSIM, source=heavy + ";}", make=True, files={"s.run": "a = 0\n"})
     yield refused("limit 36 further", heavy + "+1u;}", 36, 1, 10)
+    doubled = "unsigned f0(unsigned a){return a;}" + "".join(f"unsigned f{k}(unsigned a){{return f{k - 1}(a)+f{k - 1}(a);}}" for k in range(1, 40))
+    yield refused("limit 36 doubled", doubled + "unsigned f(unsigned a){return f39(a);}", 36, 1, len(doubled) + 10)
     defines = lambda count: "".join(f"#define a{k:03d} 1\n" for k in range(count)) + SEVEN
     yield fits("limit 38 last", defines(256))
     yield refused("limit 38 further", defines(257), 38, 257, 9)
