@@ -21,12 +21,12 @@ use Rattle.piece_making.specs.Objects.{local_of, host_array, file_array, file_in
 use Rattle.c_expand.specs.Expressions as e
 use Rattle.c_expand.specs.Expressions.{Given, Callee}
 use Rattle.c_expand.specs.Statements.{statements}
-use Rattle.c_expand.specs.Expansion.{parameter, parameters, locals, homes_for, end_of, run_through, within, value_of, opened, opened_as, calls, is_array, is_kept, kept_scalar, kept_scalars, first_kept, file_home, file_homes, kept_behind, top_parameter, top_parameters, outermost, top_call, top_run, top_of, top_made, named, nothing}
+use Rattle.c_expand.specs.Expansion.{expansion, parameter, parameters, locals, homes_for, end_of, run_through, within, value_of, opened, opened_as, calls, is_array, is_kept, kept_scalar, kept_scalars, first_kept, file_home, file_homes, kept_behind, top_parameter, top_parameters, outermost, top_call, top_run, top_of, top_made, named, nothing}
 use Rattle.ir_layout.specs.WellFormed.{Inside}
 use Rattle.lowered_trees.specs.Fitting.{PiecesFit, with_ends, ends_in}
 use Rattle.lower_runs.specs.Showing.{AreShort}
 use Rattle.piece_meaning.specs.Values.{lengths_in}
-use Rattle.expanded_pieces.specs.Jumps.{AllJumpsFit}
+use Rattle.expanded_pieces.specs.Jumps.{AllJumpsFit, ProgramJumpsFit}
 use Rattle.expanded_pieces.specs.Lengths.{EachObject, EachFileObject, EachFunction}
 use Rattle.expanded_pieces.specs.Laws.{ExpandedPiecesFit, ExpandedArraysAreShort}
 use Rattle.expanded_pieces.proofs.Ends.{found_first, fits_append}
@@ -207,10 +207,14 @@ short_at [] h a = tt
 short_at (x ∷ arrays) h zero = h.0
 short_at (x ∷ arrays) h (suc a) = short_at arrays h.1 a
 
-pub expanded_short : ExpandedArraysAreShort
-expanded_short p jumps lengths = either (top_of p) refl where
-  either : (fn : Option CoreFunctionTree) → top_of p ≡ fn → (a : ℕ) → AreShort (lengths_in (slice_get (named fn (top_made p fn)).arrays a))
-  either None e = short_at [] tt
+-- What holds for the lengths of all objects holds for those of all arrays.
+pub expanded_each : (Q : List ℕ → Type 0) (p : CoreProgramTree) → ProgramJumpsFit p → EachFileObject Q p.file → EachFunction Q p.functions → EachArray Q (expansion p).arrays
+expanded_each Q p jumps files functions = either (top_of p) refl where
+  either : (fn : Option CoreFunctionTree) → top_of p ≡ fn → EachArray Q (named fn (top_made p fn)).arrays
+  either None e = tt
   either (Some fn) e =
-      let bodies : BodiesFit AreShort p.functions = λ i f e. (each_function AreShort p.functions lengths.1 i f e, jumps i f e) in
-      short_at (top_run p fn nothing).state.arrays ((top_fits AreShort p lengths.0 bodies fn (bodies p.top fn e) nothing).each tt)
+      let bodies : BodiesFit Q p.functions = λ i f e. (each_function Q p.functions functions i f e, jumps i f e) in
+      (top_fits Q p files bodies fn (bodies p.top fn e) nothing).each tt
+
+pub expanded_short : ExpandedArraysAreShort
+expanded_short p jumps lengths a = short_at (expansion p).arrays (expanded_each AreShort p jumps lengths.0 lengths.1) a

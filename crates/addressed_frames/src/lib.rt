@@ -1,0 +1,4 @@
+//! Addresses of the memories of frames have few bits.
+#![tactic(auto)]
+
+pub mod laws;
