@@ -1,0 +1,15 @@
+pub mod Parts
+pub mod Saved
+pub mod Changes
+pub mod Expressions
+pub mod Names
+pub mod Actions
+pub mod Statements
+pub mod Homes
+pub mod Calls
+pub mod Whole
+pub mod Marked
+pub mod CheckedExpressions
+pub mod CheckedStatements
+pub mod CheckedFunctions
+pub mod CheckedPrograms

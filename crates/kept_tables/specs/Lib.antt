@@ -1,0 +1,4 @@
+pub mod Programs
+pub mod Worlds
+pub mod Standing
+pub mod Laws

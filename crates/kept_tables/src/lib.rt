@@ -1,0 +1,4 @@
+//! Tables that no piece of an expanded program sets.
+#![tactic(auto)]
+
+pub mod laws;
