@@ -1,0 +1,5 @@
+//! At which port each access takes place.
+#![tactic(auto)]
+
+mod loads;
+pub mod ports;

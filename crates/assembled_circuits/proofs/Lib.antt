@@ -1,0 +1,5 @@
+pub mod Lists
+pub mod Distinct
+pub mod Signals
+pub mod Driven
+pub mod Whole

@@ -1,0 +1,4 @@
+//! A circuit whose parts are all there is assembled.
+#![tactic(auto)]
+
+pub mod laws;

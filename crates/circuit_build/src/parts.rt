@@ -1,0 +1,164 @@
+//! The parts of a circuit, one after another.
+ghost use Rattle.std.specs.Prelude.{◌≡◌, List, IfOk, OnOk, IsTrue, [], map};
+ghost use Rattle.std.specs.List.{All};
+ghost use Rattle.array_address.specs.AddressWords.{AreShort};
+ghost use Rattle.rtl_logic.specs.Making.{circuit};
+ghost use Rattle.datapath.specs.Plans.{Plan};
+ghost use Rattle.datapath.specs.Cycles.{Register};
+ghost use Rattle.circuit_wires.specs.Carrying.{IsBegun};
+ghost use Rattle.circuit_log.specs.Roles.{named};
+ghost use Rattle.circuit_log.specs.Entries.{moves_of, all_entries, all_roles};
+ghost use Rattle.circuit_log.specs.Logs.{Logs};
+ghost use Rattle.register_bank.specs.Banks.{names_of};
+ghost use Rattle.circuit_context.specs.Contexts.{IsContext};
+ghost use Rattle.unit_demands.specs.Computed.{AreComputed};
+ghost use Rattle.unit_circuits.specs.Units.{HasAnswers};
+ghost use Rattle.register_drives.specs.Drives.{AreIdle};
+ghost use Rattle.circuit_build.specs.Making.{HasContext, CanCompute, HasParts, HasMoves};
+
+use access_ports::ports::ports_of;
+use circuit_context::context::Context;
+use circuit_log::log::Log;
+use circuit_savings::savings::variables_read;
+use clock_ir::timed::Timed;
+use controller::control::write_control;
+use controller::exits::write_exits;
+use controller::loops::write_loops;
+use held_places::places::places_of;
+use hls_base::refusal::impossible;
+use host_reading::host::write_named;
+use ir_core::cfg::{Cfg, Memory};
+use live_variables::live::live_variables;
+use memory_circuits::checks::are_short;
+use memory_circuits::memories::{PortTable, add_memories};
+use reg_binding::registers::Registers;
+use register_bank::bank::allot;
+use register_drives::drives::drive_registers;
+use rtl_logic::logic::Logic;
+use small_numbers::numbers::numbers_are_small;
+use std::alloc::{AllocError, Global};
+use unit_circuits::units::{UnitTable, add_units};
+use unit_demands::demands::{Computed, collect};
+use value_writes::beginnings::write_beginnings;
+use value_writes::ends::write_ends;
+use value_writes::places::write_places;
+use value_writes::sources::Sources;
+
+/// The registers of the circuit, and what is known of the program.
+pub fn context_of<'a>(
+    alloc: Global,
+    logic: &mut Logic,
+    cfg: &'a Cfg<Timed>,
+    registers: &'a Registers,
+) -> Result<Context<'a>, AllocError>
+    ensures { IfOk result (λ of. HasContext of cfg.now registers.now (circuit logic.old) (circuit logic.new)) }
+{
+    numbers_are_small(cfg);
+    let ports = ports_of(alloc, cfg)?;
+    let bank = allot(alloc, logic, cfg, registers, &ports.counts)?;
+    let live = live_variables(alloc, cfg)?;
+    let read = variables_read(alloc, cfg, &live)?;
+    let places = places_of(alloc, &registers.held)?;
+    Ok(Context {
+        alloc,
+        cfg,
+        registers,
+        bank,
+        places,
+        ports,
+        read,
+        live,
+    })
+}
+
+/// What computes: the wires of operations, the shared units, and the ports of memories and tables.
+#[derive(Debug, Drop)]
+pub struct Parts {
+    pub computed: Computed,
+    pub units: UnitTable,
+    pub ports: PortTable,
+}
+
+/// Whether no dimension of an array is longer than a subscript of 16 bits can be.
+fn are_all_short(memories: &[Memory]) -> bool
+    ensures { IsTrue result → All (λ m. AreShort m.dims.items) memories.now }
+{
+    for memory in memories {
+        if !are_short(&memory.dims) {
+            return false;
+        }
+    }
+    true
+}
+
+/// Adds all that computes.
+pub fn add_parts(of: &Context<'_>, logic: &mut Logic) -> Result<Parts, AllocError>
+    ensures { (p : Plan) → CanCompute p of.now (circuit logic.old) → IfOk result (λ parts. HasParts p of.now.bank (circuit logic.old) (circuit logic.new) parts) }
+{
+    let mut demands = Log::new(of.alloc);
+    let computed = collect(of, logic, &mut demands)?;
+    let groups = demands.groups(of.alloc)?;
+    let units = add_units(of, logic, &groups)?;
+    let ports = add_memories(of, logic, &groups)?;
+    if !are_all_short(&of.cfg.frame.memories) {
+        return Err(impossible());
+    }
+    Ok(Parts {
+        computed,
+        units,
+        ports,
+    })
+}
+
+/// Logs where control goes, and what registers take but for those of loops and the controller.
+fn write_moves(
+    of: &Context<'_>,
+    logic: &mut Logic,
+    log: &mut Log,
+    parts: &Parts,
+) -> Result<(), AllocError>
+    ensures { (p : Plan) (names : List Register) → IsContext p names of.now → IsBegun p names (circuit logic.old)
+        → AreComputed p names (circuit logic.old) parts.now.computed → HasAnswers p names (circuit logic.old) parts.now.units
+        → OnOk result (Logs p names (circuit logic.old) (circuit logic.new) log.old.pushes.items log.new.pushes.items (moves_of p)) }
+{
+    let sources = Sources {
+        computed: &parts.computed,
+        units: &parts.units,
+    };
+    write_exits(of, logic, log)?;
+    write_beginnings(of, logic, log)?;
+    write_places(of, logic, log, &sources)?;
+    write_ends(of, logic, log, &sources)
+}
+
+/// Logs what all registers take.
+fn write_all(
+    of: &Context<'_>,
+    logic: &mut Logic,
+    log: &mut Log,
+    parts: &Parts,
+) -> Result<(), AllocError>
+    ensures { (p : Plan) (names : List Register) → log.old.pushes.items ≡ [] → IsContext p names of.now → IsBegun p names (circuit logic.old)
+        → names_of of.now.bank ≡ map named (all_roles p of.now.bank.gates of.now.bank.stages)
+        → AreComputed p names (circuit logic.old) parts.now.computed → HasAnswers p names (circuit logic.old) parts.now.units
+        → OnOk result (Logs p names (circuit logic.old) (circuit logic.new) [] log.new.pushes.items (all_entries p of.now.bank.gates of.now.bank.stages)) }
+{
+    write_moves(of, logic, log, parts)?;
+    let groups = log.groups(of.alloc)?;
+    write_loops(of, logic, log, &groups)?;
+    write_control(of, logic, log, &groups)?;
+    write_named(of, logic, log)
+}
+
+/// Gives all registers their next values.
+pub fn add_moves(of: &Context<'_>, logic: &mut Logic, parts: &Parts) -> Result<(), AllocError>
+    ensures { (p : Plan) (names : List Register) → IsContext p names of.now → IsBegun p names (circuit logic.old)
+        → names_of of.now.bank ≡ map named (all_roles p of.now.bank.gates of.now.bank.stages) → AreIdle p of.now.bank.roles.keys (circuit logic.old)
+        → AreComputed p names (circuit logic.old) parts.now.computed → HasAnswers p names (circuit logic.old) parts.now.units
+        → OnOk result (HasMoves p names of.now.bank (circuit logic.old) (circuit logic.new)) }
+{
+    let mut log = Log::new(of.alloc);
+    write_all(of, logic, &mut log, parts)?;
+    let groups = log.groups(of.alloc)?;
+    drive_registers(of.alloc, logic, &of.bank, &groups)
+}

@@ -1,0 +1,98 @@
+//! The address of an element: the low bits of its subscripts side by side.
+ghost use Rattle.std.specs.Prelude.{◌≡◌, ◌+◌, ◌*◌, ◌%◌, ◌^◌, ℕ, List, IfOk};
+ghost use Rattle.hls_base.specs.ArrayAddress as address;
+ghost use Rattle.rtl_logic.specs.Making.{circuit};
+ghost use Rattle.datapath.specs.Plans.{Plan, depth};
+ghost use Rattle.datapath.specs.Cycles.{Register, Cycle};
+ghost use Rattle.datapath.specs.Reading as reading;
+ghost use Rattle.circuit_wires.specs.Carrying.{IsBegun, Carries, MakesCarrying};
+ghost use Rattle.circuit_context.specs.Contexts.{IsContext, subscripted, MayCarry, MakesAddress};
+
+use crate::context::{Context, Reading};
+use hls_base::number::ArrayId;
+use hls_base::refusal::impossible;
+use ir_core::body::Operand;
+use plan_sizes::sizes::{dimension_bits, memory_at};
+use rtl_core::design::Atom;
+use rtl_logic::logic::Logic;
+use std::alloc::AllocError;
+
+/// A number with others above it, if there are any.
+fn joined(logic: &mut Logic, high: Option<Atom>, low: Atom) -> Result<Atom, AllocError>
+    ensures { (p : Plan) (names : List Register) (m k : ℕ) (H L : Cycle → ℕ) → IsBegun p names (circuit logic.old)
+        → MayCarry p names (circuit logic.old) m high H → Carries p names (circuit logic.old) k low L
+        → IfOk result (λ a. MakesCarrying p names (circuit logic.old) (circuit logic.new) (m + k) a (λ (c : Cycle). H c * 2 ^ k + L c)) }
+{
+    let Some(high) = high else {
+        return Ok(low);
+    };
+    let bits = logic.width(high).saturating_add(logic.width(low));
+    if bits == 0 || bits > 128 {
+        return Err(impossible());
+    }
+    logic.join(high, low)
+}
+
+impl<'a> Context<'a> {
+    /// The low bits of a subscript of a dimension with this length.
+    fn subscript(
+        &self,
+        logic: &mut Logic,
+        at: Reading,
+        length: u32,
+        subscript: Operand,
+    ) -> Result<Atom, AllocError>
+        ensures { (p : Plan) (names : List Register) → IsContext p names self.now → IsBegun p names (circuit logic.old)
+            → IfOk result (λ a. MakesCarrying p names (circuit logic.old) (circuit logic.new) (address.subscript_bits length) a
+            (λ (c : Cycle). reading.operand p c at.node.0 at.time subscript % 2 ^ address.subscript_bits length)) }
+    {
+        let word = self.operand_of_any_width(logic, at, subscript, 64)?;
+        let bits = logic.width(word);
+        if bits == 0 || bits > 128 {
+            return Err(impossible());
+        }
+        logic.resized(word, dimension_bits(length))
+    }
+
+    /// The subscripts side by side, each with the bits of its dimension.
+    fn side_by_side(
+        &self,
+        logic: &mut Logic,
+        at: Reading,
+        dims: &[u32],
+        subscripts: &[Operand],
+    ) -> Result<Option<Atom>, AllocError>
+        ensures { (p : Plan) (names : List Register) → IsContext p names self.now → IsBegun p names (circuit logic.old)
+            → IfOk result (λ o. MakesAddress p names (circuit logic.old) (circuit logic.new) at.node.0 at.time dims.now subscripts.now o) }
+    {
+        if dims.len() != subscripts.len() {
+            return Err(impossible());
+        }
+        let mut address: Option<Atom> = None;
+        for (k, length) in dims.iter().enumerate() {
+            let low = self.subscript(logic, at, *length, subscripts[k])?;
+            address = Some(joined(logic, address, low)?);
+        }
+        Ok(address)
+    }
+
+    /// The address of an element of an array.
+    pub fn address(
+        &self,
+        logic: &mut Logic,
+        at: Reading,
+        array: ArrayId,
+        subscripts: &[Operand],
+    ) -> Result<Atom, AllocError>
+        ensures { (p : Plan) (names : List Register) → IsContext p names self.now → IsBegun p names (circuit logic.old)
+            → IfOk result (λ a. MakesCarrying p names (circuit logic.old) (circuit logic.new) (depth p array.0) a (subscripted p at.node.0 at.time array.0 subscripts.now)) }
+    {
+        let Some(memory) = memory_at(self.cfg, array) else {
+            return Err(impossible());
+        };
+        match self.side_by_side(logic, at, &memory.dims, subscripts)? {
+            Some(address) => Ok(address),
+            None => Err(impossible()),
+        }
+    }
+}

@@ -1,0 +1,59 @@
+//! A program with times, and what was found for its circuit.
+ghost use Rattle.std.specs.Prelude.{◌≡◌, List, IfOk, Some, slice_get};
+ghost use Rattle.datapath.specs.Plans.{Plan};
+ghost use Rattle.datapath.specs.Cycles.{Register};
+ghost use Rattle.circuit_wires.specs.Carrying.{IsRegister};
+ghost use Rattle.circuit_log.specs.Roles.{named};
+ghost use Rattle.circuit_context.specs.Contexts.{IsContext};
+
+use access_ports::ports::PortNumbers;
+use circuit_log::role::Role;
+use clock_ir::timed::Timed;
+use held_places::places::Places;
+use hls_base::number::NodeId;
+use hls_base::refusal::impossible;
+use ir_core::cfg::{Cfg, Node};
+use live_variables::live::Live;
+use reg_binding::registers::Registers;
+use register_bank::bank::Bank;
+use rtl_core::design::Atom;
+use std::alloc::{AllocError, Global};
+
+/// The program and the registers for its results; the registers of the circuit; the places of results and the ports of accesses; which variables are read, and where which are live.
+#[derive(Drop)]
+pub struct Context<'a> {
+    pub alloc: Global,
+    pub cfg: &'a Cfg<Timed>,
+    pub registers: &'a Registers,
+    pub bank: Bank,
+    pub places: Places,
+    pub ports: PortNumbers,
+    pub read: Vec<bool>,
+    pub live: Live,
+}
+
+/// A node, and the time in its block or iteration.
+#[derive(Clone, Copy, Debug, PartialEq, Eq)]
+pub struct Reading {
+    pub node: NodeId,
+    pub time: u64,
+}
+
+impl<'a> Context<'a> {
+    /// The node with this number.
+    pub fn node(&self, node: NodeId) -> Result<&Node<Timed>, AllocError>
+        ensures { IfOk result (λ n. slice_get self.now.cfg.now.nodes.items node.0 ≡ Some n.now) }
+    {
+        match self.cfg.nodes.get(node.0 as usize) {
+            Some(node) => Ok(node),
+            None => Err(impossible()),
+        }
+    }
+
+    /// The register for this.
+    pub fn register(&self, role: Role) -> Result<Atom, AllocError>
+        ensures { (p : Plan) (names : List Register) → IsContext p names self.now → IfOk result (λ a. IsRegister names a (named role)) }
+    {
+        self.bank.register(role)
+    }
+}

@@ -1,0 +1,4 @@
+pub mod Same
+pub mod Joining
+pub mod Grouping
+pub mod Wanted

@@ -1,0 +1,4 @@
+pub mod Roles
+pub mod Entries
+pub mod Logs
+pub mod Driving

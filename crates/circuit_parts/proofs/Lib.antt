@@ -1,0 +1,5 @@
+pub mod Naming
+pub mod Memories
+pub mod Absent
+pub mod Edges
+pub mod Whole

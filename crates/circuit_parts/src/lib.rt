@@ -1,0 +1,4 @@
+//! What follows from the parts of a circuit for the whole.
+#![tactic(auto)]
+
+pub mod laws;

@@ -1,0 +1,6 @@
+//! What a circuit leaves out.
+#![tactic(auto)]
+
+mod cases;
+mod reads;
+pub mod savings;

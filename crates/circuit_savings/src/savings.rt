@@ -1,0 +1,60 @@
+//! Which variables are read, and the cases of which no two can hold.
+ghost use Rattle.std.specs.Prelude.{◌≡◌, ◌<◌, ℕ, IfOk, length, slice_get, Some};
+ghost use Rattle.live_variables.specs.Liveness.{IsSized};
+ghost use Rattle.live_variables.specs.Sets.{has};
+ghost use Rattle.clock_meaning.specs.Flows.{timed_body};
+ghost use Rattle.circuit_savings.specs.Savings.{is_read, all_differ};
+
+use crate::cases::{are_others, comparison};
+use crate::reads::{note_kept, note_nodes};
+use clock_ir::timed::Timed;
+use hls_base::number::{NodeId, VarId};
+use hls_base::refusal::impossible;
+use ir_core::body::{Body, Operand};
+use ir_core::cfg::Cfg;
+use live_variables::live::Live;
+use live_variables::var_set::VarSet;
+use std::alloc::{AllocError, Global};
+
+/// Which of so many variables the set has.
+fn members(alloc: Global, set: &VarSet, count: usize) -> Result<Vec<bool>, AllocError>
+    ensures { IfOk result (λ read. (v : ℕ) → v < count → slice_get read.items v ≡ Some (has set.now v)) }
+{
+    let Ok(count) = u32::try_from(count) else {
+        return Err(impossible());
+    };
+    let mut read = Vec::new(alloc);
+    for number in 0..count {
+        read.push(set.contains(VarId(number)))?;
+    }
+    Ok(read)
+}
+
+/// Which variables some node reads, or stay for the next run.
+pub fn variables_read(alloc: Global, cfg: &Cfg<Timed>, live: &Live) -> Result<Vec<bool>, AllocError>
+    ensures { IsSized live.now → length cfg.now.frame.variables.items ≡ live.now.variables
+        → IfOk result (λ read. (v : ℕ) → v < length cfg.now.frame.variables.items → slice_get read.items v ≡ Some (is_read cfg.now live.now v)) }
+{
+    let count = cfg.frame.variables.len();
+    let mut set = VarSet::new(alloc, count)?;
+    note_nodes(alloc, live, &mut set, &cfg.nodes)?;
+    note_kept(&mut set, &cfg.frame.kept);
+    members(alloc, &set, count)
+}
+
+/// Whether at most one of the cases holds: they compare one value with different constants.
+pub fn are_exclusive(
+    alloc: Global,
+    body: &Body<Timed>,
+    cases: &[(Operand, NodeId)],
+) -> Result<bool, AllocError>
+    ensures { (interval : ℕ) → IfOk result (λ r. r ≡ all_differ (timed_body interval body.now) cases.now) }
+{
+    let Some((first, rest)) = cases.split_first() else {
+        return Ok(true);
+    };
+    let Some((operand, number)) = comparison(body, first.0) else {
+        return Ok(false);
+    };
+    are_others(alloc, body, operand, number, rest)
+}

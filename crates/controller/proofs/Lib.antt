@@ -1,0 +1,6 @@
+pub mod Gathered
+pub mod Wanted
+pub mod Telling
+pub mod Numbered
+pub mod Within
+pub mod Pieces

@@ -1,0 +1,21 @@
+use Rattle.std.proofs.Common.{ap, sym, ◌∙◌}
+use Rattle.std.proofs.lemmas.Result.{on_ok_weaker}
+use Rattle.hls_base.specs.declared.number.NodeId.{NodeId}
+use Rattle.rtl_logic.specs.Making.{circuit}
+use Rattle.circuit_log.proofs.Joining.{logs_none}
+use Rattle.controller.specs.Gathered.{test_entries}
+use Rattle.controller.proofs.Pieces.{logs_as, test_there, no_test}
+use Rattle.controller.proofs.exits.write_exit.Goals as goal
+
+pub returns-in_ok-node : goal.returns-in_ok-node
+returns-in_ok-node c = λ p names n context begun stands.
+    let is = sym (c.in_ok-looped.ensures p names n context stands) ∙ c.if-looped.true in
+    on_ok_weaker c.write_test.result
+    (λ h. logs_as p names (circuit c.args.logic.now) (circuit c.write_test.new.logic) c.args.log.now.pushes.items c.write_test.new.log.pushes.items _ _
+    (ap (λ (m : NodeId). test_entries p m.0) c.in_ok-node.ensures ∙ test_there p c.args.number n is) h) (c.write_test.ensures p names context begun)
+
+pub returns-else-looped : goal.returns-else-looped
+returns-else-looped c = λ p names n context begun stands.
+    let d = circuit c.args.logic.now in
+    let is = sym (c.in_ok-looped.ensures p names n context stands) ∙ c.if-looped.false in
+    logs_as p names d d c.args.log.now.pushes.items c.args.log.now.pushes.items _ _ (no_test p c.args.number n is) (logs_none p names d c.args.log.now.pushes.items begun)

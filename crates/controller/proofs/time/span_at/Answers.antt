@@ -1,0 +1,5 @@
+use Rattle.controller.proofs.Pieces.{node_span}
+use Rattle.controller.proofs.time.span_at.Goals as goal
+
+pub returns : goal.returns
+returns c = λ p names n context stands. node_span p c.args.number c.span.result c.in_ok-node.node.now n stands (c.in_ok-node.ensures p names n context stands) c.span.ensures.value

@@ -1,0 +1,4 @@
+//! Which register holds which place of a chain of results.
+#![tactic(auto)]
+
+pub mod places;

@@ -1,0 +1,5 @@
+//! What the host reads.
+#![tactic(auto)]
+
+pub mod host;
+mod levels;

@@ -1,0 +1,13 @@
+pub mod Lists
+pub mod Wanted
+pub mod Parts
+pub mod Given
+pub mod Registers
+pub mod Members
+pub mod Roles
+pub mod Logged
+pub mod Unnamed
+pub mod Taking
+pub mod Units
+pub mod Words
+pub mod MayTake

@@ -1,0 +1,4 @@
+pub mod Roles
+pub mod Wanted
+pub mod Parts
+pub mod Laws

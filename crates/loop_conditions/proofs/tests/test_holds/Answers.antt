@@ -1,0 +1,22 @@
+use Rattle.std.proofs.Common.{ap}
+use Rattle.std.proofs.lemmas.Result.{IfOk-weaker}
+use Rattle.rtl_logic.specs.Making.{circuit}
+use Rattle.datapath.specs.Cycles.{Cycle, bit}
+use Rattle.datapath.specs.Reading as reading
+use Rattle.datapath.specs.Control as control
+use Rattle.circuit_context.proofs.Telling.{same_carries}
+use Rattle.loop_conditions.proofs.Gates.{test_there, known_there, holds_at}
+use Rattle.loop_conditions.proofs.tests.test_holds.Goals as goal
+
+pub returns : goal.returns
+returns c = λ p names h begun.
+    let d = circuit c.args.logic.now in
+    let i = c.args.node.0 in
+    let t = c.in_ok-time.time in
+    let n = c.in_ok-itself.itself.now in
+    let b = c.body_of.result.now in
+    let time = known_there p names c.args.of.now i t n h c.in_ok-itself.ensures c.in_ok-time.ensures in
+    let test = test_there p names c.args.of.now i n b h c.in_ok-itself.ensures c.body_of.ensures in
+    IfOk-weaker c.is_true.result _ _
+    (λ a tells. same_carries p names d 1 a (λ (x : Cycle). bit (reading.is_true p x i t b.test)) (λ (x : Cycle). bit (control.test_holds p x i)) (λ x. ap bit (holds_at p x i t b.test time test)) tells)
+    (c.is_true.ensures p names h begun)

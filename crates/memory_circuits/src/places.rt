@@ -1,0 +1,71 @@
+//! The ports of arrays.
+ghost use Rattle.std.specs.Prelude.{◌≡◌, ℕ, List, IfOk, Some, slice_get};
+ghost use Rattle.datapath.specs.Plans.{Plan, array_of};
+ghost use Rattle.datapath.specs.Cycles.{Register};
+ghost use Rattle.datapath.specs.Ports.{port_count};
+ghost use Rattle.circuit_context.specs.Contexts.{IsContext};
+ghost use Rattle.memory_circuits.specs.Places.{IsPlace};
+
+use crate::checks::are_short;
+use circuit_context::context::Context;
+use hls_base::number::ArrayId;
+use hls_base::refusal::impossible;
+use ir_core::cfg::Memory;
+use plan_sizes::sizes::depth_log;
+use rtl_core::design::Atom;
+use std::alloc::AllocError;
+
+/// A port of an array, with the bits of the array's words and of its addresses.
+#[derive(Clone, Copy, Debug)]
+pub struct Place {
+    pub array: ArrayId,
+    pub port: u32,
+    pub bits: u8,
+    pub depth: u8,
+}
+
+/// The host's access to a memory, or that of the first contents: the address and value where no operation is at the port, and when the value is written.
+#[derive(Clone, Copy, Debug)]
+pub struct Outside {
+    pub addr: Atom,
+    pub value: Atom,
+    pub enable: Atom,
+}
+
+/// The number of an array.
+pub fn number_of(place: usize) -> Result<ArrayId, AllocError>
+    ensures { IfOk result (λ a. a.0 ≡ place) }
+{
+    match u32::try_from(place) {
+        Ok(number) => Ok(ArrayId(number)),
+        Err(_) => Err(impossible()),
+    }
+}
+
+/// The first port of an array.
+pub fn place_of(memory: &Memory, array: ArrayId) -> Result<Place, AllocError>
+    ensures place { (p : Plan) → slice_get p.arrays array.0 ≡ Some (array_of memory.now) → IfOk result (IsPlace p) }
+    ensures array { IfOk result (λ place. place.array ≡ array) }
+{
+    let bits = memory.bits;
+    let depth = depth_log(memory);
+    if bits == 0 || bits > 64 || depth == 0 || depth > 16 || !are_short(&memory.dims) {
+        return Err(impossible());
+    }
+    Ok(Place {
+        array,
+        port: 0,
+        bits,
+        depth,
+    })
+}
+
+/// How many ports an array has.
+pub fn ports_of(of: &Context<'_>, array: ArrayId) -> Result<u32, AllocError>
+    ensures { (p : Plan) (names : List Register) → IsContext p names of.now → IfOk result (λ n. n ≡ port_count p array.0) }
+{
+    match of.ports.counts.get(array.0 as usize) {
+        Some(count) => Ok(*count),
+        None => Err(impossible()),
+    }
+}

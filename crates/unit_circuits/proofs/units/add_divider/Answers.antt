@@ -1,0 +1,16 @@
+use Rattle.std.proofs.Common.{List}
+use Rattle.rtl_core.specs.declared.design.Atom.{Atom}
+use Rattle.rtl_core.specs.Netlist.{Netlist}
+use Rattle.rtl_logic.specs.Making.{circuit}
+use Rattle.circuit_log.specs.declared.role.UnitKind.TheVariants as kinds
+use Rattle.unit_circuits.proofs.Added.{divider_adds, first_pin, second_pin}
+use Rattle.unit_circuits.proofs.Equal.{unit_of_kind}
+use Rattle.unit_circuits.proofs.units.add_divider.Goals as goal
+
+pub returns-clause-adds : goal.returns-clause-adds
+returns-clause-adds c = λ p names begun kind between inputs starting agree.
+    let d : Netlist = circuit c.args.logic.now in
+    let e : Netlist = circuit (record { builder = c.add.new.self; made = c.args.logic.now.made }) in
+    let items : List Atom = c.in_ok-pins.pins.atoms.items in
+    divider_adds p names d e c.args.unit c.args.given c.args.start c.index.result.now c.index-2.result.now begun (unit_of_kind c.args.unit kinds.Divider kind) between inputs starting agree c.in_ok-pins.ensures.grows
+    (first_pin items c.index.result.now _ _ c.index.ensures c.in_ok-pins.ensures.shows) (second_pin items c.index-2.result.now _ _ c.index-2.ensures c.in_ok-pins.ensures.shows)

@@ -1,0 +1,5 @@
+//! The multipliers and dividers of a circuit.
+#![tactic(auto)]
+
+pub mod units;
+pub mod uses;

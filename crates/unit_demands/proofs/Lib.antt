@@ -1,0 +1,5 @@
+pub mod Pushing
+pub mod Reading
+pub mod Owning
+pub mod Making
+pub mod Collecting

@@ -1,0 +1,14 @@
+use Rattle.std.proofs.lemmas.Result.{IfOk-weaker}
+use Rattle.rtl_logic.specs.Making.{circuit}
+use Rattle.unit_demands.proofs.Pushing.{address_logged}
+use Rattle.unit_demands.proofs.accesses.give_address.Goals as goal
+
+pub returns : goal.returns
+returns c = λ p names context begun port.
+    let starts = c.in_ok-when.ensures p names context begun in
+    let made = c.in_ok-address.ensures p names context starts.begun in
+    IfOk-weaker c.push.result _ _
+    (λ u is.
+    address_logged p names (circuit c.args.logic.now) (circuit c.at.new.logic) (circuit c.address.new.logic) c.args.log.now.pushes.items c.push.new.self.pushes.items c.args.it.now c.args.port
+    c.in_ok-subscripts.subscripts.now c.in_ok-when.when c.in_ok-address.address port starts made (λ f. c.in_ok-subscripts.ensures f) is)
+    c.push.ensures

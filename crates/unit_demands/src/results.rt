@@ -1,0 +1,49 @@
+//! The wires of results.
+ghost use Rattle.std.specs.Prelude.{◌≡◌, List, IfOk, Some};
+ghost use Rattle.ir_operation.specs.Timing as timing;
+ghost use Rattle.rtl_logic.specs.Making.{circuit, Appends};
+ghost use Rattle.datapath.specs.Plans.{Plan};
+ghost use Rattle.datapath.specs.Cycles.{Register, Cycle};
+ghost use Rattle.datapath.specs.Values.{computed};
+ghost use Rattle.circuit_wires.specs.Carrying.{IsBegun, MakesCarrying};
+ghost use Rattle.circuit_context.specs.Contexts.{IsContext};
+ghost use Rattle.unit_demands.specs.Placing.{placed_as, IsStarted, HasWire};
+ghost use Rattle.unit_demands.specs.Collected.{IsWireOf};
+
+use crate::arguments::arguments;
+use crate::started::Started;
+use circuit_context::context::Context;
+use hls_base::refusal::impossible;
+use ir_core::body::OpKind;
+use operation_wires::operations::value_of;
+use rtl_core::design::Atom;
+use rtl_logic::logic::Logic;
+use std::alloc::AllocError;
+
+/// The wire of the result of an operation that has neither a shared unit nor a port.
+fn result_of(of: &Context<'_>, logic: &mut Logic, it: &Started<'_>) -> Result<Atom, AllocError>
+    ensures { (p : Plan) (names : List Register) → IsContext p names of.now → IsBegun p names (circuit logic.old) → IsStarted p it.now → HasWire it.now.op.now.kind
+        → IfOk result (λ a. MakesCarrying p names (circuit logic.old) (circuit logic.new) (timing.result_bits it.now.op.now.kind it.now.op.now.bits) a (λ (c : Cycle). computed p c (placed_as it.now))) }
+{
+    let bits = it.op.bits;
+    if bits < 1 || bits > 64 {
+        return Err(impossible());
+    }
+    let arguments = arguments(of, logic, it)?;
+    value_of(logic, it.op, arguments)
+}
+
+/// The wire of an operation's result, if it has one.
+pub fn wire_of(
+    of: &Context<'_>,
+    logic: &mut Logic,
+    it: &Started<'_>,
+) -> Result<Option<Atom>, AllocError>
+    ensures { (p : Plan) (names : List Register) → IsContext p names of.now → IsBegun p names (circuit logic.old) → IsStarted p it.now
+        → IfOk result (λ wire. Appends (circuit logic.old) (circuit logic.new) × IsBegun p names (circuit logic.new) × IsWireOf p names (circuit logic.new) it.now wire) }
+{
+    match it.op.kind {
+        OpKind::Mul | OpKind::Div | OpKind::Rem | OpKind::Load | OpKind::Store => Ok(None),
+        _ => Ok(Some(result_of(of, logic, it)?)),
+    }
+}

@@ -1,0 +1,7 @@
+pub mod Standing
+pub mod Pushing
+pub mod Listing
+pub mod Beginning
+pub mod Choosing
+pub mod Arriving
+pub mod Placing

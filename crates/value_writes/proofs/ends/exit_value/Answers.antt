@@ -1,0 +1,13 @@
+use Rattle.std.proofs.Common.{subst, IfOk}
+use Rattle.std.proofs.lemmas.Result.{IfOk-weaker}
+use Rattle.ir_core.specs.declared.body.Operand.{Operand}
+use Rattle.rtl_logic.specs.Making.{circuit}
+use Rattle.datapath.specs.Cycles.{Cycle}
+use Rattle.datapath.specs.Reading as reading
+use Rattle.circuit_log.specs.Logs.{CarriesSome}
+use Rattle.value_writes.proofs.ends.exit_value.Goals as goal
+
+pub returns : goal.returns
+returns c = λ p names h begun.
+    subst (λ (x : Operand). IfOk c.operand.result (λ a. CarriesSome p names (circuit c.args.logic.now) a (λ (y : Cycle). reading.operand p y c.args.exit.node.0 c.args.exit.time x))) c.in_ok-later.ensures
+    (IfOk-weaker c.operand.result _ _ (λ a carries. record { bits = c.in_ok-bits.bits; carries = carries }) (c.operand.ensures p names h begun))

@@ -1,0 +1,17 @@
+use Rattle.std.proofs.Common.{List, take}
+use Rattle.std.specs.List.{flat_map, enumerate_from}
+use Rattle.rtl_logic.specs.Making.{circuit}
+use Rattle.datapath.specs.Plans.{Plan}
+use Rattle.datapath.specs.Cycles.{Register}
+use Rattle.circuit_wires.specs.Carrying.{IsBegun}
+use Rattle.circuit_log.specs.Entries.{end_entries}
+use Rattle.circuit_log.specs.Logs.{Logs}
+use Rattle.circuit_context.specs.Contexts.{IsContext}
+use Rattle.unit_circuits.specs.Units.{HasAnswers}
+use Rattle.unit_demands.specs.Computed.{AreComputed}
+use Rattle.value_writes.proofs.ends.write_ends.Given as goal
+
+abbrev pub invariant-loop-number : goal.invariant-loop-number
+invariant-loop-number l = (p : Plan) (names : List Register) → IsContext p names l.of → IsBegun p names (circuit l.initial.logic)
+    → AreComputed p names (circuit l.initial.logic) l.sources.computed.now → HasAnswers p names (circuit l.initial.logic) l.sources.units.now
+    → Logs p names (circuit l.initial.logic) (circuit l.logic) l.initial.log.pushes.items l.log.pushes.items (flat_map (end_entries p) (enumerate_from 0 (take l.number p.program.nodes)))

@@ -1,0 +1,20 @@
+use Rattle.std.proofs.Common.{refl, sym, ap}
+use Rattle.std.proofs.lemmas.Result.{on_ok_weaker}
+use Rattle.rtl_logic.specs.Making.{circuit}
+use Rattle.datapath.specs.Cycles.{Cycle}
+use Rattle.datapath.specs.Control.{leaves_as}
+use Rattle.circuit_log.specs.Entries.{last_operand, result_entries}
+use Rattle.value_writes.proofs.Listing.{logs_as}
+use Rattle.value_writes.proofs.Standing.{read_at}
+use Rattle.value_writes.proofs.ways.write_result.Goals as goal
+
+pub returns : goal.returns
+returns c = λ p names n h begun leaving.
+    let i = c.args.leaving.node.0 in
+    let d = circuit c.args.logic.now in
+    let bits = c.args.of.now.cfg.now.frame.ret in
+    let v = c.in-Some.value in
+    let carries = read_at p names d bits c.in_ok-value.value c.in_ok-at.at c.args.leaving.node v (λ (x : Cycle). last_operand p i x v) c.in_ok-at.ensures.node (c.in_ok-at.ensures.time p names h) (λ x. refl)
+    (c.in_ok-value.ensures p names h begun) in
+    on_ok_weaker c.take.result (logs_as p names d d _ _ _ _ (ap (result_entries p (i, n)) (sym c.in-Some.is)))
+    (c.take.ensures p names (λ (x : Cycle). leaves_as p x i n) (λ (x : Cycle). last_operand p i x v) h begun leaving (record { bits = bits; carries = carries }))

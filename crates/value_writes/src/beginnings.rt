@@ -1,0 +1,118 @@
+//! The first values of variables.
+ghost use Rattle.std.specs.Prelude.{◌≡◌, ◌<◌, ◌+◌, List, map, IfOk, OnOk, [], ◌∷◌, Some};
+ghost use Rattle.std.specs.List.{enumerate_from};
+ghost use Rattle.rtl_core.specs.Netlist.{Netlist};
+ghost use Rattle.rtl_logic.specs.Making.{circuit};
+ghost use Rattle.datapath.specs.Plans.{Plan};
+ghost use Rattle.datapath.specs.Cycles.{Register};
+ghost use Rattle.datapath.specs.Control.{is_taken};
+ghost use Rattle.circuit_wires.specs.Carrying.{IsBegun, Tells, MakesTelling};
+ghost use Rattle.circuit_log.specs.Logs.{CarriesSome, Logs};
+ghost use Rattle.circuit_log.specs.Entries.{all_beginnings, parameter_entry, kept_entry};
+ghost use Rattle.circuit_context.specs.Contexts.{IsContext};
+
+use crate::pushes::{enter, take};
+use circuit_context::context::Context;
+use circuit_log::log::Log;
+use circuit_log::role::Role;
+use hls_base::number::{Kept, VarId};
+use hls_base::refusal::impossible;
+use plan_sizes::pins::{FIRST_ARGUMENT, START};
+use rtl_core::design::Atom;
+use rtl_logic::logic::Logic;
+use rtl_logic::select::{Choice, constant};
+use std::alloc::AllocError;
+
+/// The bit of a start that is taken.
+fn taken(of: &Context<'_>, logic: &mut Logic) -> Result<Atom, AllocError>
+    ensures { (p : Plan) (names : List Register) → IsContext p names of.now → IsBegun p names (circuit logic.old)
+        → IfOk result (λ a. MakesTelling p names (circuit logic.old) (circuit logic.new) a is_taken) }
+{
+    let ready = of.bank.register(Role::Ready)?;
+    logic.and(ready, START)
+}
+
+/// The input with this number among the arguments.
+fn argument(number: usize) -> Result<Atom, AllocError>
+    ensures { IfOk result (λ a. a ≡ Atom.Input (7 + number)) }
+{
+    match FIRST_ARGUMENT.checked_add(number as u64) {
+        Some(input) => Ok(Atom::Input(input)),
+        None => Err(impossible()),
+    }
+}
+
+/// Arguments at the start.
+fn write_arguments(
+    of: &Context<'_>,
+    logic: &Logic,
+    log: &mut Log,
+    taken: Atom,
+    variables: &[VarId],
+) -> Result<(), AllocError>
+    ensures { (p : Plan) (names : List Register) → IsContext p names of.now → IsBegun p names (circuit logic.now) → variables.now ≡ p.parameters → Tells p names (circuit logic.now) taken is_taken
+        → OnOk result (Logs p names (circuit logic.now) (circuit logic.now) log.old.pushes.items log.new.pushes.items (map parameter_entry (enumerate_from 0 p.parameters))) }
+{
+    for number in 0..variables.len() {
+        let value = argument(number)?;
+        let choice = Choice { when: taken, value };
+        take(of, logic, log, Role::Variable(variables[number]), choice)?;
+    }
+    Ok(())
+}
+
+/// A number of so many bits.
+fn number_in_bits(bits: u8, number: u64) -> Result<Atom, AllocError>
+    ensures { (p : Plan) (names : List Register) (d : Netlist) → IfOk result (λ a. CarriesSome p names d a (λ c. number)) }
+{
+    if bits == 0 || bits > 64 {
+        return Err(impossible());
+    }
+    if number as u128 >> bits as u32 != 0 {
+        return Err(impossible());
+    }
+    Ok(constant(bits, number as u128))
+}
+
+/// The first value of a kept variable, in the initial sequence.
+fn write_first(of: &Context<'_>, logic: &Logic, log: &mut Log, kept: Kept) -> Result<(), AllocError>
+    ensures { (p : Plan) (names : List Register) → IsContext p names of.now → IsBegun p names (circuit logic.now)
+        → OnOk result (Logs p names (circuit logic.now) (circuit logic.now) log.old.pushes.items log.new.pushes.items (kept_entry kept ∷ [])) }
+{
+    let when = of.bank.register(Role::Initial)?;
+    let role = Role::Variable(kept.variable);
+    let bits = logic.width(of.bank.register(role)?);
+    let value = number_in_bits(bits, kept.value)?;
+    take(of, logic, log, role, Choice { when, value })
+}
+
+/// The first values of kept variables.
+fn write_kept(
+    of: &Context<'_>,
+    logic: &Logic,
+    log: &mut Log,
+    all: &[Kept],
+) -> Result<(), AllocError>
+    ensures { (p : Plan) (names : List Register) → IsContext p names of.now → IsBegun p names (circuit logic.now)
+        → OnOk result (Logs p names (circuit logic.now) (circuit logic.now) log.old.pushes.items log.new.pushes.items (map kept_entry all.now)) }
+{
+    for kept in all {
+        write_first(of, logic, log, *kept)?;
+    }
+    Ok(())
+}
+
+/// Arguments at the start, and the first values of kept variables in the initial sequence. A start enters the first node.
+pub fn write_beginnings(
+    of: &Context<'_>,
+    logic: &mut Logic,
+    log: &mut Log,
+) -> Result<(), AllocError>
+    ensures { (p : Plan) (names : List Register) → IsContext p names of.now → IsBegun p names (circuit logic.old)
+        → OnOk result (Logs p names (circuit logic.old) (circuit logic.new) log.old.pushes.items log.new.pushes.items (all_beginnings p)) }
+{
+    let taken = taken(of, logic)?;
+    enter(log, of.cfg.first, taken)?;
+    write_arguments(of, logic, log, taken, &of.cfg.frame.params)?;
+    write_kept(of, logic, log, &of.cfg.frame.kept)
+}

@@ -1,0 +1,4 @@
+//! Tables of words as wires.
+#![tactic(auto)]
+
+pub mod tables;
