@@ -10,18 +10,9 @@ import pathlib
 import re
 import sys
 
+from edits import crates
+
 ROOT = pathlib.Path(__file__).resolve().parent.parent
-
-
-def lines():
-    """The crates in order, each with the names of its line."""
-    found = {}
-    for line in (ROOT / "crates.txt").read_text().splitlines():
-        line = line.split("#")[0].strip()
-        if line:
-            name, listed = line.split(":")
-            found[name] = listed.split()
-    return found
 
 
 def named(crate, names):
@@ -39,7 +30,7 @@ def named(crate, names):
 
 
 def main(words):
-    listed = lines()
+    listed = crates()
     names = set(listed) | {name for line in listed.values() for name in line}
     for crate in words or listed:
         uses = named(crate, names)
