@@ -6,7 +6,7 @@ use Rattle.c_elaborate.specs.Programs.{program_elaborated}
 use Rattle.c_expand.specs.Expansion.{expansion}
 use Rattle.ir_lower.specs.Frames.{MemoryView, memory_view}
 use Rattle.rtl_core.proofs.Checks.{All-map_back}
-use Rattle.compile_flow.specs.Resets.{array_memory, AreAddressable}
+use Rattle.compile_steps.specs.Resets.{array_memory, AreAddressable}
 use Rattle.addressed_arrays.proofs.Programs.{checked_addressed}
 use Rattle.addressed_frames.specs.Laws.{ExpandedFramesAreAddressable, CheckedFramesAreAddressed}
 

@@ -10,7 +10,7 @@ use Rattle.c_expand.specs.Expansion.{expansion}
 use Rattle.ir_core.specs.declared.cfg.Frame.{Frame}
 use Rattle.ir_lower.specs.Frames.{frame_view}
 use Rattle.report_rows.specs.Initial.{AreAddressed}
-use Rattle.compile_flow.specs.Resets.{expanded_frame, AreAddressable}
+use Rattle.compile_steps.specs.Resets.{expanded_frame, AreAddressable}
 
 -- Addresses of the memories of a program without faults have fewer than 32 bits.
 abbrev pub ExpandedFramesAreAddressable : Type 0

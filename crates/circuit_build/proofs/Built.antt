@@ -3,6 +3,7 @@ use Rattle.std.proofs.Common.{◌≡◌, ℕ, List, [], ◌∷◌, map, refl, sy
 use Rattle.std.specs.Prelude.{filter, is_none}
 use Rattle.ir_core.specs.declared.cfg.Cfg.{Cfg}
 use Rattle.clock_ir.specs.declared.timed.Timed.{Timed}
+use Rattle.live_variables.specs.declared.live.Live.{Live}
 use Rattle.reg_binding.specs.declared.registers.Registers.{Registers}
 use Rattle.rtl_core.specs.Netlist.{Netlist, Memory}
 use Rattle.rtl_core.specs.Valid.{IsValid}
@@ -22,14 +23,12 @@ bits_sized : (mems : List Memory) → map (λ (m : Memory). m.bits) (map sized m
 bits_sized [] = refl
 bits_sized (m ∷ mems) = ap (λ l. m.bits ∷ l) (bits_sized mems)
 
-pub pruned_is_built : (cfg : Cfg Timed) (registers : Registers) (d e : Netlist) → IsWhole cfg registers d → IsValid d → IsPruned d e → IsBuilt cfg registers e
-pruned_is_built cfg registers d e whole valid pruned =
-    let p : Plan = plan_in cfg registers whole.live in
+pub pruned_is_built : (cfg : Cfg Timed) (live : Live) (registers : Registers) (d e : Netlist) → IsWhole cfg live registers d → IsValid d → IsPruned d e → IsBuilt cfg live registers e
+pruned_is_built cfg live registers d e whole valid pruned =
+    let p : Plan = plan_in cfg registers live in
     let assembled : IsAssembled p (whole_names p whole.bank whole.parts.units) (whole_signals whole.parts.units whole.parts.ports) d =
     parts_are_assembled p whole.bank whole.parts.units whole.parts.ports d whole.whole valid in
     record {
-      live = whole.live;
-      liveness = whole.liveness;
       circuit = λ sound.
           reduced p pruned.keep d e (is_circuit p (whole_names p whole.bank whole.parts.units) (whole_signals whole.parts.units whole.parts.ports) d sound assembled) pruned.reduced_by;
       memories = sym (bits_sized e.mems)
@@ -50,11 +49,9 @@ renamed_is_circuit p d name h = record {
   goes_on = λ s pins x state are holds. let f = h.goes_on s pins x (record { regs = state.regs; mems = state.mems }) are holds in record { after = f.after; step = f.step; holds = f.holds };
 }
 
-pub renamed_is_built : (cfg : Cfg Timed) (registers : Registers) (d : Netlist) (name : List ℕ) → IsBuilt cfg registers d
-    → IsBuilt cfg registers (record { name = name; inputs = d.inputs; outputs = d.outputs; regs = d.regs; mems = d.mems; wires = d.wires })
-renamed_is_built cfg registers d name h = record {
-  live = h.live;
-  liveness = h.liveness;
-  circuit = λ sound. renamed_is_circuit (plan_in cfg registers h.live) d name (h.circuit sound);
+pub renamed_is_built : (cfg : Cfg Timed) (live : Live) (registers : Registers) (d : Netlist) (name : List ℕ) → IsBuilt cfg live registers d
+    → IsBuilt cfg live registers (record { name = name; inputs = d.inputs; outputs = d.outputs; regs = d.regs; mems = d.mems; wires = d.wires })
+renamed_is_built cfg live registers d name h = record {
+  circuit = λ sound. renamed_is_circuit (plan_in cfg registers live) d name (h.circuit sound);
   memories = h.memories;
 }

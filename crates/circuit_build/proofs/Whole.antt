@@ -5,6 +5,7 @@ use Rattle.std.proofs.lemmas.Option.{slice_get-map, none-some, same_Some}
 use Rattle.std.proofs.lemmas.List.{length-map}
 use Rattle.ir_core.specs.declared.cfg.Cfg.{Cfg}
 use Rattle.clock_ir.specs.declared.timed.Timed.{Timed}
+use Rattle.live_variables.specs.declared.live.Live.{Live}
 use Rattle.reg_binding.specs.declared.registers.Registers.{Registers}
 use Rattle.rtl_core.specs.Netlist.{Netlist}
 use Rattle.rtl_core.specs.Interface.{output_pins}
@@ -78,9 +79,9 @@ name_at roles k q at = slice_get-map named roles k ∙ ap (option_map named) at
 -- ---- from part to part
 
 -- the registers of the bank are there, and nothing else
-pub can_compute : (cfg : Cfg Timed) (registers : Registers) (of : Context) (name : List ℕ) (d e : Netlist) → HasContext of cfg registers d e → d ≡ begun_with name (interface_of cfg.frame)
+pub can_compute : (cfg : Cfg Timed) (live : Live) (registers : Registers) (of : Context) (name : List ℕ) (d e : Netlist) → HasContext of cfg live registers d e → d ≡ begun_with name (interface_of cfg.frame)
     → CanCompute (plan_in cfg registers of.live) of e
-can_compute cfg registers of name d e h is =
+can_compute cfg live registers of name d e h is =
     let begun : IsBegun (plan_in cfg registers of.live) [] d = subst (IsBegun (plan_in cfg registers of.live) []) (sym is) (begun_is cfg registers of.live name) in
     let allotted = h.allotted begun in
     record {
@@ -92,9 +93,9 @@ can_compute cfg registers of name d e h is =
     }
 
 -- and keep what they have, but for those of words, when all that computes is there
-pub still_idle : (cfg : Cfg Timed) (registers : Registers) (of : Context) (name : List ℕ) (d e f : Netlist) (parts : Parts) → HasContext of cfg registers d e → d ≡ begun_with name (interface_of cfg.frame)
+pub still_idle : (cfg : Cfg Timed) (live : Live) (registers : Registers) (of : Context) (name : List ℕ) (d e f : Netlist) (parts : Parts) → HasContext of cfg live registers d e → d ≡ begun_with name (interface_of cfg.frame)
     → HasParts (plan_in cfg registers of.live) of.bank e f parts → AreIdle (plan_in cfg registers of.live) of.bank.roles.keys f
-still_idle cfg registers of name d e f parts h is has =
+still_idle cfg live registers of name d e f parts h is has =
     let p : Plan = plan_in cfg registers of.live in
     let roles : List Role = of.bank.roles.keys in
     let begun : IsBegun p [] d = subst (IsBegun p []) (sym is) (begun_is cfg registers of.live name) in
@@ -103,11 +104,11 @@ still_idle cfg registers of name d e f parts h is has =
 
 -- ---- all together
 
-pub whole_is : (cfg : Cfg Timed) (registers : Registers) (of : Context) (name : List ℕ) (d d1 d2 d3 e : Netlist) (parts : Parts) → HasContext of cfg registers d d1 → d ≡ begun_with name (interface_of cfg.frame)
+pub whole_is : (cfg : Cfg Timed) (live : Live) (registers : Registers) (of : Context) (name : List ℕ) (d d1 d2 d3 e : Netlist) (parts : Parts) → HasContext of cfg live registers d d1 → d ≡ begun_with name (interface_of cfg.frame)
     → HasParts (plan_in cfg registers of.live) of.bank d1 d2 parts → HasMoves (plan_in cfg registers of.live) (whole_names (plan_in cfg registers of.live) of.bank parts.units) of.bank d2 d3
     → HasOutputs (plan_in cfg registers of.live) (whole_names (plan_in cfg registers of.live) of.bank parts.units) cfg.frame d3 e
     → AreParts (plan_in cfg registers of.live) of.bank parts.units parts.ports e
-whole_is cfg registers of name d d1 d2 d3 e parts h is has moves outs =
+whole_is cfg live registers of name d d1 d2 d3 e parts h is has moves outs =
     let p : Plan = plan_in cfg registers of.live in
     let bank : Bank = of.bank in
     let roles : List Role = bank.roles.keys in

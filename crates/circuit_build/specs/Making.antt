@@ -5,7 +5,6 @@ use Rattle.ir_core.specs.declared.cfg.Cfg.{Cfg}
 use Rattle.ir_core.specs.declared.cfg.Frame.{Frame}
 use Rattle.clock_ir.specs.declared.timed.Timed.{Timed}
 use Rattle.live_variables.specs.declared.live.Live.{Live}
-use Rattle.live_variables.specs.Liveness.{IsLiveness, flow_of}
 use Rattle.reg_binding.specs.declared.registers.Registers.{Registers}
 use Rattle.array_address.specs.AddressWords.{AreShort}
 use Rattle.rtl_core.specs.Netlist.{Netlist, Memory}
@@ -21,7 +20,7 @@ use Rattle.circuit_log.specs.Roles.{named}
 use Rattle.circuit_log.specs.Entries.{Entry, all_entries, all_roles}
 use Rattle.circuit_log.specs.Logs.{IsThere}
 use Rattle.circuit_log.specs.Driving.{Seen, IsDriven, AreDriven, AreDistinct, ShowsSignal, IsMemory, ShowsOutputs}
-use Rattle.circuit_savings.specs.Savings.{savings_of}
+use Rattle.datapath.specs.LeftOut.{savings_of}
 use Rattle.register_bank.specs.declared.bank.Bank.{Bank}
 use Rattle.register_bank.specs.Banks.{names_of, IsAllotted}
 use Rattle.circuit_context.specs.declared.context.Context.{Context}
@@ -48,10 +47,10 @@ plan_in cfg registers live = plan_of cfg registers (savings_of cfg live)
 -- ---- what is known of the program
 
 -- the registers of the bank are appended, and what is found for the program is right
-pub record HasContext (of : Context) (cfg : Cfg Timed) (registers : Registers) (d e : Netlist) : Type 0 where
+pub record HasContext (of : Context) (cfg : Cfg Timed) (live : Live) (registers : Registers) (d e : Netlist) : Type 0 where
   pub cfg_ : of.cfg.now ≡ cfg
+  pub live_ : of.live ≡ live
   pub registers_ : of.registers.now ≡ registers
-  pub liveness : IsLiveness (flow_of cfg) of.live
   pub allotted : IsBegun (plan_in cfg registers of.live) [] d → IsAllotted (plan_in cfg registers of.live) d e of.bank
   pub context : IsBegun (plan_in cfg registers of.live) [] d → IsContext (plan_in cfg registers of.live) (names_of of.bank) of
 
@@ -104,17 +103,13 @@ pub record HasOutputs (p : Plan) (names : List Register) (frame : Frame) (d e : 
 
 -- ---- the whole
 
--- a netlist of which all parts are there, for what is live in the program
-pub record IsWhole (cfg : Cfg Timed) (registers : Registers) (d : Netlist) : Type 0 where
-  pub live : Live
-  pub liveness : IsLiveness (flow_of cfg) live
+-- a netlist of which all parts are there, where these variables are live
+pub record IsWhole (cfg : Cfg Timed) (live : Live) (registers : Registers) (d : Netlist) : Type 0 where
   pub bank : Bank
   pub parts : Parts
   pub whole : AreParts (plan_in cfg registers live) bank parts.units parts.ports d
 
 -- The netlist is the circuit of the program's plan, where hosts come first and stores name arrays, and has its memories.
-pub record IsBuilt (cfg : Cfg Timed) (registers : Registers) (d : Netlist) : Type 0 where
-  pub live : Live
-  pub liveness : IsLiveness (flow_of cfg) live
+pub record IsBuilt (cfg : Cfg Timed) (live : Live) (registers : Registers) (d : Netlist) : Type 0 where
   pub circuit : HasSoundArrays (plan_in cfg registers live) → IsCircuitOf (plan_in cfg registers live) d
   pub memories : map (λ (m : Memory). m.bits) d.mems ≡ map (λ (a : Array). a.bits) (filter (λ (a : Array). is_none a.table) (plan_in cfg registers live).arrays)

@@ -2,6 +2,7 @@ ghost use Rattle.std.specs.Prelude.{◌≡◌, List, IfOk, OnOk, map};
 ghost use Rattle.rtl_core.specs.Interface.{input_pins, output_pins, outer};
 ghost use Rattle.rtl_core.specs.Netlist.{netlist_of};
 ghost use Rattle.rtl_core.specs.Valid.{IsValid};
+ghost use Rattle.live_variables.specs.Liveness.{IsLiveness, flow_of};
 ghost use Rattle.host_pins.specs.FramePins.{interface_of, module_name};
 ghost use Rattle.rtl_logic.specs.Making.{circuit};
 ghost use Rattle.datapath.specs.Plans.{Plan};
@@ -16,10 +17,10 @@ use circuit_context::context::Context;
 use circuit_log::role::Role;
 use clock_ir::timed::Timed;
 use hls_base::refusal::impossible;
-use hls_base::settings::Units;
 use host_pins::pins::{Shown, inputs_of, name_of_module};
 use host_reading::host::element;
 use ir_core::cfg::Cfg;
+use live_variables::live::Live;
 use reg_binding::registers::Registers;
 use rtl_core::design::Design;
 use rtl_logic::logic::Logic;
@@ -56,11 +57,17 @@ fn begun(alloc: Global, cfg: &Cfg<Timed>) -> Result<Logic, AllocError>
 }
 
 /// The whole circuit.
-fn wired(alloc: Global, cfg: &Cfg<Timed>, registers: &Registers) -> Result<Design, AllocError>
-    ensures { IfOk result (λ d. IsWhole cfg.now registers.now (netlist_of d)) }
+fn wired(
+    alloc: Global,
+    cfg: &Cfg<Timed>,
+    registers: &Registers,
+    live: Live,
+) -> Result<Design, AllocError>
+    requires { IsLiveness (flow_of cfg.now) live }
+    ensures { IfOk result (λ d. IsWhole cfg.now live registers.now (netlist_of d)) }
 {
     let mut logic = begun(alloc, cfg)?;
-    let of = context_of(alloc, &mut logic, cfg, registers)?;
+    let of = context_of(alloc, &mut logic, cfg, registers, live)?;
     let parts = add_parts(&of, &mut logic)?;
     add_moves(&of, &mut logic, &parts)?;
     add_outputs(&of, &mut logic)?;
@@ -68,12 +75,18 @@ fn wired(alloc: Global, cfg: &Cfg<Timed>, registers: &Registers) -> Result<Desig
 }
 
 /// The circuit without what nothing depends on.
-fn pruned(alloc: Global, cfg: &Cfg<Timed>, registers: &Registers) -> Result<Design, AllocError>
-    ensures built { IfOk result (λ d. IsBuilt cfg.now registers.now (netlist_of d)) }
+fn pruned(
+    alloc: Global,
+    cfg: &Cfg<Timed>,
+    registers: &Registers,
+    live: Live,
+) -> Result<Design, AllocError>
+    requires { IsLiveness (flow_of cfg.now) live }
+    ensures built { IfOk result (λ d. IsBuilt cfg.now live registers.now (netlist_of d)) }
     ensures inputs { IfOk result (λ d. d.inputs.items ≡ input_pins (interface_of cfg.now.frame)) }
     ensures outputs { IfOk result (λ d. map outer d.outputs.items ≡ output_pins (interface_of cfg.now.frame)) }
 {
-    let mut design = wired(alloc, cfg, registers)?;
+    let mut design = wired(alloc, cfg, registers, live)?;
     if !design.valid() {
         return Err(impossible());
     }
@@ -81,20 +94,21 @@ fn pruned(alloc: Global, cfg: &Cfg<Timed>, registers: &Registers) -> Result<Desi
     Ok(design)
 }
 
-/// The circuit of a timed program behind the host's pins. The unit numbers of its operations are below the numbers of units.
+/// The circuit of a timed program behind the host's pins. `live` has the live variables of the program.
 pub fn build(
     alloc: Global,
     cfg: &Cfg<Timed>,
     registers: &Registers,
-    _units: Units,
+    live: Live,
 ) -> Result<Design, AllocError>
+    requires { IsLiveness (flow_of cfg.now) live }
     ensures name { IfOk result (λ d. d.name ≡ module_name cfg.now.frame.name) }
     ensures inputs { IfOk result (λ d. d.inputs.items ≡ input_pins (interface_of cfg.now.frame)) }
     ensures outputs { IfOk result (λ d. map outer d.outputs.items ≡ output_pins (interface_of cfg.now.frame)) }
     ensures valid { IfOk result (λ d. IsValid (netlist_of d)) }
-    ensures built { IfOk result (λ d. IsBuilt cfg.now registers.now (netlist_of d)) }
+    ensures built { IfOk result (λ d. IsBuilt cfg.now live registers.now (netlist_of d)) }
 {
-    let design = pruned(alloc, cfg, registers)?;
+    let design = pruned(alloc, cfg, registers, live)?;
     let design = Design {
         name: name_of_module(alloc, cfg.frame.name.items())?,
         inputs: design.inputs,

@@ -1,6 +1,7 @@
 //! The parts of a circuit, one after another.
 ghost use Rattle.std.specs.Prelude.{◌≡◌, List, IfOk, OnOk, IsTrue, [], map};
 ghost use Rattle.std.specs.List.{All};
+ghost use Rattle.live_variables.specs.Liveness.{IsLiveness, flow_of};
 ghost use Rattle.array_address.specs.AddressWords.{AreShort};
 ghost use Rattle.rtl_logic.specs.Making.{circuit};
 ghost use Rattle.datapath.specs.Plans.{Plan};
@@ -28,7 +29,7 @@ use held_places::places::places_of;
 use hls_base::refusal::impossible;
 use host_reading::host::write_named;
 use ir_core::cfg::{Cfg, Memory};
-use live_variables::live::live_variables;
+use live_variables::live::Live;
 use memory_circuits::checks::are_short;
 use memory_circuits::memories::{PortTable, add_memories};
 use reg_binding::registers::Registers;
@@ -50,13 +51,14 @@ pub fn context_of<'a>(
     logic: &mut Logic,
     cfg: &'a Cfg<Timed>,
     registers: &'a Registers,
+    live: Live,
 ) -> Result<Context<'a>, AllocError>
-    ensures { IfOk result (λ of. HasContext of cfg.now registers.now (circuit logic.old) (circuit logic.new)) }
+    requires { IsLiveness (flow_of cfg.now) live }
+    ensures { IfOk result (λ of. HasContext of cfg.now live registers.now (circuit logic.old) (circuit logic.new)) }
 {
     numbers_are_small(cfg);
     let ports = ports_of(alloc, cfg)?;
     let bank = allot(alloc, logic, cfg, registers, &ports.counts)?;
-    let live = live_variables(alloc, cfg)?;
     let read = variables_read(alloc, cfg, &live)?;
     let places = places_of(alloc, &registers.held)?;
     Ok(Context {

@@ -17,7 +17,7 @@ use Rattle.datapath.specs.Cycles.{Register, Cycle}
 use Rattle.datapath.specs.Reading.{operand}
 use Rattle.circuit_wires.specs.Carrying.{Carries, IsBegun}
 use Rattle.small_numbers.specs.Small.{HasSmallNumbers}
-use Rattle.circuit_savings.specs.Savings.{savings_of, is_read}
+use Rattle.datapath.specs.LeftOut.{savings_of, is_read}
 use Rattle.register_bank.specs.Banks.{names_of}
 use Rattle.held_places.specs.Tables.{ArePlaces}
 use Rattle.access_ports.specs.Numbers.{ArePorts}

@@ -16,7 +16,7 @@ use Rattle.ir_layout.specs.Layout.{finish}
 use Rattle.ir_lower.specs.Frames.{FrameView, result_width, frame_view}
 use Rattle.clock_ir.specs.declared.timed.Timed.{Timed}
 use Rattle.reg_binding.specs.declared.registers.Registers.{Registers}
-use Rattle.compile_flow.specs.Resets.{expanded_frame}
+use Rattle.compile_steps.specs.Resets.{expanded_frame}
 use Rattle.conversion.specs.Conversion.{converted_sequence}
 use Rattle.expand_runs.specs.Laws.{AreWords}
 use Rattle.flat_runs.specs.Laws.{Choice, IsLaidOut, conversion_of, numbered_of}

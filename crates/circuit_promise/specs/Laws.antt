@@ -19,9 +19,9 @@ use Rattle.rtl_core.specs.Agreement.{Agrees}
 use Rattle.cycle_report.specs.PlainReport.{PlainLoop, PlainReport}
 use Rattle.report_rows.specs.Costs.{AreRowsOf}
 use Rattle.report_rows.specs.Initial.{initial_cycles}
-use Rattle.compile_flow.specs.Flat.{IsFlatOf}
-use Rattle.compile_flow.specs.Resets.{expanded_frame}
-use Rattle.compile_flow.specs.Reports.{IsTimed}
+use Rattle.compile_steps.specs.Flat.{IsFlatOf}
+use Rattle.compile_steps.specs.Resets.{expanded_frame}
+use Rattle.compile_steps.specs.Reports.{IsTimed}
 use Rattle.flat_runs.specs.Laws.{Choice, IsLaidOut}
 use Rattle.clock_meaning.specs.WellTimed.{IsWellTimed}
 use Rattle.begun_programs.specs.Laws.{HasEnds}

@@ -21,7 +21,7 @@ use Rattle.clock_meaning.specs.Flows.{TimedBody, timed_op, timed_body}
 use Rattle.numbering.specs.Equal.{operand_eq}
 use Rattle.numbering.proofs.Equalities.{operand_same}
 use Rattle.live_variables.proofs.Elements.{got_of, map_at, past}
-use Rattle.circuit_savings.specs.Savings.{with_number, arguments_compared, compared_by, compared_if, compared_in, compared, differ_as, differ, all_differ}
+use Rattle.datapath.specs.LeftOut.{with_number, arguments_compared, compared_by, compared_if, compared_in, compared, differ_as, differ, all_differ}
 use Rattle.circuit_savings.specs.Cases.{is_other, number_in, all_others}
 
 abbrev pub Comparison : Type 0

@@ -1,2 +1,1 @@
-pub mod Savings
 pub mod Cases

@@ -2,7 +2,7 @@
 ghost use Rattle.std.specs.Prelude.{◌≡◌, ◌++◌, ◌∷◌, [], ℕ, true, map, IfOk};
 ghost use Rattle.clock_meaning.specs.Flows.{timed_body};
 ghost use Rattle.circuit_savings.specs.Cases as spec;
-ghost use Rattle.circuit_savings.specs.Savings as savings;
+ghost use Rattle.datapath.specs.LeftOut as savings;
 
 use clock_ir::timed::Timed;
 use hls_base::number::NodeId;

@@ -4,7 +4,7 @@ ghost use Rattle.std.specs.List.{list_any, flat_map};
 ghost use Rattle.std.specs.Option.{option_to_list};
 ghost use Rattle.live_variables.specs.Liveness as spec;
 ghost use Rattle.live_variables.specs.Sets.{has, Gains};
-ghost use Rattle.circuit_savings.specs.Savings.{is_read_in};
+ghost use Rattle.datapath.specs.LeftOut.{is_read_in};
 
 use clock_ir::timed::Timed;
 use hls_base::number::{Kept, NodeId};

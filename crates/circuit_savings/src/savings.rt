@@ -3,7 +3,7 @@ ghost use Rattle.std.specs.Prelude.{◌≡◌, ◌<◌, ℕ, IfOk, length, slice
 ghost use Rattle.live_variables.specs.Liveness.{IsSized};
 ghost use Rattle.live_variables.specs.Sets.{has};
 ghost use Rattle.clock_meaning.specs.Flows.{timed_body};
-ghost use Rattle.circuit_savings.specs.Savings.{is_read, all_differ};
+ghost use Rattle.datapath.specs.LeftOut.{is_read, all_differ};
 
 use crate::cases::{are_others, comparison};
 use crate::reads::{note_kept, note_nodes};

@@ -13,7 +13,3 @@ mod reading;
 mod reports;
 #[cfg(test)]
 mod round_trip;
-#[cfg(test)]
-mod sum_cycles;
-#[cfg(test)]
-mod sum_forms;

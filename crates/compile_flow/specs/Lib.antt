@@ -1,4 +1,1 @@
-pub mod Resets
-pub mod Reports
-pub mod Flat
-pub mod Runs
+pub mod Circuits

@@ -1,41 +1,37 @@
-ghost use Rattle.std.specs.Prelude.{◌≡◌, ◌≤◌, ◌↔◌, IsTrue, IfOk, map};
+ghost use Rattle.std.specs.Prelude.{◌≡◌, ◌≤◌, ◌↔◌, IsTrue, IfOk};
 ghost use Rattle.std.specs.List.{All};
 ghost use Rattle.hls_base.specs.Refusals.{IfRefused};
 ghost use Rattle.c_tree.specs.View.{program_of};
 ghost use Rattle.c_elaborate.specs.Programs.{program_elaborated};
 ghost use Rattle.pieces.specs.Program.{expanded_of};
-ghost use Rattle.c_expand.specs.Expansion.{expansion, expanded_weight, IsOverweight};
-ghost use Rattle.ir_lower.specs.Frames.{frame_view, frame_of};
+ghost use Rattle.c_expand.specs.Expansion.{expansion, IsOverweight};
+ghost use Rattle.ir_lower.specs.Frames.{frame_view};
 ghost use Rattle.rtl_core.specs.Netlist.{netlist_of};
-ghost use Rattle.cycle_report.specs.PlainReport.{plain_of, loop_of};
-ghost use Rattle.compile_flow.specs.Flat.{IsFlatOf};
-ghost use Rattle.compile_flow.specs.Runs.{IsWithoutFaults, RunsAsProgram};
-ghost use Rattle.compile_flow.specs.Resets.{expanded_frame, AreAddressable, reset_cycles};
-ghost use Rattle.compile_flow.specs.Reports.{allowed_units, IsTimed, EachNodeCounts, IsReportOf, KeepsSettings};
+ghost use Rattle.cycle_report.specs.PlainReport.{plain_of};
+ghost use Rattle.compile_steps.specs.Flat.{IsFlatOf};
+ghost use Rattle.compile_steps.specs.Resets.{expanded_frame, AreAddressable, reset_cycles};
+ghost use Rattle.compile_steps.specs.Reports.{allowed_units, IsTimed, EachNodeCounts, IsReportOf, KeepsSettings};
+ghost use Rattle.compile_flow.specs.Circuits.{HasCircuit};
 
-use crate::frame::{copy_frame, copy_settings};
+use crate::settings::copy_settings;
 use c_checked::checked::Checked;
-use c_elaborate::elaborate::elaborate;
-use c_expand::expand::expand;
+use circuit_build::build::build;
 use clock_ir::timed::Timed;
+use compile_steps::steps::{Schedule, expanded, flat_program, timed_program};
 use cycle_report::report::{LoopRow, MemoryRow, Report};
-use fsm_datapath::build::build;
 use hls_base::refusal::{Fail, impossible};
 use hls_base::settings::{Settings, Units};
-use if_convert::convert::convert;
 use ir_core::cfg::Cfg;
 use ir_core::stamp::Untimed;
-use ir_layout::layout::lay_out;
-use ir_lower::lower::lower;
+use live_variables::live::live_variables;
 use pieces::expanded::Expanded;
-use program_times::nodes::{TimedNodes, timed_nodes};
 use reg_binding::assign::assign;
 use report_rows::costs::formula_of;
 use report_rows::initial::initial_cycles;
 use report_rows::resources::{Resources, resources_of};
 use rtl_core::design::Design;
+use small_numbers::numbers::numbers_are_small;
 use std::alloc::{AllocError, Global};
-use value_number::number::number;
 
 /// A compiled program: its flat form, without times and with them, its circuit, and its report.
 #[derive(Debug, Drop)]
@@ -44,33 +40,6 @@ pub struct Compiled {
     pub timed: Cfg<Timed>,
     pub design: Design,
     pub report: Report,
-}
-
-/// The program with its calls expanded, which runs as the program does. It is refused where it is too large then.
-pub fn expanded(alloc: Global, checked: &Checked) -> Result<Expanded, Fail>
-    ensures made { IfOk result (λ e. expanded_of e ≡ expansion (program_elaborated (program_of checked.now.program) checked.now.top)) }
-    ensures within { IfOk result (λ e. expanded_weight (program_elaborated (program_of checked.now.program) checked.now.top) ≤ 8192) }
-    ensures refused { IfRefused result (λ r. IsOverweight (program_elaborated (program_of checked.now.program) checked.now.top) r) }
-    ensures runs { IsWithoutFaults (program_of checked.now.program) checked.now.top → IfOk result (λ e. RunsAsProgram (program_of checked.now.program) checked.now.top (expanded_of e)) }
-{
-    let program = elaborate(alloc, checked)?;
-    expand(alloc, &program)
-}
-
-/// The flat blocks of an expanded program. Loops whose iterations may overlap are nodes of their own, unless the settings are plain.
-fn flat_program(
-    alloc: Global,
-    expanded: &Expanded,
-    settings: &Settings,
-) -> Result<Cfg<Untimed>, AllocError>
-    ensures frame { IfOk result (λ cfg. frame_view cfg.frame ≡ frame_of expanded.now) }
-    ensures flat { IfOk result (λ cfg. IsFlatOf (expanded_of expanded.now) settings.now.plain cfg) }
-{
-    let tree = lower(alloc, expanded)?;
-    let tree = number(alloc, tree)?;
-    let tree = convert(alloc, tree, !settings.plain)?;
-    let cfg = lay_out(alloc, tree)?;
-    Ok(cfg)
 }
 
 /// The units that the settings allow.
@@ -84,33 +53,15 @@ fn units_of(settings: &Settings) -> Units
     }
 }
 
-/// A program with times, and what the report says of its overlapped loops.
-#[derive(Debug, Drop)]
-pub struct Schedule {
-    pub timed: Cfg<Timed>,
-    pub loops: Vec<LoopRow>,
-}
-
-/// Gives the operations of each block and loop their times.
-fn timed_program(
-    alloc: Global,
-    untimed: &Cfg<Untimed>,
-    units: Units,
-) -> Result<Schedule, AllocError>
-    ensures { IfOk result (λ made. IsTimed units untimed.now made.timed (map loop_of made.loops.items)) }
+/// The circuit of a program with times.
+fn circuit_of(alloc: Global, timed: &Cfg<Timed>) -> Result<Design, AllocError>
+    ensures { IfOk result (λ d. HasCircuit timed.now (netlist_of d)) }
 {
-    let TimedNodes { nodes, loops } = timed_nodes(
-        alloc,
-        &untimed.nodes,
-        &untimed.frame.memories,
-        units,
-    )?;
-    let timed = Cfg {
-        frame: copy_frame(alloc, &untimed.frame)?,
-        nodes,
-        first: untimed.first,
-    };
-    Ok(Schedule { timed, loops })
+    numbers_are_small(timed);
+    let live = live_variables(alloc, timed)?;
+    let registers = assign(alloc, timed, &live)?;
+    let design = build(alloc, timed, &registers, live)?;
+    Ok(design)
 }
 
 /// What is said of a program with these times, these overlapped loops, and this circuit.
@@ -167,6 +118,7 @@ pub fn compile_expanded(
     settings: &Settings,
 ) -> Result<Compiled, AllocError>
     ensures report { IfOk result (λ c. IsReportOf (plain_of c.report) settings.now c.timed (netlist_of c.design)) }
+    ensures circuit { IfOk result (λ c. HasCircuit c.timed (netlist_of c.design)) }
     ensures timed { IfOk result (λ c. IsTimed (allowed_units settings.now) c.untimed c.timed (plain_of c.report).loops) }
     ensures kept { IfOk result (λ c. KeepsSettings (plain_of c.report) settings.now) }
     ensures longer { IfOk result (λ c. EachNodeCounts c.timed.nodes.items (plain_of c.report)) }
@@ -177,8 +129,7 @@ pub fn compile_expanded(
     let units = units_of(settings);
     let untimed = flat_program(alloc, expanded, settings)?;
     let Schedule { timed, loops } = timed_program(alloc, &untimed, units)?;
-    let registers = assign(alloc, &timed)?;
-    let design = build(alloc, &timed, &registers, units)?;
+    let design = circuit_of(alloc, &timed)?;
     let report = report_of(alloc, &timed, loops, &design, settings)?;
     if !keeps_settings(&report, settings) {
         return Err(impossible());
@@ -194,6 +145,7 @@ pub fn compile_expanded(
 /// Compiles a program without faults. It is refused where it is too large once its calls are expanded.
 pub fn compile(alloc: Global, checked: &Checked, settings: &Settings) -> Result<Compiled, Fail>
     ensures report { IfOk result (λ c. IsReportOf (plain_of c.report) settings.now c.timed (netlist_of c.design)) }
+    ensures circuit { IfOk result (λ c. HasCircuit c.timed (netlist_of c.design)) }
     ensures timed { IfOk result (λ c. IsTimed (allowed_units settings.now) c.untimed c.timed (plain_of c.report).loops) }
     ensures kept { IfOk result (λ c. KeepsSettings (plain_of c.report) settings.now) }
     ensures longer { IfOk result (λ c. EachNodeCounts c.timed.nodes.items (plain_of c.report)) }

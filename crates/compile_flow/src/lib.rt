@@ -2,4 +2,4 @@
 #![tactic(auto)]
 
 pub mod compile;
-mod frame;
+mod settings;

@@ -41,9 +41,9 @@ use Rattle.begun_programs.proofs.Programs.{checked_begins}
 use Rattle.source_runs.specs.Laws.{IsFaultless, expanded}
 use Rattle.source_answers.specs.Laws.{HaveWidths, IsCounted, AnswersAs}
 use Rattle.source_answers.proofs.Whole.{answers}
-use Rattle.compile_flow.specs.Flat.{IsFlatOf}
-use Rattle.compile_flow.specs.Resets.{array_memory, expanded_frame}
-use Rattle.compile_flow.specs.Reports.{IsTimed}
+use Rattle.compile_steps.specs.Flat.{IsFlatOf}
+use Rattle.compile_steps.specs.Resets.{array_memory, expanded_frame}
+use Rattle.compile_steps.specs.Reports.{IsTimed}
 use Rattle.compiled_answers.specs.Laws.{AnswersAlways, CompiledProgramsAnswer}
 
 -- ---- frames

@@ -18,9 +18,9 @@ use Rattle.report_rows.specs.Costs.{AreRowsOf}
 use Rattle.block_meaning.specs.Bodies.{Words}
 use Rattle.clock_meaning.specs.ClockRuns.{timed_program, clock_run}
 use Rattle.clock_runs.specs.Laws.{IsEnded}
-use Rattle.compile_flow.specs.Flat.{IsFlatOf}
-use Rattle.compile_flow.specs.Resets.{expanded_frame}
-use Rattle.compile_flow.specs.Reports.{IsTimed}
+use Rattle.compile_steps.specs.Flat.{IsFlatOf}
+use Rattle.compile_steps.specs.Resets.{expanded_frame}
+use Rattle.compile_steps.specs.Reports.{IsTimed}
 use Rattle.started_words.specs.Contents.{Begins}
 use Rattle.source_runs.specs.Laws.{IsFaultless, expanded}
 use Rattle.source_answers.specs.Laws.{HaveWidths, EndsWith}

@@ -17,7 +17,7 @@ use Rattle.sound_trees.proofs.Fixed.{both_true}
 use Rattle.clock_runs.proofs.Lists.{some_same, no_some}
 use Rattle.clock_meaning.specs.Flows.{TimedOp, TimedBody}
 use Rattle.datapath.specs.Savings.{Compares, AreDifferent, AreExclusive}
-use Rattle.compiled_plans.specs.Savings.{with_number, arguments_compared, compared_by, compared_if, compared_in, compared, differ_as, differ, all_differ, ends_exclusive}
+use Rattle.datapath.specs.LeftOut.{with_number, arguments_compared, compared_by, compared_if, compared_in, compared, differ_as, differ, all_differ, ends_exclusive}
 
 true_false : {A : Type 0} → true ≡ false → A
 true_false e = cc

@@ -18,7 +18,7 @@ use Rattle.clock_meaning.specs.ClockRuns.{TimedNode, timed_node}
 use Rattle.datapath.specs.Plans.{Plan, plan_of}
 use Rattle.datapath.specs.Savings as savings
 use Rattle.datapath.specs.Savings.{NodeReads, LeadsTo, Returns, Passes, StaysForNextRun, Moves, IsLive, IsLiveBehind}
-use Rattle.compiled_plans.specs.Savings.{behind_if, is_read_in, is_read, savings_of}
+use Rattle.datapath.specs.LeftOut.{behind_if, is_read_in, is_read, savings_of}
 use Rattle.compiled_plans.specs.Names.{NamesVariables}
 use Rattle.compiled_plans.proofs.Lists.{or_left, or_right, any_at, among_right, among_flat, among_operand, mapped, at_map}
 use Rattle.compiled_plans.proofs.Reading.{reads_among, leads_at, returns_so, passes_so}

@@ -25,7 +25,7 @@ use Rattle.lowered_conversions.specs.Suiting.{widths_of, words_of}
 use Rattle.clock_meaning.specs.WellTimed.{IsWellTimed}
 use Rattle.compiled_plans.specs.Operations.{NodeNamed, NodeDivides}
 use Rattle.clock_runs.proofs.Lists.{some_same, no_some}
-use Rattle.compiled_plans.specs.Savings.{behind_if, is_exclusive, savings_of}
+use Rattle.datapath.specs.LeftOut.{behind_if, is_exclusive, savings_of}
 use Rattle.pieces.specs.Program.{ExpandedTree}
 use Rattle.reg_binding.specs.declared.registers.Registers.{Registers}
 use Rattle.compiled_plans.specs.Frames.{plan_array, HasFrame}
@@ -83,25 +83,25 @@ result_there variables None (Some w) h v e = absurd h
 result_there variables (Some k) None h v e = absurd h
 
 pub compiled : PlansAreCompiled
-compiled e choice kept point cfg fine subscripts laid units timed rows times small addressed registers assigned frame contents hosts there result puts = record {
+compiled e choice kept point cfg fine subscripts laid units timed rows times small addressed live registers assigned frame contents hosts there result puts = record {
   untimed = cfg;
   timed = timed;
   registers = registers;
-  live = assigned.live;
+  live = live;
   plan = refl;
   sound = programs.sound (frame_of e) choice kept e.pieces point e.result cfg fine subscripts laid;
   memories = same_memories timed cfg times.frame;
   well_timed = well;
   liveness = assigned.liveness;
   assigned = assigned.assigned;
-  behind = λ i v node at. ap (λ (o : Option (Node Timed)). behind_if assigned.live o v) at;
-  safe = savings_safe e timed registers assigned.live assigned.liveness frame there many (names_variables e cfg timed registers (savings_of timed assigned.live) well words frame many named divided);
-  arrays = names_arrays e cfg timed registers (savings_of timed assigned.live) well words frame many named divided;
-  fits = fits_units e cfg timed registers (savings_of timed assigned.live) well words frame many named divided;
-  counts = counts timed registers (savings_of timed assigned.live) small addressed;
-  waits = waits timed registers (savings_of timed assigned.live) small addressed;
-  frame = sound e (plan_of timed registers (savings_of timed assigned.live)) frame contents hosts (subst (λ n. n < 18446744073709551616) few small.few);
-  outs_apart = outs_apart e cfg timed registers (savings_of timed assigned.live) well words frame many named divided;
+  behind = λ i v node at. ap (λ (o : Option (Node Timed)). behind_if live o v) at;
+  safe = savings_safe e timed registers live assigned.liveness frame there many (names_variables e cfg timed registers (savings_of timed live) well words frame many named divided);
+  arrays = names_arrays e cfg timed registers (savings_of timed live) well words frame many named divided;
+  fits = fits_units e cfg timed registers (savings_of timed live) well words frame many named divided;
+  counts = counts timed registers (savings_of timed live) small addressed;
+  waits = waits timed registers (savings_of timed live) small addressed;
+  frame = sound e (plan_of timed registers (savings_of timed live)) frame contents hosts (subst (λ n. n < 18446744073709551616) few small.few);
+  outs_apart = outs_apart e cfg timed registers (savings_of timed live) well words frame many named divided;
 } where
   well : IsWellTimed cfg timed
   well = scheduled_well units cfg timed rows times.frame times.first times.nodes

@@ -21,7 +21,7 @@ use Rattle.reg_binding.specs.Assigned.{IsAssignment}
 use Rattle.datapath.specs.Plans.{Plan, plan_of}
 use Rattle.datapath.specs.Savings.{AreSafe}
 use Rattle.circuit_flow.specs.Compiled.{HasSoundFrame, IsCompiled}
-use Rattle.compiled_plans.specs.Savings.{savings_of}
+use Rattle.datapath.specs.LeftOut.{savings_of}
 use Rattle.compiled_plans.specs.Frames.{HasFrame, HostsComeFirst}
 use Rattle.small_numbers.specs.Small.{HasSmallNumbers}
 use Rattle.compiled_plans.specs.Names.{NamesVariables}
@@ -41,6 +41,6 @@ abbrev pub PlansAreCompiled : Type 0
 PlansAreCompiled = (e : ExpandedTree) (choice : Choice) (kept : Point → Bool) (point : Point) (cfg : Cfg Untimed)
     → IsFine (frame_of e) kept e.pieces point → PiecesSubscriptsFit e.arrays e.pieces → IsLaidOut (frame_of e) choice e.pieces point e.result cfg
     → (units : Units) (timed : Cfg Timed) (rows : List PlainLoop) → HasTimes units cfg timed rows → HasSmallNumbers timed → AreAddressed timed.frame.memories.items
-    → (registers : Registers) (assigned : IsAssignment timed registers)
-    → let p : Plan = plan_of timed registers (savings_of timed assigned.live) in
+    → (live : Live) (registers : Registers) → IsAssignment timed live registers
+    → let p : Plan = plan_of timed registers (savings_of timed live) in
     HasFrame e p → HasFirstContents e → HostsComeFirst e.arrays → KeptAreThere e → ResultIsThere e.variables e.ret e.result → PutNoTables e.arrays e.pieces → IsCompiled p

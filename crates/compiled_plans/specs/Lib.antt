@@ -1,4 +1,3 @@
-pub mod Savings
 pub mod Frames
 pub mod Names
 pub mod Operations

@@ -12,3 +12,4 @@ pub mod Laws
 pub mod Blocks
 pub mod Answers
 pub mod Savings
+pub mod LeftOut

@@ -1,9 +1,10 @@
 -- The run of a made program, put together from what the steps give.
-use Rattle.std.proofs.Common.{◌≡◌, ℕ, true, [], ◌∷◌, Result, Ok, Err, IfOk, Option, Some, None, codes, refl, sym, subst, ◌∙◌}
+use Rattle.std.proofs.Common.{◌≡◌, ℕ, true, [], ◌∷◌, Result, Ok, Err, IfOk, Option, Some, None, codes, refl, sym, ap, subst, ◌∙◌}
 use Rattle.std.specs.Prelude.{is_some, slice_get}
 use Rattle.c_tree.specs.Tree as tree
 use Rattle.c_tree.specs.Tree.{FunctionTree, ProgramTree}
 use Rattle.c_meaning.specs.declared.outcome.Final.{Final}
+use Rattle.c_meaning.specs.Run.{function_at}
 use Rattle.rtl_core.specs.Netlist.{Netlist}
 use Rattle.cycle_report.specs.PlainReport.{PlainReport}
 use Rattle.soak_text.specs.SoakProgram.{program_text, elements, argument, count_products}
@@ -21,6 +22,7 @@ soak_run number program index f report circuit final count muls made item body a
   report = report;
   circuit = circuit;
   scheduled = made.scheduled;
+  promise = made.promise f (ap function_at item);
   final = final;
   agreed = subst (λ n. IsAgreedRun program index f (argument number ∷ []) (elements number ∷ []) report circuit final n) (sym counts.1) agreed;
   result = returned;

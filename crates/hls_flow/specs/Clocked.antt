@@ -15,9 +15,9 @@ use Rattle.clock_lines.specs.Regions.{IsOrderlyProgram}
 use Rattle.clock_machine.specs.Runs.{RunEndsAfter}
 use Rattle.clock_machine.specs.Standing.{IsWholeProgram}
 use Rattle.clock_machine.specs.Starts.{IsNamed}
-use Rattle.compile_flow.specs.Flat.{IsFlatOf}
-use Rattle.compile_flow.specs.Resets.{expanded_frame}
-use Rattle.compile_flow.specs.Reports.{allowed_units, IsTimed}
+use Rattle.compile_steps.specs.Flat.{IsFlatOf}
+use Rattle.compile_steps.specs.Resets.{expanded_frame}
+use Rattle.compile_steps.specs.Reports.{allowed_units, IsTimed}
 
 -- Of a program that names what is there, and whose times are within what a machine counts: its clocked run, from the contents that these inputs give, ends after so many edges.
 abbrev pub TakesEdges : Cfg Timed → Inputs → ℕ → Type 0

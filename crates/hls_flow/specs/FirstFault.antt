@@ -1,15 +1,13 @@
 -- Which sources are compiled, and why another one is refused.
-use Rattle.std.specs.Prelude.{◌≡◌, ◌≤◌, ◌<◌, ℕ, List, [], length}
+use Rattle.std.specs.Prelude.{◌≡◌, ◌≤◌, ◌<◌, ℕ, List, []}
 use Rattle.hls_base.specs.declared.refusal.Refusal.{Refusal}
 use Rattle.c_tree.specs.Tree.{FunctionTree, ProgramTree}
 use Rattle.c_checked.specs.Programs.{program_faults}
-use Rattle.checked_source.specs.Sources.{IsProgramOf, IsTheProgramOf, IsTopFunction}
+use Rattle.checked_source.specs.Sources.{IsTheProgramOf, IsTopFunction}
 use Rattle.checked_source.specs.SourceFaults.{IsSourceFault}
 use Rattle.c_elaborate.specs.Programs.{program_elaborated}
 use Rattle.pieces.specs.Program.{ExpandedTree}
 use Rattle.c_expand.specs.Expansion.{expansion, expanded_weight}
-use Rattle.sum_program.specs.declared.program.Sum.{Sum}
-use Rattle.sum_program.specs.SumForm.{IsWord, IsSum}
 
 -- The source is one program, which breaks no rule of C, and weighs at most 8,192 once the calls of its top function are expanded.
 pub record IsAccepted (source top : List ℕ) : Type 0 where
@@ -37,18 +35,3 @@ pub record IsTooLarge (program : ProgramTree) (top : List ℕ) (fault : Refusal)
 pub data IsFirstFault (source top : List ℕ) (fault : Refusal) : Type 0 where
   of_source : IsSourceFault source top fault → IsFirstFault source top fault
   too_large : (program : ProgramTree) → IsTheProgramOf source program → program_faults program top ≡ [] → IsTooLarge program top fault → IsFirstFault source top fault
-
--- the source is this sum, whose function has the name, and breaks no rule of C
-pub record IsSumSource (source top : List ℕ) (sum : Sum) : Type 0 where
-  pub program : ProgramTree
-  pub is : IsProgramOf source program
-  pub faultless : program_faults program top ≡ []
-  pub sum_is : IsSum program sum
-  pub named : sum.name ≡ top
-
--- what holds of the sum that was found: it is the source's, and its function's name is that of a module
-pub record IsFound (source top : List ℕ) (sum : Sum) : Type 0 where
-  pub is : IsSumSource source top sum
-  pub only : IsTheProgramOf source is.program
-  pub word : IsWord sum.name
-  pub short : length sum.name ≤ 64

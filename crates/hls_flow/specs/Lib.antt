@@ -1,7 +1,6 @@
 pub mod FirstFault
 pub mod Laws
 pub mod Synthesis
-pub mod SumReport
 pub mod Clocked
 pub mod Verdicts
 pub mod Comparing

@@ -2,32 +2,25 @@
 use Rattle.std.specs.Prelude.{◌≡◌, ℕ, ◌≤◌, List, [], ◌++◌, codes}
 use Rattle.hls_base.specs.declared.refusal.Refusal.{Refusal}
 use Rattle.hls_base.specs.declared.settings.Settings.{Settings}
-use Rattle.hls_base.specs.declared.point.Point.{Point}
-use Rattle.hls_base.specs.declared.point.PointKind.TheVariants.{Begin}
-use Rattle.hls_base.specs.Tallies.{count_in}
-use Rattle.c_tree.specs.Tree.{FunctionTree, ProgramTree}
-use Rattle.c_checked.specs.Programs.{program_faults}
 use Rattle.c_meaning.specs.Run.{first_contents}
 use Rattle.rtl_core.specs.Netlist.{Netlist}
 use Rattle.rtl_core.specs.ModuleText.{IsModuleText}
 use Rattle.rtl_core.specs.Agreement.{Agrees}
 use Rattle.cycle_report.specs.PlainReport.{PlainReport}
 use Rattle.cycle_report.specs.ReportForm.{IsReport}
-use Rattle.cycle_report.specs.FormulaValue.{cycles}
 use Rattle.ir_core.specs.declared.cfg.Cfg.{Cfg}
 use Rattle.ir_core.specs.declared.stamp.Untimed.{Untimed}
 use Rattle.clock_ir.specs.declared.timed.Timed.{Timed}
 use Rattle.pieces.specs.Program.{ExpandedTree}
 use Rattle.ir_lower.specs.Frames.{frame_view}
-use Rattle.compile_flow.specs.Flat.{IsFlatOf}
-use Rattle.compile_flow.specs.Resets.{expanded_frame, AreAddressable, reset_cycles}
-use Rattle.compile_flow.specs.Reports.{allowed_units, IsTimed, EachNodeCounts, ReportsDesign, IsReportOf, KeepsSettings}
+use Rattle.compile_steps.specs.Flat.{IsFlatOf}
+use Rattle.compile_steps.specs.Resets.{expanded_frame, AreAddressable, reset_cycles}
+use Rattle.compile_steps.specs.Reports.{allowed_units, IsTimed, EachNodeCounts, ReportsDesign, IsReportOf, KeepsSettings}
+use Rattle.compile_flow.specs.Circuits.{HasCircuit}
 use Rattle.compiled_answers.specs.Laws.{AnswersAlways}
-use Rattle.checked_source.specs.Sources.{IsTheProgramOf, IsTopFunction}
-use Rattle.sum_program.specs.declared.program.Sum.{Sum}
 use Rattle.cosim_pins.specs.FunctionPins.{interface_of}
 use Rattle.c_box.specs.CAnswers.{c_answers}
-use Rattle.hls_flow.specs.FirstFault.{IsFirstFault, IsSumSource, IsAccepted, expansion_of}
+use Rattle.hls_flow.specs.FirstFault.{IsFirstFault, IsAccepted, expansion_of}
 
 -- the ranges of the numbers that a user can ask for
 pub record AreInRange (s : Settings) : Type 0 where
@@ -39,36 +32,11 @@ pub record AreInRange (s : Settings) : Type 0 where
   pub ports_high : s.ports ≤ 2
   pub period_high : s.period ≤ 1000
 
--- the point that a run of the function passes first
-abbrev pub begin_of : FunctionTree → Point
-begin_of f = record { path = []; at = f.at; kind = Begin }
-
--- a run that has passed it takes two cycles at least
-abbrev pub TakesTwoCycles : FunctionTree → PlainReport → Type 0
-TakesTwoCycles f report = (tally : List (Point × ℕ)) → 1 ≤ count_in tally (begin_of f) → 2 ≤ cycles report.base report.rows tally
-
 -- The report names what the circuit is built of and what was asked for, and the circuit has no more than that.
 pub record ReportsCircuit (report : PlainReport) (settings : Settings) (design : Netlist) : Type 0 where
   pub base : report.base ≡ 1
   pub built : ReportsDesign report settings design
   pub kept : KeepsSettings report settings
-
--- The module's bytes are a circuit whose pins agree with the C program that the source is, for every power-up and every list of pin values after reset: a run raises `done` in exactly the cycle that the report's formula gives for it, with its result, its final arrays and its file-scope contents.
-pub record SynthesisIsCorrect (source : List ℕ) (settings : Settings) (module_bytes report_bytes : List ℕ) : Type 0 where
-  pub program : ProgramTree
-  pub is : IsTheProgramOf source program
-  pub faultless : program_faults program settings.top ≡ []
-  pub index : ℕ
-  pub function : FunctionTree
-  pub top : IsTopFunction program settings.top index function
-  pub report : PlainReport
-  pub report_is : IsReport report_bytes report
-  pub design : Netlist
-  pub module_is : IsModuleText module_bytes design
-  pub named : design.name ≡ codes "hls_" ++ settings.top
-  pub agrees : Agrees design (interface_of function) report.init (first_contents program) (c_answers program index report)
-  pub resources : ReportsCircuit report settings design
-  pub long : TakesTwoCycles function report
 
 -- The module's bytes are the text of a circuit, and the report's bytes the text of a report that names what this circuit is built of, and the settings.
 pub record HasTexts (settings : Settings) (module_bytes report_bytes : List ℕ) : Type 0 where
@@ -89,16 +57,22 @@ pub record IsScheduledReport (settings : Settings) (expanded : ExpandedTree) (re
   pub reported : IsReportOf report settings timed design
   pub longer : EachNodeCounts timed.nodes.items report
 
--- texts whose report is that of an expanded program with times
+-- the report is that of an expanded program with times, and the circuit is built for it
+pub record HasScheduledCircuit (settings : Settings) (expanded : ExpandedTree) (report : PlainReport) (design : Netlist) : Type 0 where
+  pub scheduled : IsScheduledReport settings expanded report design
+  pub circuit : HasCircuit scheduled.timed design
+
+-- texts of such a circuit and of such a report
 pub record HasScheduledTexts (settings : Settings) (expanded : ExpandedTree) (module_bytes report_bytes : List ℕ) : Type 0 where
   pub texts : HasTexts settings module_bytes report_bytes
-  pub scheduled : IsScheduledReport settings expanded texts.report texts.design
+  pub made : HasScheduledCircuit settings expanded texts.report texts.design
 
--- What a synthesis gives: the source is accepted, so that it has no fault, and both files have their texts. Where the program is a sum, the circuit agrees with it; for the others that is not proved, but the report is that of the expanded program with times, whose clocked runs answer what the runs in C answer, in exactly the cycles that the report's formula gives.
+-- What a synthesis gives: the source is accepted, so that it has no fault, and both files have their texts. The module is a circuit that agrees with the C program, for every power-up and every list of pin values after a reset: a run raises `done` in exactly the cycle that the report's formula gives for it, with its result, its final arrays and its file-scope contents. The report is that of the expanded program with times, whose clocked runs answer what the runs in C answer, in these cycles.
 pub record IsSynthesis (source : List ℕ) (settings : Settings) (module_bytes report_bytes : List ℕ) : Type 0 where
   pub accepted : IsAccepted source settings.top
   pub no_fault : (fault : Refusal) → ¬ IsFirstFault source settings.top fault
   pub texts : HasTexts settings module_bytes report_bytes
-  pub agrees : (sum : Sum) → IsSumSource source settings.top sum → SynthesisIsCorrect source settings module_bytes report_bytes
-  pub scheduled : ((sum : Sum) → ¬ IsSumSource source settings.top sum) → IsScheduledReport settings (expansion_of accepted) texts.report texts.design
-  pub answers : (none : (sum : Sum) → ¬ IsSumSource source settings.top sum) → AnswersAlways accepted.program accepted.index (scheduled none).timed texts.report.rows
+  pub named : texts.design.name ≡ codes "hls_" ++ settings.top
+  pub agrees : Agrees texts.design (interface_of accepted.function) texts.report.init (first_contents accepted.program) (c_answers accepted.program accepted.index texts.report)
+  pub scheduled : IsScheduledReport settings (expansion_of accepted) texts.report texts.design
+  pub answers : AnswersAlways accepted.program accepted.index scheduled.timed texts.report.rows

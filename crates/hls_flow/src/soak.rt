@@ -2,10 +2,12 @@ ghost use Rattle.std.specs.Prelude.{◌≡◌, Some, IfOk};
 ghost use Rattle.c_tree.specs.View.{program_of, function_of};
 ghost use Rattle.pieces.specs.Program.{expanded_of};
 ghost use Rattle.rtl_core.specs.Netlist.{netlist_of};
+ghost use Rattle.rtl_core.specs.Interface.{HasPins};
+ghost use Rattle.rtl_core.specs.Valid.{IsValid};
 ghost use Rattle.cycle_report.specs.PlainReport.{plain_of};
-ghost use Rattle.cosim_pins.specs.FunctionPins.{plain};
+ghost use Rattle.cosim_pins.specs.FunctionPins.{interface_of, plain};
 ghost use Rattle.cosim_pins.specs.ModuleRun.{module_run};
-ghost use Rattle.hls_flow.specs.Synthesis.{IsScheduledReport};
+ghost use Rattle.hls_flow.specs.Synthesis.{HasScheduledCircuit};
 ghost use Rattle.hls_flow.specs.SoakRun.{most, soak_settings, IsCompiled, IsAgreedRun, IsSoakRun};
 
 use crate::machines::clocked_steps;
@@ -14,13 +16,14 @@ use c_checked::checked::Checked;
 use c_meaning::outcome::Final;
 use c_tree::function::Function;
 use checked_source::read::read_checked;
-use compile_flow::compile::{Compiled, compile_expanded, expanded};
+use compile_flow::compile::{Compiled, compile_expanded};
+use compile_steps::steps::expanded;
 use cosim_levels::compared::differing;
 use cosim_levels::difference::first_difference;
 use cosim_levels::levels::{c_level, cycles_of, module_level};
 use cosim_levels::verdict::Stop;
 use cosim_pins::drive::Shown;
-use cosim_pins::interface::{Interface, has_pins, interface_of};
+use cosim_pins::interface::{Interface, interface_of};
 use hls_base::inputs::Inputs;
 use hls_base::refusal::{Fail, impossible};
 use hls_base::settings::Settings;
@@ -60,7 +63,7 @@ fn scheduled(
     expanded: &Expanded,
     settings: &Settings,
 ) -> Result<Compiled, AllocError>
-    ensures { IfOk result (λ c. IsScheduledReport settings.now (expanded_of expanded.now) (plain_of c.report) (netlist_of c.design)) }
+    ensures { IfOk result (λ c. HasScheduledCircuit settings.now (expanded_of expanded.now) (plain_of c.report) (netlist_of c.design)) }
 {
     let compiled = compile_expanded(alloc, expanded, settings)?;
     Ok(compiled)
@@ -84,11 +87,10 @@ fn shown_by(
     interface: &Interface,
     inputs: &Inputs,
 ) -> Result<Shown, Stop>
+    requires valid { IsValid (netlist_of design) }
+    requires pins { HasPins (netlist_of design) (plain interface.now) }
     ensures { IfOk result (λ s. module_run (netlist_of design) (plain interface.now) inputs.now.scalars inputs.now.arrays most ≡ Some s) }
 {
-    if !design.valid() || !has_pins(alloc, &design, interface)? {
-        return Err(Stop::from(impossible()));
-    }
     if inputs.scalars.items().len() != interface.scalars.len() {
         return Err(Stop::from(impossible()));
     }
@@ -103,6 +105,8 @@ fn run_levels(
     compiled: Compiled,
     inputs: &Inputs,
 ) -> Result<(Final, u128), Stop>
+    requires valid { IsValid (netlist_of compiled.design) }
+    requires pins { HasPins (netlist_of compiled.design) (interface_of (function_of function.now)) }
     ensures { IfOk result (λ run. IsAgreedRun (program_of checked.now.program) checked.now.top (function_of function.now) inputs.now.scalars inputs.now.arrays (plain_of compiled.report) (netlist_of compiled.design) run.0 run.1) }
 {
     let Compiled {

@@ -23,7 +23,7 @@ use Rattle.rtl_core.specs.Box.{Answer, Undefined}
 use Rattle.cycle_report.specs.FormulaValue.{cycles}
 use Rattle.cycle_report.specs.PlainReport.{PlainReport}
 use Rattle.report_rows.specs.Costs.{AreRowsOf}
-use Rattle.compile_flow.specs.Resets.{expanded_frame}
+use Rattle.compile_steps.specs.Resets.{expanded_frame}
 use Rattle.block_meaning.specs.Bodies.{Words}
 use Rattle.flat_runs.specs.Laws.{Choice, IsFine}
 use Rattle.lower_control.specs.Holding.{ArraysAreShort}

@@ -8,7 +8,7 @@ use Rattle.ir_core.specs.declared.cfg.Cfg.{Cfg}
 use Rattle.ir_core.specs.declared.cfg.Memory.{Memory}
 use Rattle.ir_lower.specs.Frames.{MemoryView, FrameView, memory_view, frame_view}
 use Rattle.clock_ir.specs.declared.timed.Timed.{Timed}
-use Rattle.compile_flow.specs.Resets.{array_memory, expanded_frame}
+use Rattle.compile_steps.specs.Resets.{array_memory, expanded_frame}
 use Rattle.datapath.specs.Plans as plans
 use Rattle.datapath.specs.Plans.{Array, no_array}
 

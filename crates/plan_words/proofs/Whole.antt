@@ -16,7 +16,7 @@ use Rattle.ir_operation.specs.Value.{count_of}
 use Rattle.ir_lower.specs.Frames.{FrameView, frame_view}
 use Rattle.clock_ir.specs.declared.timed.Timed.{Timed}
 use Rattle.reg_binding.specs.declared.registers.Registers.{Registers}
-use Rattle.compile_flow.specs.Resets.{expanded_frame}
+use Rattle.compile_steps.specs.Resets.{expanded_frame}
 use Rattle.block_meaning.specs.Bodies.{Words}
 use Rattle.block_meaning.specs.FirstContents.{given_at}
 use Rattle.convert_runs.specs.Typed.{Fits}

@@ -7,7 +7,7 @@ use Rattle.ir_core.specs.declared.cfg.Cfg.{Cfg}
 use Rattle.ir_lower.specs.Frames.{frame_view}
 use Rattle.clock_ir.specs.declared.timed.Timed.{Timed}
 use Rattle.reg_binding.specs.declared.registers.Registers.{Registers}
-use Rattle.compile_flow.specs.Resets.{expanded_frame}
+use Rattle.compile_steps.specs.Resets.{expanded_frame}
 use Rattle.block_meaning.specs.Bodies.{Words}
 use Rattle.convert_runs.specs.Typed.{Fits}
 use Rattle.lowered_conversions.specs.Suiting.{widths_of, words_of}

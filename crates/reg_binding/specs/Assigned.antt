@@ -49,7 +49,6 @@ pub record IsAssigned (behind : Node Timed → ℕ → Bool) (nodes : List (Node
   pub used : (r : ℕ) → r < length registers.widths.items → IsUsed registers.held.items r
 
 -- The values of all nodes have their registers, where the live variables are those that are read again.
-pub record IsAssignment (cfg : Cfg Timed) (registers : Registers) : Type 0 where
-  pub live : Live
+pub record IsAssignment (cfg : Cfg Timed) (live : Live) (registers : Registers) : Type 0 where
   pub liveness : IsLiveness (flow_of cfg) live
   pub assigned : IsAssigned (λ node. is_behind live (summary_of node)) cfg.nodes.items (length cfg.nodes.items) registers

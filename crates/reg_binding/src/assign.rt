@@ -3,6 +3,7 @@ ghost use Rattle.std.specs.Prelude.{◌≡◌, ◌++◌, length, map, IfOk, OnOk
 ghost use Rattle.std.specs.List.{zip};
 ghost use Rattle.std.specs.List.Sorted.{IsPermutation};
 ghost use Rattle.live_variables.specs.Sets.{has};
+ghost use Rattle.live_variables.specs.Liveness.{IsLiveness, flow_of};
 ghost use Rattle.reg_binding.specs.Lives.{node_lives, node_period};
 ghost use Rattle.reg_binding.specs.Sharing.{IsPeriod};
 ghost use Rattle.reg_binding.specs.Assigned as spec;
@@ -16,7 +17,7 @@ use clock_ir::timed::Timed;
 use hls_base::number::{NodeId, OpId};
 use hls_base::refusal::impossible;
 use ir_core::cfg::{Cfg, Node};
-use live_variables::live::live_variables;
+use live_variables::live::Live;
 use live_variables::var_set::VarSet;
 use std::alloc::{AllocError, Global};
 
@@ -86,15 +87,15 @@ fn assign_node(
     Ok(())
 }
 
-/// Gives each value that is read a register of its width in each place of its chain, in which no other value of its node is there in the same cycle. The registers of one node serve the others too.
-pub fn assign(alloc: Global, cfg: &Cfg<Timed>) -> Result<Registers, AllocError>
-    ensures { IfOk result (λ registers. spec.IsAssignment cfg.now registers) }
+/// Gives each value that is read a register of its width in each place of its chain, in which no other value of its node is there in the same cycle. The registers of one node serve the others too. `live` has the live variables of the program.
+pub fn assign(alloc: Global, cfg: &Cfg<Timed>, live: &Live) -> Result<Registers, AllocError>
+    requires { IsLiveness (flow_of cfg.now) live.now }
+    ensures { IfOk result (λ registers. spec.IsAssignment cfg.now live.now registers) }
 {
     let mut registers = Registers {
         widths: Vec::new(alloc),
         held: Vec::new(alloc),
     };
-    let live = live_variables(alloc, cfg)?;
     for number in 0..cfg.nodes.len() {
         let Ok(id) = u32::try_from(number) else {
             return Err(impossible());

@@ -40,7 +40,7 @@ use Rattle.reg_binding.specs.declared.registers.Registers.{Registers}
 use Rattle.rtl_core.specs.ClockStep.{Fit}
 use Rattle.rtl_core.specs.Box.{Answer, Ended, Undefined}
 use Rattle.cycle_report.specs.PlainReport.{PlainReport}
-use Rattle.compile_flow.specs.Resets.{expanded_frame}
+use Rattle.compile_steps.specs.Resets.{expanded_frame}
 use Rattle.block_meaning.specs.FirstContents.{elements_or_none}
 use Rattle.lower_control.specs.Holding.{IsThere}
 use Rattle.started_words.specs.FirstWords.{FillVariables, FillHosts, HasContents}

@@ -40,7 +40,7 @@ use Rattle.reg_binding.specs.declared.registers.Registers.{Registers}
 use Rattle.rtl_core.specs.Interface.{ArrayShape, Interface}
 use Rattle.rtl_core.specs.Agreement.{Agrees}
 use Rattle.report_rows.specs.Initial as frames
-use Rattle.compile_flow.specs.Resets.{expanded_frame}
+use Rattle.compile_steps.specs.Resets.{expanded_frame}
 use Rattle.block_meaning.specs.FirstContents.{elements_or_none}
 use Rattle.host_pins.specs.FramePins.{result_bits}
 use Rattle.begun_programs.specs.Laws.{FilesFill}

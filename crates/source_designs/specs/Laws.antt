@@ -20,7 +20,7 @@ use Rattle.rtl_core.specs.Agreement.{Agrees}
 use Rattle.cycle_report.specs.PlainReport.{PlainLoop, PlainReport}
 use Rattle.report_rows.specs.Costs.{AreRowsOf}
 use Rattle.report_rows.specs.Initial.{initial_cycles}
-use Rattle.compile_flow.specs.Resets.{expanded_frame}
+use Rattle.compile_steps.specs.Resets.{expanded_frame}
 use Rattle.flat_runs.specs.Laws.{Choice, IsLaidOut}
 use Rattle.timed_pieces.specs.Laws.{HasTimes}
 use Rattle.datapath.specs.Plans.{Savings, plan_of}

@@ -9,6 +9,7 @@ use Rattle.ir_core.specs.declared.cfg.Cfg.{Cfg}
 use Rattle.ir_core.specs.declared.stamp.Untimed.{Untimed}
 use Rattle.ir_lower.specs.Frames.{frame_view}
 use Rattle.clock_ir.specs.declared.timed.Timed.{Timed}
+use Rattle.live_variables.specs.declared.live.Live.{Live}
 use Rattle.reg_binding.specs.declared.registers.Registers.{Registers}
 use Rattle.reg_binding.specs.Assigned.{IsAssignment}
 use Rattle.rtl_core.specs.Netlist.{Netlist}
@@ -17,22 +18,22 @@ use Rattle.rtl_core.specs.Agreement.{Agrees}
 use Rattle.cycle_report.specs.PlainReport.{PlainLoop, PlainReport}
 use Rattle.report_rows.specs.Costs.{AreRowsOf}
 use Rattle.report_rows.specs.Initial.{initial_cycles}
-use Rattle.compile_flow.specs.Flat.{IsFlatOf}
-use Rattle.compile_flow.specs.Resets.{expanded_frame}
-use Rattle.compile_flow.specs.Reports.{IsTimed}
+use Rattle.compile_steps.specs.Flat.{IsFlatOf}
+use Rattle.compile_steps.specs.Resets.{expanded_frame}
+use Rattle.compile_steps.specs.Reports.{IsTimed}
 use Rattle.datapath.specs.Plans.{Plan, plan_of}
 use Rattle.datapath.specs.Netlists.{IsCircuitOf}
 use Rattle.circuit_flow.specs.Compiled.{IsCompiled}
 use Rattle.circuit_agreement.specs.Boxes.{HasMemories}
 use Rattle.small_numbers.specs.Small.{HasSmallNumbers}
-use Rattle.compiled_plans.specs.Savings.{savings_of}
+use Rattle.datapath.specs.LeftOut.{savings_of}
 use Rattle.source_runs.specs.Laws.{IsFaultless, expanded}
 
 -- Of a source without faults: the plan of its program with times is compiled, where the numbers of the program are small and its values have registers.
 abbrev pub SourcePlansAreCompiled : Type 0
 SourcePlansAreCompiled = (source : List ℕ) (p : ProgramTree) (top : ℕ) (name : List ℕ) → IsFaultless source p top name → (plain : Bool) (untimed : Cfg Untimed) → IsFlatOf (expanded p top) plain untimed
     → (units : Units) (timed : Cfg Timed) (loops : List PlainLoop) → IsTimed units untimed timed loops → frame_view timed.frame ≡ expanded_frame (expanded p top) → HasSmallNumbers timed
-    → (registers : Registers) (assigned : IsAssignment timed registers) → IsCompiled (plan_of timed registers (savings_of timed assigned.live))
+    → (live : Live) (registers : Registers) → IsAssignment timed live registers → IsCompiled (plan_of timed registers (savings_of timed live))
 
 -- Of a source without faults, with this top function: a valid netlist that is the circuit of this plan agrees with the box of the function, with the answers of C in the cycles of the report, where the report is at base 1, its rows are the costs of the program, and its initial cycles are those of the frame.
 abbrev pub SourcesKeepPromise : Type 0
@@ -40,6 +41,6 @@ SourcesKeepPromise = (source : List ℕ) (p : ProgramTree) (top : ℕ) (name : L
     → (plain : Bool) (untimed : Cfg Untimed) → IsFlatOf (expanded p top) plain untimed
     → (units : Units) (timed : Cfg Timed) (loops : List PlainLoop) → IsTimed units untimed timed loops → frame_view timed.frame ≡ expanded_frame (expanded p top) → HasSmallNumbers timed
     → (report : PlainReport) → report.base ≡ 1 → AreRowsOf timed.nodes.items report.rows → report.init ≡ initial_cycles timed.frame
-    → (registers : Registers) (assigned : IsAssignment timed registers)
-    → let plan : Plan = plan_of timed registers (savings_of timed assigned.live) in
+    → (live : Live) (registers : Registers) → IsAssignment timed live registers
+    → let plan : Plan = plan_of timed registers (savings_of timed live) in
     (d : Netlist) → IsCircuitOf plan d → HasMemories plan d → IsValid d → Agrees d (interface_of function) report.init (first_contents p) (c_answers p top report)

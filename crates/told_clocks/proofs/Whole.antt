@@ -14,9 +14,9 @@ use Rattle.block_meaning.specs.FlatRuns as flat
 use Rattle.lower_runs.specs.Suits.{shapes_of}
 use Rattle.flat_runs.specs.Laws.{Choice, IsLaidOut}
 use Rattle.timed_pieces.specs.Laws.{HasTimes}
-use Rattle.compile_flow.specs.Flat.{IsFlatOf}
-use Rattle.compile_flow.specs.Reports.{allowed_units}
-use Rattle.compile_flow.specs.Resets.{array_memory, expanded_frame}
+use Rattle.compile_steps.specs.Flat.{IsFlatOf}
+use Rattle.compile_steps.specs.Reports.{allowed_units}
+use Rattle.compile_steps.specs.Resets.{array_memory, expanded_frame}
 use Rattle.source_machines.specs.Laws.{IsFrameOf, SourceProgramsAreReady, SourceFramesAreNamed}
 use Rattle.source_runs.specs.Laws.{expanded}
 use Rattle.told_clocks.specs.Laws.{ToldClocksAreRuns}

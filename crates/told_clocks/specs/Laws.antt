@@ -18,7 +18,7 @@ use Rattle.flat_runs.specs.Laws.{IsLaidOut}
 use Rattle.timed_pieces.specs.Laws.{HasTimes}
 use Rattle.clock_machine.specs.Runs.{RunEndsAfter}
 use Rattle.source_runs.specs.Laws.{IsFaultless, expanded}
-use Rattle.compile_flow.specs.Reports.{allowed_units}
+use Rattle.compile_steps.specs.Reports.{allowed_units}
 use Rattle.hls_flow.specs.Clocked.{IsClockOf}
 
 -- The clocked run of a program that is laid out and scheduled from the pieces, with these settings, ends after so many edges from the first contents that the inputs give.

@@ -24,7 +24,7 @@ use Rattle.circuit_wires.specs.Carrying.{IsBegun, IsMoment, Tells, MakesTelling}
 use Rattle.circuit_log.specs.declared.log.Push.{Push}
 use Rattle.circuit_log.specs.declared.role.Target.TheVariants as t
 use Rattle.circuit_log.specs.Logs.{Logs}
-use Rattle.circuit_savings.specs.Savings.{ends_exclusive, is_exclusive}
+use Rattle.datapath.specs.LeftOut.{ends_exclusive, is_exclusive}
 use Rattle.circuit_context.specs.declared.context.Context.{Context}
 use Rattle.circuit_context.specs.Contexts.{IsContext}
 use Rattle.circuit_wires.proofs.Combining.{carries_on, made_carries, bit_same, bit_is}

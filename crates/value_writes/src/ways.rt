@@ -11,7 +11,7 @@ ghost use Rattle.circuit_wires.specs.Carrying.{IsBegun, Tells, MakesTelling};
 ghost use Rattle.circuit_log.specs.declared.role.Target.TheVariants as target;
 ghost use Rattle.circuit_log.specs.Logs.{Logs};
 ghost use Rattle.circuit_log.specs.Entries.{bit_entry, last_operand, result_entries, ways, ways_as};
-ghost use Rattle.circuit_savings.specs.Savings.{all_differ};
+ghost use Rattle.datapath.specs.LeftOut.{all_differ};
 ghost use Rattle.circuit_context.specs.Contexts.{IsContext};
 ghost use Rattle.value_writes.specs.Steps.{none_left, ordered_cases, exclusive_cases, choice_cases, TellCases};
 

@@ -1,6 +1,7 @@
 use Rattle.std.proofs.Common.{sym, ap, subst}
 use Rattle.ir_core.specs.declared.cfg.Cfg.{Cfg}
 use Rattle.clock_ir.specs.declared.timed.Timed.{Timed}
+use Rattle.live_variables.specs.declared.live.Live.{Live}
 use Rattle.rtl_core.specs.Netlist.{netlist_of}
 use Rattle.host_pins.specs.FramePins.{module_name}
 use Rattle.rtl_logic.specs.Making.{circuit}
@@ -14,6 +15,7 @@ use Rattle.circuit_build.proofs.build.wired.Goals as goal
 pub returns : goal.returns
 returns c =
     let cfg = c.args.cfg.now in
+    let live = c.args.live in
     let registers = c.args.registers.now in
     let of = c.in_ok-of.of in
     let parts = c.in_ok-parts.parts in
@@ -27,10 +29,10 @@ returns c =
     let names = whole_names p of.bank parts.units in
     let h = c.in_ok-of.ensures in
     let is = c.in_ok-logic.ensures in
-    let can = can_compute cfg registers of name d d1 h is in
+    let can = can_compute cfg live registers of name d d1 h is in
     let has = c.in_ok-parts.ensures p can in
     let context = context_more p (registers_of p parts.units) of can.context in
-    let moves = c.in_ok-add_moves.ensures p names context has.begun can.names (still_idle cfg registers of name d d1 d2 parts h is has) has.computed has.answers in
+    let moves = c.in_ok-add_moves.ensures p names context has.begun can.names (still_idle cfg live registers of name d d1 d2 parts h is has) has.computed has.answers in
     let outs = subst (λ (x : Cfg Timed). HasOutputs p names x.frame d3 e) h.cfg_ (c.in_ok-add_outputs.ensures p names context moves.drives.begun) in
-    subst (IsWhole cfg registers) (sym (ap netlist_of c.finish.ensures))
-    (record { live = of.live; liveness = h.liveness; bank = of.bank; parts = parts; whole = whole_is cfg registers of name d d1 d2 d3 e parts h is has moves outs })
+    subst (IsWhole cfg live registers) (sym (ap netlist_of c.finish.ensures))
+    (subst (λ (l : Live). IsWhole cfg l registers e) h.live_ (record { bank = of.bank; parts = parts; whole = whole_is cfg live registers of name d d1 d2 d3 e parts h is has moves outs }))

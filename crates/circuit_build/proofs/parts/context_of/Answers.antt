@@ -7,22 +7,22 @@ use Rattle.circuit_build.proofs.parts.context_of.Goals as goal
 
 pub returns : goal.returns
 returns c =
-    let live = c.in_ok-live.live in
+    let live = c.args.live in
     let p = plan_in c.args.cfg.now c.args.registers.now live in
     let counted = c.in_ok-ports.ensures p c.args.registers.now refl in
     record {
       cfg_ = refl;
       registers_ = refl;
-      liveness = c.in_ok-live.ensures;
+      live_ = refl;
       allotted = λ begun. c.in_ok-bank.ensures p refl (subst (ArePortCounts p) (sym c.deref.ensures.value) counted.counts) begun;
       context = λ begun. record {
         plan = refl;
         more = [];
         names_ = sym (append-nil (names_of c.in_ok-bank.bank));
         small = c.numbers_are_small.ensures.small;
-        live_ = c.in_ok-live.ensures;
+        live_ = c.requires;
         places_ = subst (λ l. ArePlaces l c.in_ok-places.places) c.deref-2.ensures.value c.in_ok-places.ensures;
         ports_ = counted;
-        read_ = c.in_ok-read.ensures c.in_ok-live.ensures.sized (sym c.in_ok-live.ensures.count);
+        read_ = c.in_ok-read.ensures c.requires.sized (sym c.requires.count);
       };
     }

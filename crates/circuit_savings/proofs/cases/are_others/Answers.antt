@@ -1,5 +1,5 @@
 use Rattle.clock_meaning.specs.Flows.{timed_body}
-use Rattle.circuit_savings.specs.Savings.{compared}
+use Rattle.datapath.specs.LeftOut.{compared}
 use Rattle.circuit_savings.proofs.Comparing.{others_more, others_stop}
 use Rattle.circuit_savings.proofs.cases.are_others.Goals as goal
 

@@ -1,6 +1,6 @@
 use Rattle.std.proofs.Common.{◌≡◌, ◌∷◌, [], ℕ, map, drop}
 use Rattle.clock_meaning.specs.Flows.{timed_body}
-use Rattle.circuit_savings.specs.Savings.{compared}
+use Rattle.datapath.specs.LeftOut.{compared}
 use Rattle.circuit_savings.specs.Cases.{all_others}
 use Rattle.circuit_savings.proofs.cases.are_others.Given as goal
 

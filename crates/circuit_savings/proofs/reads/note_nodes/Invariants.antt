@@ -2,7 +2,7 @@ use Rattle.std.proofs.Common.{take}
 use Rattle.std.specs.List.{list_any}
 use Rattle.live_variables.specs.Sets.{Gains}
 use Rattle.live_variables.specs.Liveness.{IsSized}
-use Rattle.circuit_savings.specs.Savings.{is_read_in}
+use Rattle.datapath.specs.LeftOut.{is_read_in}
 use Rattle.circuit_savings.proofs.reads.note_nodes.Given as goal
 
 abbrev pub invariant-loop-node : goal.invariant-loop-node

@@ -4,7 +4,7 @@ use Rattle.live_variables.specs.Sets.{has}
 use Rattle.live_variables.specs.Liveness.{is_among, goes_by, is_behind, out_reads, summary_of}
 use Rattle.live_variables.proofs.Elements.{any_same}
 use Rattle.live_variables.proofs.Members.{Gains-same, Gains-then}
-use Rattle.circuit_savings.specs.Savings.{is_read_in}
+use Rattle.datapath.specs.LeftOut.{is_read_in}
 use Rattle.circuit_savings.proofs.reads.note_reads.Goals as goal
 
 pub returns : goal.returns

@@ -2,8 +2,8 @@ use Rattle.std.proofs.Common.{◌≡◌, subst}
 use Rattle.cycle_report.specs.PlainReport.{plain_of}
 use Rattle.pieces.specs.Program.{ExpandedTree}
 use Rattle.ir_lower.specs.Frames.{frame_view}
-use Rattle.compile_flow.specs.Flat.{IsFlatOf}
-use Rattle.compile_flow.specs.Resets.{expanded_frame, AreAddressable, reset_cycles}
+use Rattle.compile_steps.specs.Flat.{IsFlatOf}
+use Rattle.compile_steps.specs.Resets.{expanded_frame, AreAddressable, reset_cycles}
 use Rattle.compile_flow.proofs.compile.compile.Goals as goal
 
 pub returns-clause-frame : goal.returns-clause-frame

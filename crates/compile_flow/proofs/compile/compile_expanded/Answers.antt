@@ -3,9 +3,9 @@ use Rattle.rtl_core.specs.Netlist.{netlist_of}
 use Rattle.cycle_report.specs.PlainReport.{plain_of, loop_of}
 use Rattle.pieces.specs.Program.{expanded_of}
 use Rattle.ir_lower.specs.Frames.{frame_view}
-use Rattle.compile_flow.specs.Resets.{expanded_frame}
-use Rattle.compile_flow.proofs.Counting.{each_node_counts}
-use Rattle.compile_flow.proofs.Resets.{frame_is, reset_is}
+use Rattle.compile_steps.specs.Resets.{expanded_frame}
+use Rattle.compile_steps.proofs.Counting.{each_node_counts}
+use Rattle.compile_steps.proofs.Resets.{frame_is, reset_is}
 use Rattle.compile_flow.proofs.compile.compile_expanded.Goals as goal
 
 pub returns-clause-longer : goal.returns-clause-longer

@@ -1,6 +1,7 @@
 use Rattle.std.proofs.Common.{◌≡◌, Some, sym, ◌∙◌, subst}
 use Rattle.std.proofs.lemmas.Result.{IfOk-from_err}
 use Rattle.rtl_core.specs.Netlist.{netlist_of}
+use Rattle.rtl_core.specs.Interface.{HasPins}
 use Rattle.cosim_pins.specs.ModuleRun.{module_run}
 use Rattle.hls_flow.specs.SoakRun.{most}
 use Rattle.hls_flow.proofs.SoakMade.{none_left}
@@ -22,3 +23,6 @@ returns-in_err-cycles c = IfOk-from_err _ _ c.from_residual-in_err-cycles.ensure
 
 pub returns-in_err-difference : goal.returns-in_err-difference
 returns-in_err-difference c = IfOk-from_err _ _ c.from_residual-in_err-difference.ensures.0
+
+pub shown_by-requires-clause-pins : goal.shown_by-requires-clause-pins
+shown_by-requires-clause-pins c = subst (HasPins (netlist_of c.args.compiled.design)) (sym c.in_ok-interface.ensures) c.requires.pins

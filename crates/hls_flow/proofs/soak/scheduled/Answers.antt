@@ -2,12 +2,15 @@ use Rattle.hls_flow.proofs.soak.scheduled.Goals as goal
 
 pub returns : goal.returns
 returns c = record {
-  untimed = c.in_ok-compiled.compiled.untimed;
-  timed = c.in_ok-compiled.compiled.timed;
-  frame = c.in_ok-compiled.ensures.frame;
-  init = c.in_ok-compiled.ensures.init;
-  flat = c.in_ok-compiled.ensures.flat;
-  is_timed = c.in_ok-compiled.ensures.timed;
-  reported = c.in_ok-compiled.ensures.report;
-  longer = c.in_ok-compiled.ensures.longer;
+  scheduled = record {
+    untimed = c.in_ok-compiled.compiled.untimed;
+    timed = c.in_ok-compiled.compiled.timed;
+    frame = c.in_ok-compiled.ensures.frame;
+    init = c.in_ok-compiled.ensures.init;
+    flat = c.in_ok-compiled.ensures.flat;
+    is_timed = c.in_ok-compiled.ensures.timed;
+    reported = c.in_ok-compiled.ensures.report;
+    longer = c.in_ok-compiled.ensures.longer;
+  };
+  circuit = c.in_ok-compiled.ensures.circuit;
 }

@@ -1,4 +1,5 @@
-use Rattle.std.proofs.Common.{[], ◌∷◌, subst, ◌∙◌}
+use Rattle.std.proofs.Common.{[], ◌∷◌, ap, subst, ◌∙◌}
+use Rattle.c_meaning.specs.Run.{function_at}
 use Rattle.c_tree.specs.View.{program_of, function_of}
 use Rattle.rtl_core.specs.Netlist.{netlist_of}
 use Rattle.cycle_report.specs.PlainReport.{plain_of}
@@ -24,3 +25,9 @@ returns c =
     (subst (λ elements. IsAgreedRun program index f (argument number ∷ []) elements report circuit final count) c.in_ok-program.ensures.arrays
     (subst (λ scalars. IsAgreedRun program index f scalars c.in_ok-program.program.inputs.arrays report circuit final count) c.in_ok-program.ensures.scalars c.in-Ok-run_levels.ensures))
     c.in_ok-program.ensures.products s counts returned)
+
+pub run_levels-requires-clause-valid : goal.run_levels-requires-clause-valid
+run_levels-requires-clause-valid c = c.in-Ok.ensures.valid
+
+pub run_levels-requires-clause-pins : goal.run_levels-requires-clause-pins
+run_levels-requires-clause-pins c = (c.in-Ok.ensures.promise (function_of c.top_of-function.result.now) (ap function_at c.top_of-function.ensures.item)).agrees.pins

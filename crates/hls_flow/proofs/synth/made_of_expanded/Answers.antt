@@ -14,14 +14,17 @@ returns c =
         module_is = c.in_ok-module.ensures.text;
         resources = record { base = reported.base; built = reported.built; kept = c.in_ok-compiled.ensures.kept };
       };
-      scheduled = record {
-        untimed = compiled.untimed;
-        timed = compiled.timed;
-        frame = c.in_ok-compiled.ensures.frame;
-        init = c.in_ok-compiled.ensures.init;
-        flat = c.in_ok-compiled.ensures.flat;
-        is_timed = c.in_ok-compiled.ensures.timed;
-        reported = reported;
-        longer = c.in_ok-compiled.ensures.longer;
+      made = record {
+        scheduled = record {
+          untimed = compiled.untimed;
+          timed = compiled.timed;
+          frame = c.in_ok-compiled.ensures.frame;
+          init = c.in_ok-compiled.ensures.init;
+          flat = c.in_ok-compiled.ensures.flat;
+          is_timed = c.in_ok-compiled.ensures.timed;
+          reported = reported;
+          longer = c.in_ok-compiled.ensures.longer;
+        };
+        circuit = c.in_ok-compiled.ensures.circuit;
       };
     }

@@ -10,17 +10,17 @@ use Rattle.reg_binding.proofs.Rows.{IsAssigned-none, IsAssigned-more}
 use Rattle.reg_binding.proofs.assign.assign.Goals as goal
 
 pub loop-number-init : goal.loop-number-init
-loop-number-init c = IsAssigned-none (λ node. is_behind c.in_ok-live.live (summary_of node)) c.args.cfg.now.nodes.items _ c.new.ensures.items c.new-2.ensures.items
+loop-number-init c = IsAssigned-none (λ node. is_behind c.args.live.now (summary_of node)) c.args.cfg.now.nodes.items _ c.new.ensures.items c.new-2.ensures.items
 
 pub loop-number-preserved : goal.loop-number-preserved
 loop-number-preserved c =
-    let live = c.in_ok-live.live in
+    let live = c.args.live.now in
     let n = c.loop-number.number in
     let node = c.index-node.result.now in
     let before = c.loop-number.registers in
     let after = c.assign_node.new.registers in
     let behind : Node Timed → ℕ → Bool = λ x. is_behind live (summary_of x) in
-    let same : has c.in_ok-behind.behind ≡ behind node = λ i k. c.in_ok-behind.ensures.members c.in_ok-live.ensures.sized k i in
+    let same : has c.in_ok-behind.behind ≡ behind node = λ i k. c.in_ok-behind.ensures.members c.requires.sized k i in
     let number : c.in-Ok.id ≡ n = c.in-Ok.ensures.1 in
     let adds : AddsRows n (node_lives (behind node) node) (node_period node) before after =
     subst (λ (i : ℕ). AddsRows i (node_lives (behind node) node) (node_period node) before after) number
@@ -30,11 +30,10 @@ loop-number-preserved c =
 
 pub returns : goal.returns
 returns c =
-    let live = c.in_ok-live.live in
+    let live = c.args.live.now in
     let nodes = c.args.cfg.now.nodes.items in
     let all : c.loop-number.number ≡ length nodes = omega (arith, c.loop-number-test.false, c.loop-number.auto.number-end, c.len-number-end.ensures) in
     record {
-      live = live;
-      liveness = c.in_ok-live.ensures;
+      liveness = c.requires;
       assigned = subst (λ (n : ℕ). IsAssigned (λ node. is_behind live (summary_of node)) nodes n c.loop-number.registers) all c.loop-number.invariant;
     }

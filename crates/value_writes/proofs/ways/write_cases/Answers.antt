@@ -8,7 +8,7 @@ use Rattle.rtl_logic.proofs.Making.{appended}
 use Rattle.datapath.specs.Plans as plans
 use Rattle.datapath.specs.Cycles.{Cycle, bit}
 use Rattle.datapath.specs.Control.{leaves_as}
-use Rattle.circuit_savings.specs.Savings.{all_differ}
+use Rattle.datapath.specs.LeftOut.{all_differ}
 use Rattle.circuit_wires.proofs.Combining.{carries_on}
 use Rattle.value_writes.specs.Steps.{choice_cases, TellCases}
 use Rattle.value_writes.proofs.Listing.{logs_as, logs_ahead}

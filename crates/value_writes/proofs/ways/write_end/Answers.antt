@@ -11,7 +11,7 @@ use Rattle.datapath.specs.Control.{leaves_as}
 use Rattle.circuit_wires.proofs.Combining.{carries_on}
 use Rattle.circuit_log.specs.Entries.{last_operand, no_case_holds, way, ways}
 use Rattle.circuit_log.proofs.Joining.{logs_then, logs_behind}
-use Rattle.circuit_savings.specs.Savings.{all_differ, ends_exclusive}
+use Rattle.datapath.specs.LeftOut.{all_differ, ends_exclusive}
 use Rattle.value_writes.specs.Steps.{choice_cases, none_left}
 use Rattle.value_writes.proofs.Choosing.{not_not, exclusive_is, choice_ways}
 use Rattle.value_writes.proofs.Listing.{logs_as}

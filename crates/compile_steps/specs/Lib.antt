@@ -1,0 +1,4 @@
+pub mod Resets
+pub mod Reports
+pub mod Flat
+pub mod Runs

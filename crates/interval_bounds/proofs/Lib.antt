@@ -1,0 +1,11 @@
+pub mod Bodies
+pub mod Dealing
+pub mod Nodes
+pub mod Numbers
+pub mod Requests
+pub mod Rules
+pub mod Serving
+pub mod Sound
+pub mod Sums
+pub mod Times
+pub mod Whole

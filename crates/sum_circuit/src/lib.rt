@@ -1,4 +1,0 @@
-//! The circuit of a sum.
-#![tactic(auto)]
-
-pub mod circuit;

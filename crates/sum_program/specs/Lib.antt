@@ -1,2 +1,0 @@
-pub mod SumForm
-pub mod SumMeaning
