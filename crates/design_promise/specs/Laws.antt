@@ -1,28 +1,21 @@
 -- The circuits that sources without faults are compiled to.
-use Rattle.std.specs.Prelude.{◌≡◌, ℕ, Bool, List, ◌++◌, codes, Some, slice_get}
+use Rattle.std.specs.Prelude.{◌≡◌, ℕ, Bool, List, Some, slice_get}
 use Rattle.hls_base.specs.declared.settings.Settings.{Settings}
 use Rattle.hls_base.specs.declared.settings.Units.{Units}
 use Rattle.c_tree.specs.Tree.{FunctionTree, ProgramTree}
-use Rattle.c_meaning.specs.Run.{function_at, first_contents}
-use Rattle.c_box.specs.CAnswers.{c_answers}
-use Rattle.cosim_pins.specs.FunctionPins.{interface_of}
+use Rattle.c_meaning.specs.Run.{function_at}
 use Rattle.ir_core.specs.declared.cfg.Cfg.{Cfg}
 use Rattle.ir_core.specs.declared.stamp.Untimed.{Untimed}
 use Rattle.ir_lower.specs.Frames.{frame_view}
 use Rattle.clock_ir.specs.declared.timed.Timed.{Timed}
 use Rattle.rtl_core.specs.Netlist.{Netlist}
-use Rattle.rtl_core.specs.Agreement.{Agrees}
 use Rattle.cycle_report.specs.PlainReport.{PlainLoop, PlainReport}
 use Rattle.compile_steps.specs.Flat.{IsFlatOf}
 use Rattle.compile_steps.specs.Resets.{expanded_frame}
 use Rattle.compile_steps.specs.Reports.{IsTimed, IsReportOf}
 use Rattle.compile_flow.specs.Circuits.{HasCircuit}
 use Rattle.source_runs.specs.Laws.{IsFaultless, expanded}
-
--- the circuit is named as its top function, and agrees with the box of the C function, with the answers of C in the cycles of the report
-pub record KeepsPromise (p : ProgramTree) (top : ℕ) (name : List ℕ) (function : FunctionTree) (report : PlainReport) (d : Netlist) : Type 0 where
-  pub named : d.name ≡ codes "hls_" ++ name
-  pub agrees : Agrees d (interface_of function) report.init (first_contents p) (c_answers p top report)
+use Rattle.design_promise.specs.Promise.{KeepsPromise}
 
 -- Of a source without faults, with this top function: what its program with times is built as keeps the promise with the report of this program.
 abbrev pub DesignsKeepPromise : Type 0

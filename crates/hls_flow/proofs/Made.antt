@@ -16,10 +16,11 @@ use Rattle.source_runs.specs.Laws.{IsFaultless}
 use Rattle.compiled_answers.specs.Laws.{AnswersAlways}
 use Rattle.compiled_answers.proofs.Whole.{answer}
 use Rattle.c_meaning.specs.Run.{function_at}
-use Rattle.design_promise.specs.Laws.{KeepsPromise}
+use Rattle.design_promise.specs.Promise.{KeepsPromise}
 use Rattle.design_promise.proofs.Whole.{promise_kept}
 use Rattle.hls_flow.specs.FirstFault.{IsAccepted}
-use Rattle.hls_flow.specs.Synthesis.{IsScheduledReport, HasScheduledCircuit, HasScheduledTexts, IsSynthesis}
+use Rattle.hls_flow.specs.Synthesis.{IsScheduledReport, IsSynthesis}
+use Rattle.hls_flow.specs.Made.{HasScheduledCircuit, HasScheduledTexts}
 use Rattle.hls_flow.proofs.Faults.{accepted_has_no_fault}
 
 abbrev pub accepted_of : (source top : List ℕ) (p : ProgramTree) (index : ℕ) → IsTheProgramOf source p → program_faults p top ≡ [] → top_name p index ≡ Some top

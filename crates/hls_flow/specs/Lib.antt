@@ -1,6 +1,7 @@
 pub mod FirstFault
 pub mod Laws
 pub mod Synthesis
+pub mod Made
 pub mod Clocked
 pub mod Verdicts
 pub mod Comparing

@@ -18,7 +18,7 @@ use Rattle.soak_text.specs.SoakProgram.{program_text, elements, argument, count_
 use Rattle.checked_source.specs.Sources.{IsTheProgramOf}
 use Rattle.c_elaborate.specs.Programs.{program_elaborated}
 use Rattle.c_expand.specs.Expansion.{expansion, expanded_weight}
-use Rattle.design_promise.specs.Laws.{KeepsPromise}
+use Rattle.design_promise.specs.Promise.{KeepsPromise}
 use Rattle.hls_flow.specs.FirstFault.{IsAccepted, expansion_of}
 use Rattle.hls_flow.specs.Synthesis.{IsScheduledReport}
 use Rattle.hls_flow.specs.declared.soak.Summary.{Summary}

@@ -16,7 +16,6 @@ use Rattle.ir_lower.specs.Frames.{frame_view}
 use Rattle.compile_steps.specs.Flat.{IsFlatOf}
 use Rattle.compile_steps.specs.Resets.{expanded_frame, AreAddressable, reset_cycles}
 use Rattle.compile_steps.specs.Reports.{allowed_units, IsTimed, EachNodeCounts, ReportsDesign, IsReportOf, KeepsSettings}
-use Rattle.compile_flow.specs.Circuits.{HasCircuit}
 use Rattle.compiled_answers.specs.Laws.{AnswersAlways}
 use Rattle.cosim_pins.specs.FunctionPins.{interface_of}
 use Rattle.c_box.specs.CAnswers.{c_answers}
@@ -56,16 +55,6 @@ pub record IsScheduledReport (settings : Settings) (expanded : ExpandedTree) (re
   pub is_timed : IsTimed (allowed_units settings) untimed timed report.loops
   pub reported : IsReportOf report settings timed design
   pub longer : EachNodeCounts timed.nodes.items report
-
--- the report is that of an expanded program with times, and the circuit is built for it
-pub record HasScheduledCircuit (settings : Settings) (expanded : ExpandedTree) (report : PlainReport) (design : Netlist) : Type 0 where
-  pub scheduled : IsScheduledReport settings expanded report design
-  pub circuit : HasCircuit scheduled.timed design
-
--- texts of such a circuit and of such a report
-pub record HasScheduledTexts (settings : Settings) (expanded : ExpandedTree) (module_bytes report_bytes : List ℕ) : Type 0 where
-  pub texts : HasTexts settings module_bytes report_bytes
-  pub made : HasScheduledCircuit settings expanded texts.report texts.design
 
 -- What a synthesis gives: the source is accepted, so that it has no fault, and both files have their texts. The module is a circuit that agrees with the C program, for every power-up and every list of pin values after a reset: a run raises `done` in exactly the cycle that the report's formula gives for it, with its result, its final arrays and its file-scope contents. The report is that of the expanded program with times, whose clocked runs answer what the runs in C answer, in these cycles.
 pub record IsSynthesis (source : List ℕ) (settings : Settings) (module_bytes report_bytes : List ℕ) : Type 0 where

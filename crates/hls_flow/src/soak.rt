@@ -7,7 +7,7 @@ ghost use Rattle.rtl_core.specs.Valid.{IsValid};
 ghost use Rattle.cycle_report.specs.PlainReport.{plain_of};
 ghost use Rattle.cosim_pins.specs.FunctionPins.{interface_of, plain};
 ghost use Rattle.cosim_pins.specs.ModuleRun.{module_run};
-ghost use Rattle.hls_flow.specs.Synthesis.{HasScheduledCircuit};
+ghost use Rattle.hls_flow.specs.Made.{HasScheduledCircuit};
 ghost use Rattle.hls_flow.specs.SoakRun.{most, soak_settings, IsCompiled, IsAgreedRun, IsSoakRun};
 
 use crate::machines::clocked_steps;

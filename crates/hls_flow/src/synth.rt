@@ -3,7 +3,8 @@ ghost use Rattle.hls_base.specs.Refusals.{IfRefused};
 ghost use Rattle.hls_base.specs.declared.refusal.Refusal.{Refusal};
 ghost use Rattle.pieces.specs.Program.{expanded_of};
 ghost use Rattle.hls_flow.specs.FirstFault.{IsFirstFault};
-ghost use Rattle.hls_flow.specs.Synthesis.{AreInRange, HasScheduledTexts, IsSynthesis};
+ghost use Rattle.hls_flow.specs.Synthesis.{AreInRange, IsSynthesis};
+ghost use Rattle.hls_flow.specs.Made.{HasScheduledTexts};
 
 use checked_source::read::read_checked;
 use compile_flow::compile::compile_expanded;

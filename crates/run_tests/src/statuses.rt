@@ -6,7 +6,7 @@ use std::test::Fail;
 const SUM: &[u8] = b"unsigned f(unsigned a,\n unsigned b) { return b+a; }\n";
 
 const REPORT: &[u8] =
-    b"hls-report 1\ntop f\nsettings mul 1 div 1 ports 1 plain 0\nbase 1\ncost 2 begin 1:10 -\nunits mul32 0 mul64 0 div32 0 div64 0\nregisters 4\nend\n";
+    b"hls-report 1\ntop f\nsettings mul 1 div 1 ports 1 plain 0\nbase 1\ncost 2 begin 1:10 -\nunits mul32 0 mul64 0 div32 0 div64 0\nregisters 8\nend\n";
 
 const LOOP: &[u8] = b"int f(int n){int s=0; for(int i=0;i<n;i++) s=s+i; return s;}";
 

@@ -7,7 +7,7 @@ use Rattle.pieces.specs.Program.{expanded_of}
 use Rattle.rtl_core.specs.Netlist.{netlist_of}
 use Rattle.cycle_report.specs.PlainReport.{plain_of}
 use Rattle.hls_base.specs.declared.settings.Settings.{Settings}
-use Rattle.hls_flow.specs.Synthesis.{HasScheduledCircuit}
+use Rattle.hls_flow.specs.Made.{HasScheduledCircuit}
 use Rattle.hls_flow.specs.SoakRun.{soak_settings}
 use Rattle.hls_flow.proofs.Made.{promise_of}
 use Rattle.hls_flow.proofs.soak.compiled.Goals as goal

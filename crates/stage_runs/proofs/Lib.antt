@@ -1,0 +1,4 @@
+mod Lowered
+mod Ending
+mod Refusing
+mod WholeStages

@@ -1,0 +1,4 @@
+pub mod Stages
+pub mod Agreement
+pub mod Asking
+pub mod Whole

@@ -1,0 +1,19 @@
+//! Laws of the stages of a source.
+ghost use Rattle.stage_runs.specs.Whole.{SourcesHaveWholeStages};
+
+use layout_runs::laws::layout_is_whole;
+use source_machines::laws::source_frames_are_named;
+use source_types::laws::sources_have_fine_pieces;
+use whole_trees::laws::{converted_is_there, lowered_is_there, numbered_is_there};
+
+/// The programs of the stages of a source without faults set variables and take memories that they have.
+pub fn sources_have_whole_stages()
+    ensures { SourcesHaveWholeStages }
+{
+    layout_is_whole();
+    lowered_is_there();
+    numbered_is_there();
+    converted_is_there();
+    sources_have_fine_pieces();
+    source_frames_are_named();
+}

@@ -1,0 +1,13 @@
+//! The stages of a program in the middle of the compiler are run, operation by operation, and compared with the run in C.
+#![tactic(auto)]
+
+mod comparison;
+pub mod laws;
+mod lines;
+pub mod run;
+mod running;
+pub mod runs;
+pub mod stage;
+pub mod start;
+mod steps;
+mod trees;

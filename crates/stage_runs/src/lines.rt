@@ -1,0 +1,117 @@
+//! The lines that tell of the stages of a program.
+ghost use Rattle.std.specs.Prelude.{◌≡◌, IfOk};
+ghost use Rattle.std.specs.List.{All};
+ghost use Rattle.stage_runs.specs.Agreement.{Agrees};
+
+use crate::comparison::first_difference;
+use crate::stage::{Stage, StageFault, StageName, StageRuns};
+use hls_base::words::Words;
+use std::alloc::{AllocError, Global};
+
+/// How many elements of an array are shown.
+const SHOWN: usize = 4;
+
+fn stage_word(name: StageName) -> &'static str {
+    match name {
+        StageName::Lowered => "lowered",
+        StageName::Numbered => "numbered",
+        StageName::Converted => "converted",
+    }
+}
+
+/// Adds the first elements of an array, and two points where it has more.
+fn push_words(alloc: Global, lines: &mut Vec<u8>, words: &[u64]) -> Result<(), AllocError> {
+    for word in &words[..words.len().min(SHOWN)] {
+        lines.extend_from_slice(format!(in alloc; " {word}")?.as_bytes())?;
+    }
+    if words.len() > SHOWN {
+        lines.extend_from_slice(b" ..")?;
+    }
+    Ok(())
+}
+
+fn push_arrays(alloc: Global, lines: &mut Vec<u8>, arrays: &[Words]) -> Result<(), AllocError> {
+    for words in arrays {
+        lines.extend_from_slice(b" array")?;
+        push_words(alloc, lines, words.items())?;
+    }
+    Ok(())
+}
+
+fn result_word(alloc: Global, ret: Option<u64>) -> Result<String, AllocError> {
+    match ret {
+        Some(word) => format!(in alloc; "{word}"),
+        None => format!(in alloc; "-"),
+    }
+}
+
+/// Adds the line of a stage: its name, its steps, its result, and the first elements of its arrays.
+fn push_stage(alloc: Global, lines: &mut Vec<u8>, stage: &Stage) -> Result<(), AllocError> {
+    let name = stage_word(stage.name);
+    let steps = stage.steps;
+    let ret = result_word(alloc, stage.ret)?;
+    let line = format!(in alloc; "{name} steps {steps} ret {ret}")?;
+    lines.extend_from_slice(line.as_bytes())?;
+    push_arrays(alloc, lines, stage.arrays.items())?;
+    lines.push(b'\n')?;
+    Ok(())
+}
+
+fn push_stages(alloc: Global, lines: &mut Vec<u8>, stages: &[Stage]) -> Result<(), AllocError> {
+    for stage in stages {
+        push_stage(alloc, lines, stage)?;
+    }
+    Ok(())
+}
+
+/// The status of a comparison, and its lines.
+#[derive(Debug, Drop)]
+pub struct Answer {
+    pub status: u8,
+    pub lines: Vec<u8>,
+}
+
+/// Tells of each stage, and whether they agree with the run in C.
+pub fn told(alloc: Global, runs: &StageRuns) -> Result<Answer, AllocError>
+    ensures { IfOk result (λ a. a.status ≡ 0 → All (Agrees runs.now.ended) runs.now.stages.items) }
+{
+    let mut lines = Vec::new(alloc);
+    push_stages(alloc, &mut lines, runs.stages.as_slice())?;
+    match first_difference(runs) {
+        None => {
+            lines.extend_from_slice(b"agree\n")?;
+            Ok(Answer { status: 0, lines })
+        }
+        Some(name) => {
+            let name = stage_word(name);
+            lines.extend_from_slice(format!(in alloc; "differ {name}\n")?.as_bytes())?;
+            Ok(Answer { status: 5, lines })
+        }
+    }
+}
+
+/// Tells why nothing was compared.
+pub fn told_fault(alloc: Global, fault: StageFault) -> Result<Answer, AllocError>
+    ensures { IfOk result (λ a. a.status ≡ 0 → ⊥) }
+{
+    match fault {
+        StageFault::Refused(refusal) => {
+            let rule = refusal.rule;
+            let place = refusal.place;
+            let line = format!(in alloc; "rule {rule} at {place}\n")?;
+            Ok(Answer {
+                status: 1,
+                lines: line.into_bytes(),
+            })
+        }
+        StageFault::Line(line) => Ok(Answer {
+            status: 7,
+            lines: format!(in alloc; "run line {line}\n")?.into_bytes(),
+        }),
+        StageFault::Unended => Ok(Answer {
+            status: 6,
+            lines: Vec::from_slice(alloc, b"no end in c\n")?,
+        }),
+        StageFault::Memory => Err(AllocError),
+    }
+}
