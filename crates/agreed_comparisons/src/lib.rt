@@ -1,0 +1,4 @@
+//! What a comparison comes to where the module agrees with the program.
+#![tactic(auto)]
+
+pub mod laws;

@@ -1,0 +1,11 @@
+pub mod Places
+pub mod Rows
+pub mod Standing
+pub mod Waiting
+pub mod Serving
+pub mod Beginning
+pub mod Showing
+pub mod Functions
+pub mod Ends
+pub mod Differences
+pub mod Whole
