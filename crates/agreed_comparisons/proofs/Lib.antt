@@ -1,1 +1,3 @@
+pub mod OneCircuit
 pub mod Whole
+pub mod Found

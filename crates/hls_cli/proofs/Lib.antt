@@ -1,3 +1,4 @@
 pub mod OneLine
+pub mod Comparable
 pub mod RunEnds
 pub mod WrittenFiles

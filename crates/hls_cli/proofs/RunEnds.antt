@@ -16,8 +16,11 @@ use Rattle.hls_cli.specs.Lines.{fault_line, memory_line, usage_line}
 use Rattle.hls_cli.specs.Words.{IsSynth, IsCosim, IsSoak, IsUsage, IsComparison}
 use Rattle.hls_cli.specs.Work as work
 use Rattle.hls_cli.specs.Work.{IsSynthWork, IsVerdictStatus}
-use Rattle.hls_cli.specs.SynthRun.{IsSourceOf, SameFiles, IsRefused, IsStopped, PutsCutLine, Outside, RanToModule, RanToRefusal, RanToUsage, RanToVerdict, IsCutOff, HasFault, IsComplete}
+use Rattle.hls_cli.specs.SynthRun.{IsSourceOf, SameFiles, IsRefused, IsStopped, PutsCutLine, Outside, RanToModule, RanToRefusal, RanToUsage, RanToVerdict, IsCutOff, HasFault}
 use Rattle.hls_cli.specs.SynthRun as run
+use Rattle.hls_cli.specs.Completeness.{IsComplete}
+use Rattle.hls_cli.specs.Completeness as complete
+use Rattle.hls_cli.proofs.Comparable.{all_there, comparable_agrees}
 
 pub same_files : (old new : Option Files) → new ≡ old → WhereTold SameFiles old new
 same_files old new e = subst (λ n. WhereTold SameFiles old n) (sym e) (WhereTold-same SameFiles old old refl (λ x name. refl))
@@ -27,14 +30,13 @@ same_files old new e = subst (λ n. WhereTold SameFiles old n) (sym e) (WhereTol
 one_command : (words : List (List ℕ)) (c d : Synth) → IsSynth words c → IsSynth words d → d ≡ c
 one_command words c d first second = let e : Some (command.synth d) ≡ Some (command.synth c) = sym second ∙ first in cc
 
-no_cosim : (words : List (List ℕ)) (c : Cosim) (old : Option Files) → IsCosim words c → IsComplete words old → ⊥
-no_cosim words c old is complete = let e : Some (command.synth complete.command) ≡ Some (command.cosim c) = sym complete.is ∙ is in cc
-
-no_soak : (words : List (List ℕ)) (n : ℕ) (old : Option Files) → IsSoak words n → IsComplete words old → ⊥
-no_soak words n old is complete = let e : Some (command.synth complete.command) ≡ Some (command.soak n) = sym complete.is ∙ is in cc
+one_comparison : (words : List (List ℕ)) (c d : Cosim) → IsCosim words c → IsCosim words d → c ≡ d
+one_comparison words c d first second = let e : Some (command.cosim c) ≡ Some (command.cosim d) = sym first ∙ second in cc
 
 no_usage : (words : List (List ℕ)) (old : Option Files) → IsUsage words → IsComplete words old → ⊥
-no_usage words old is complete = let e : Some (command.synth complete.command) ≡ None = sym complete.is ∙ is in cc
+no_usage words old is (complete.of_synth c files it told can) = let e : Some (command.synth c) ≡ None = sym it ∙ is in cc
+no_usage words old is (complete.of_cosim c files it told can) = let e : Some (command.cosim c) ≡ None = sym it ∙ is in cc
+no_usage words old is (complete.of_soak n it) = let e : Some (command.soak n) ≡ None = sym it ∙ is in cc
 
 -- ---- an accepted source is refused by no status
 
@@ -57,18 +59,40 @@ refused_told c files s fault None is accepted told = told
 refused_told c files s fault (Some new) is accepted told = not_both c files told.source s fault told.source_is is told.first_fault accepted
 
 never_refused : (words : List (List ℕ)) (c : Synth) (fault : Refusal) (old new : Option Files) → IsSynth words c → WhereTold (IsRefused c fault) old new → IsComplete words old → ⊥
-never_refused words c fault old new is refused complete =
-    let same : c ≡ complete.command = one_command words complete.command c complete.is is in
-    let here : WhereTold (IsRefused complete.command fault) old new = subst (λ d. WhereTold (IsRefused d fault) old new) same refused in
-    let told : WhereTold (IsRefused complete.command fault) (Some complete.files) new = subst (λ f. WhereTold (IsRefused complete.command fault) f new) complete.told here in
-    refused_told complete.command complete.files complete.source fault new complete.source_is complete.accepted told
+never_refused words c fault old new is refused (complete.of_synth d files it told can) =
+    let same : c ≡ d = one_command words d c it is in
+    let here : WhereTold (IsRefused d fault) old new = subst (λ x. WhereTold (IsRefused x fault) old new) same refused in
+    refused_told d files can.source fault new can.source_is can.accepted (subst (λ f. WhereTold (IsRefused d fault) f new) told here)
+never_refused words c fault old new is refused (complete.of_cosim d files it told can) = let e : Some (command.cosim d) ≡ Some (command.synth c) = sym it ∙ is in cc
+never_refused words c fault old new is refused (complete.of_soak n it) = let e : Some (command.soak n) ≡ Some (command.synth c) = sym it ∙ is in cc
 
 absent_source : (words : List (List ℕ)) (c : Synth) (old : Option Files) → IsSynth words c → IsAbsent old c.source → IsComplete words old → ⊥
-absent_source words c old is absent complete =
-    let same : c ≡ complete.command = one_command words complete.command c complete.is is in
-    let there : IsAbsent (Some complete.files) complete.command.source = subst (λ f. IsAbsent f complete.command.source) complete.told (subst (λ d. IsAbsent old d.source) same absent) in
-    let e : None ≡ Some complete.source_is.whole = sym there ∙ complete.source_is.found in
+absent_source words c old is absent (complete.of_synth d files it told can) =
+    let same : c ≡ d = one_command words d c it is in
+    let there : IsAbsent (Some files) d.source = subst (λ f. IsAbsent f d.source) told (subst (λ x. IsAbsent old x.source) same absent) in
+    let e : None ≡ Some can.source_is.whole = sym there ∙ can.source_is.found in
     cc
+absent_source words c old is absent (complete.of_cosim d files it told can) = let e : Some (command.cosim d) ≡ Some (command.synth c) = sym it ∙ is in cc
+absent_source words c old is absent (complete.of_soak n it) = let e : Some (command.soak n) ≡ Some (command.synth c) = sym it ∙ is in cc
+
+-- ---- files that agree are found to agree
+
+cosim_absent : (words : List (List ℕ)) (c : Cosim) (old : Option Files) → IsCosim words c
+    → IsAbsent old c.source ⊎ (IsAbsent old c.module_file ⊎ (IsAbsent old c.report ⊎ IsAbsent old c.run)) → IsComplete words old → ⊥
+cosim_absent words c old is absent (complete.of_synth d files it told can) = let e : Some (command.synth d) ≡ Some (command.cosim c) = sym it ∙ is in cc
+cosim_absent words c old is absent (complete.of_soak n it) = let e : Some (command.soak n) ≡ Some (command.cosim c) = sym it ∙ is in cc
+cosim_absent words c old is absent (complete.of_cosim d files it told can) =
+    let same : c ≡ d = one_comparison words c d is it in
+    all_there d files can.given can.given_is
+    (subst (λ f. IsAbsent f d.source ⊎ (IsAbsent f d.module_file ⊎ (IsAbsent f d.report ⊎ IsAbsent f d.run))) told
+    (subst (λ x. IsAbsent old x.source ⊎ (IsAbsent old x.module_file ⊎ (IsAbsent old x.report ⊎ IsAbsent old x.run))) same absent))
+
+cosim_completes : (words : List (List ℕ)) (c : Cosim) (old : Option Files) (n : ℕ) (lines : List ℕ) → IsCosim words c → IsCosimWork c old n lines → IsComplete words old → n ≡ 0
+cosim_completes words c old n lines is work (complete.of_synth d files it told can) = let e : Some (command.synth d) ≡ Some (command.cosim c) = sym it ∙ is in absurd cc
+cosim_completes words c old n lines is work (complete.of_soak m it) = let e : Some (command.soak m) ≡ Some (command.cosim c) = sym it ∙ is in absurd cc
+cosim_completes words c old n lines is work (complete.of_cosim d files it told can) =
+    let same : c ≡ d = one_comparison words c d is it in
+    comparable_agrees d files n lines can (subst (λ f. IsCosimWork d f n lines) told (subst (λ x. IsCosimWork x old n lines) same work))
 
 -- ---- what one status says
 
@@ -198,35 +222,40 @@ module _ (words : List (List ℕ)) (old new : Seen) where
 
   -- ---- comparisons
 
+  -- what nothing is wrong with ends with status 0
+  abbrev EndsWell : ℕ → Type 0
+  EndsWell n = IsComplete words old.files → n ≡ 0
+
   -- the status is that of a verdict
-  ends_verdict : (n : ℕ) → IsVerdictStatus n → RanToVerdict words n (between old new) → Hopeless → Ends words old new n
-  ends_verdict n (inl zero) ran never = subst (Ends words old new) (sym zero) (ends_made (inr (subst (λ k. RanToVerdict words k (between old new)) zero ran)))
-  ends_verdict n (inr (inl one)) ran never = subst (Ends words old new) (sym one) (ends_refused (inr (subst (λ k. RanToVerdict words k (between old new)) one ran)) never)
-  ends_verdict n (inr (inr (high, low))) ran never = ends_compared n high low ran never
+  ends_verdict : (n : ℕ) → IsVerdictStatus n → RanToVerdict words n (between old new) → EndsWell n → Ends words old new n
+  ends_verdict n (inl zero) ran well = subst (Ends words old new) (sym zero) (ends_made (inr (subst (λ k. RanToVerdict words k (between old new)) zero ran)))
+  ends_verdict n (inr (inl one)) ran well =
+      subst (Ends words old new) (sym one) (ends_refused (inr (subst (λ k. RanToVerdict words k (between old new)) one ran)) (λ it. omega (arith, one, well it)))
+  ends_verdict n (inr (inr (high, low))) ran well = ends_compared n high low ran (λ it. omega (arith, high, well it))
 
   verdict_cut : (n : ℕ) (put lines last : List ℕ) → IsComparisonAnswer words old.files n lines → put ≡ lines → new.files ≡ old.files → WhereTold (PutsCutLine put last) old.bytes new.bytes
       → IsCutOff words last (between old new)
   verdict_cut n put lines last answer e same bytes =
       run.at_comparison n put (subst (IsComparisonAnswer words old.files n) (sym e) answer) (same_files old.files new.files same) bytes
 
-  verdict_ends : (n : ℕ) (put lines : List ℕ) (status : ℕ) → IsVerdictStatus n → IsComparisonAnswer words old.files n lines → put ≡ lines → new.files ≡ old.files → Hopeless
+  verdict_ends : (n : ℕ) (put lines : List ℕ) (status : ℕ) → IsVerdictStatus n → IsComparisonAnswer words old.files n lines → put ≡ lines → new.files ≡ old.files → EndsWell n
       → IsFinish n put old.bytes new.bytes old.sink_faults new.sink_faults status → Ends words old new status
-  verdict_ends n put lines status is answer e same never (done kept bytes) =
+  verdict_ends n put lines status is answer e same well (done kept bytes) =
       subst (Ends words old new) (sym kept)
       (ends_verdict n is
-      (record { lines = put; answer = subst (IsComparisonAnswer words old.files n) (sym e) answer; files = same_files old.files new.files same; bytes = bytes }) never)
-  verdict_ends n put lines status is answer e same never (failed three rose bytes) = ends_cut status three rose (verdict_cut n put lines fault_line answer e same bytes)
-  verdict_ends n put lines status is answer e same never (starved four bytes) = ends_cut_short status four (verdict_cut n put lines memory_line answer e same bytes)
+      (record { lines = put; answer = subst (IsComparisonAnswer words old.files n) (sym e) answer; files = same_files old.files new.files same; bytes = bytes }) well)
+  verdict_ends n put lines status is answer e same well (failed three rose bytes) = ends_cut status three rose (verdict_cut n put lines fault_line answer e same bytes)
+  verdict_ends n put lines status is answer e same well (starved four bytes) = ends_cut_short status four (verdict_cut n put lines memory_line answer e same bytes)
 
   pub cosim_ends : (c : Cosim) (n : ℕ) (put lines : List ℕ) (status : ℕ) → IsCosim words c → IsVerdictStatus n → IsCosimWork c old.files n lines → put ≡ lines → new.files ≡ old.files
       → IsFinish n put old.bytes new.bytes old.sink_faults new.sink_faults status → Ends words old new status
   cosim_ends c n put lines status is known it e same finish =
-      verdict_ends n put lines status known (comparisons.of_cosim c is it) e same (λ complete. no_cosim words c old.files is complete) finish
+      verdict_ends n put lines status known (comparisons.of_cosim c is it) e same (λ whole. cosim_completes words c old.files n lines is it whole) finish
 
   pub soak_ends : (number n : ℕ) (put lines : List ℕ) (status : ℕ) → IsSoak words number → n ≡ 0 → IsSoakWork number n lines → put ≡ lines → new.files ≡ old.files
       → IsFinish n put old.bytes new.bytes old.sink_faults new.sink_faults status → Ends words old new status
   soak_ends number n put lines status is zero it e same finish =
-      verdict_ends n put lines status (inl zero) (comparisons.of_soak number is it) e same (λ complete. no_soak words number old.files is complete) finish
+      verdict_ends n put lines status (inl zero) (comparisons.of_soak number is it) e same (λ whole. zero) finish
 
   -- the work of a comparison stopped before there was a line
   pub cosim_failed : (c : Cosim) (status : ℕ) → status ≡ 3 → IsCosim words c
@@ -234,10 +263,10 @@ module _ (words : List (List ℕ)) (old new : Seen) where
       → new.files ≡ old.files → WhereTold (PutsPrefix fault_line) old.bytes new.bytes → Ends words old new status
   cosim_failed c status e is (inl rose) same bytes =
       subst (Ends words old new) (sym e)
-      (ends_failed (inl rose) (run.uncompared (inl (c, is)) (same_files old.files new.files same) bytes) (λ it shelf sink. no_cosim words c old.files is it))
+      (ends_failed (inl rose) (run.uncompared (inl (c, is)) (same_files old.files new.files same) bytes) (λ it shelf sink. shelf rose))
   cosim_failed c status e is (inr absent) same bytes =
       subst (Ends words old new) (sym e)
-      (ends_failed (inr (inr (run.of_cosim c is absent))) (run.uncompared (inl (c, is)) (same_files old.files new.files same) bytes) (λ it shelf sink. no_cosim words c old.files is it))
+      (ends_failed (inr (inr (run.of_cosim c is absent))) (run.uncompared (inl (c, is)) (same_files old.files new.files same) bytes) (λ it shelf sink. cosim_absent words c old.files is absent it))
 
   pub comparison_starved : (status : ℕ) → status ≡ 4 → IsComparison words → new.files ≡ old.files → WhereTold (PutsPrefix memory_line) old.bytes new.bytes → Ends words old new status
   comparison_starved status e is same bytes = ends_cut_short status e (run.uncompared is (same_files old.files new.files same) bytes)

@@ -2,7 +2,8 @@
 use Rattle.std.specs.Prelude.{◌≡◌, ◌≤◌, ◌⊎◌, ℕ, List, Option}
 use Rattle.hls_base.specs.Outside.{Files, HasRisen, WhereTold, PutsAll}
 use Rattle.hls_cli.specs.Lines.{fault_line, memory_line}
-use Rattle.hls_cli.specs.SynthRun.{Outside, outside, RanToModule, RanToRefusal, RanToUsage, RanToVerdict, PutsCutLine, IsCutOff, HasFault, IsComplete}
+use Rattle.hls_cli.specs.Completeness.{IsComplete}
+use Rattle.hls_cli.specs.SynthRun.{Outside, outside, RanToModule, RanToRefusal, RanToUsage, RanToVerdict, PutsCutLine, IsCutOff, HasFault}
 
 -- what is seen of the shelf and the sink at one moment
 pub record Seen : Type 0 where

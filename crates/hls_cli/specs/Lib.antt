@@ -3,5 +3,6 @@ pub mod Lines
 pub mod VerdictLines
 pub mod Comparisons
 pub mod SynthRun
+pub mod Completeness
 pub mod Ends
 pub mod Work

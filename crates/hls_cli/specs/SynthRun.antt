@@ -2,7 +2,7 @@
 use Rattle.std.specs.Prelude.{◌≡◌, ◌≢◌, ◌⊎◌, ℕ, List, ◌++◌, take, Option, Some}
 use Rattle.hls_base.specs.declared.refusal.Refusal.{Refusal}
 use Rattle.hls_base.specs.Outside.{Files, HasRisen, WhereTold, IsAbsent, IsWritten, IsCutShort, PutsAll, PutsPrefix}
-use Rattle.hls_flow.specs.FirstFault.{IsAccepted, IsFirstFault}
+use Rattle.hls_flow.specs.FirstFault.{IsFirstFault}
 use Rattle.hls_flow.specs.Synthesis.{IsSynthesis}
 use Rattle.command_words.specs.Commands.{Synth, Cosim}
 use Rattle.hls_cli.specs.Comparisons.{IsComparisonAnswer}
@@ -114,13 +114,3 @@ pub data IsMissing (words : List (List ℕ)) (files : Option Files) : Type 0 whe
 abbrev pub HasFault : List (List ℕ) → Option Files → ℕ → ℕ → ℕ → ℕ → Type 0
 HasFault words old_files shelf_old shelf_new sink_old sink_new =
     HasRisen shelf_old shelf_new ⊎ (HasRisen sink_old sink_new ⊎ IsMissing words old_files)
-
--- the words are a command whose source is there and is accepted
-pub record IsComplete (words : List (List ℕ)) (old_files : Option Files) : Type 0 where
-  pub command : Synth
-  pub is : IsSynth words command
-  pub files : Files
-  pub told : old_files ≡ Some files
-  pub source : List ℕ
-  pub source_is : IsSourceOf command files source
-  pub accepted : IsAccepted source command.top

@@ -6,7 +6,8 @@ ghost use Rattle.command_words.specs.CommandViews.{synth_view, cosim_view, HasRa
 ghost use Rattle.hls_cli.specs.Ends.{seen, Ends, IsFinish};
 ghost use Rattle.hls_cli.specs.Lines.{fault_line, memory_line};
 ghost use Rattle.hls_cli.specs.Words.{IsSynth, IsCosim, IsSoak};
-ghost use Rattle.hls_cli.specs.SynthRun.{outside, RanToModule, RanToRefusal, RanToUsage, RanToVerdict, IsCutOff, HasFault, IsComplete};
+ghost use Rattle.hls_cli.specs.SynthRun.{outside, RanToModule, RanToRefusal, RanToUsage, RanToVerdict, IsCutOff, HasFault};
+ghost use Rattle.hls_cli.specs.Completeness.{IsComplete};
 
 use crate::lines::{FAULT, MEMORY, USAGE};
 use crate::work::{work_cosim, work_soak, work_synth};
@@ -30,7 +31,7 @@ pub fn run<F: Shelf, K: Sink>(alloc: Global, words: &[String], shelf: &mut F, ou
     ensures after_fault { result ≡ 3 → IsCutOff (map string_bytes words.now) fault_line (outside (F.files shelf.old) (F.files shelf.new) (K.written out.old) (K.written out.new)) }
     ensures after_memory { result ≡ 4 → IsCutOff (map string_bytes words.now) memory_line (outside (F.files shelf.old) (F.files shelf.new) (K.written out.old) (K.written out.new)) }
 
-    // A source that is accepted is compiled, unless a fault or want of memory comes.
+    // A source that is accepted is compiled, files that agree with it are found to agree, and a number is soaked, unless a fault or want of memory comes.
     ensures complete { IsComplete (map string_bytes words.now) (F.files shelf.old) → (¬ HasRisen (F.faults shelf.old) (F.faults shelf.new)) → (¬ HasRisen (K.faults out.old) (K.faults out.new)) → (result ≡ 0) ⊎ (result ≡ 4) }
 {
     answer(alloc, words, shelf, out)

@@ -4,5 +4,6 @@ pub mod Synthesis
 pub mod Made
 pub mod Clocked
 pub mod Verdicts
+pub mod Agreeing
 pub mod Comparing
 pub mod SoakRun
