@@ -15,6 +15,8 @@ use Rattle.compile_steps.specs.Reports.{allowed_units}
 use Rattle.source_runs.specs.Laws.{IsFaultless}
 use Rattle.compiled_answers.specs.Laws.{AnswersAlways}
 use Rattle.compiled_answers.proofs.Whole.{answer}
+use Rattle.long_runs.specs.Laws.{RunsAreLong}
+use Rattle.long_runs.proofs.Whole.{runs_long}
 use Rattle.c_meaning.specs.Run.{function_at}
 use Rattle.design_promise.specs.Promise.{KeepsPromise}
 use Rattle.design_promise.proofs.Whole.{promise_kept}
@@ -56,6 +58,9 @@ answers_always : (source : List ℕ) (settings : Settings) (p : ProgramTree) (in
 answers_always source settings p index the faultless named report d s =
     answer source p index settings.top (faultless_source source settings.top p index the faultless named) settings.plain s.untimed s.flat (allowed_units settings) s.timed report.loops s.is_timed s.frame report.rows s.reported.rows
 
+pub runs_are_long : (settings : Settings) (p : ProgramTree) (index : ℕ) (report : PlainReport) (d : Netlist) → top_name p index ≡ Some settings.top → IsScheduledReport settings (expansion (program_elaborated p index)) report d → RunsAreLong p index report
+runs_are_long settings p index report d named s = runs_long p index settings.top named settings.plain s.untimed s.flat (allowed_units settings) s.timed report.loops s.is_timed report s.longer
+
 pub synthesis : (source : List ℕ) (settings : Settings) (p : ProgramTree) (index : ℕ) (e : ExpandedTree) (m r : List ℕ) → IsTheProgramOf source p → program_faults p settings.top ≡ []
     → top_name p index ≡ Some settings.top → expanded_weight (program_elaborated p index) ≤ 8192 → e ≡ expansion (program_elaborated p index) → HasScheduledTexts settings e m r → IsSynthesis source settings m r
 synthesis source settings p index e m r the faultless named within same made =
@@ -72,4 +77,5 @@ synthesis source settings p index e m r the faultless named within same made =
       agrees = promise.agrees;
       scheduled = all.made.scheduled;
       answers = answers_always source settings p index the faultless named t.report t.design all.made.scheduled;
+      long = runs_are_long settings p index t.report t.design named all.made.scheduled;
     }

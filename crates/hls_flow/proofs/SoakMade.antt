@@ -9,7 +9,8 @@ use Rattle.rtl_core.specs.Netlist.{Netlist}
 use Rattle.cycle_report.specs.PlainReport.{PlainReport}
 use Rattle.soak_text.specs.SoakProgram.{program_text, elements, argument, count_products}
 use Rattle.hls_flow.specs.declared.soak.Summary.{Summary}
-use Rattle.hls_flow.specs.SoakRun.{IsCompiled, IsAgreedRun, IsSoakRun}
+use Rattle.hls_flow.specs.SoakRun.{soak_settings, IsCompiled, IsAgreedRun, IsSoakRun}
+use Rattle.hls_flow.proofs.Made.{runs_are_long}
 use Rattle.hls_flow.proofs.VerdictCases.{accepted_at}
 
 pub soak_run : (number : ℕ) (program : ProgramTree) (index : ℕ) (f : FunctionTree) (report : PlainReport) (circuit : Netlist) (final : Final) (count muls : ℕ)
@@ -23,6 +24,7 @@ soak_run number program index f report circuit final count muls made item body a
   circuit = circuit;
   scheduled = made.scheduled;
   promise = made.promise f (ap function_at item);
+  long = runs_are_long soak_settings program index report circuit made.named made.scheduled;
   final = final;
   agreed = subst (λ n. IsAgreedRun program index f (argument number ∷ []) (elements number ∷ []) report circuit final n) (sym counts.1) agreed;
   result = returned;

@@ -18,6 +18,7 @@ use Rattle.soak_text.specs.SoakProgram.{program_text, elements, argument, count_
 use Rattle.checked_source.specs.Sources.{IsTheProgramOf}
 use Rattle.c_elaborate.specs.Programs.{program_elaborated}
 use Rattle.c_expand.specs.Expansion.{expansion, expanded_weight}
+use Rattle.long_runs.specs.Laws.{RunsAreLong}
 use Rattle.design_promise.specs.Promise.{KeepsPromise}
 use Rattle.hls_flow.specs.FirstFault.{IsAccepted, expansion_of}
 use Rattle.hls_flow.specs.Synthesis.{IsScheduledReport}
@@ -48,7 +49,7 @@ pub record IsAgreedRun (program : ProgramTree) (index : ℕ) (f : FunctionTree) 
   pub run : module_run circuit (interface_of f) scalars arrays most ≡ Some shown
   pub same : first_difference f final.ret final.arrays count shown ≡ None
 
--- The program of the number is accepted, its circuit agrees with it, and its levels agree on the run with the inputs of the number. The summary has the lines that multiply, the cycles and the result.
+-- The program of the number is accepted, its circuit agrees with it, where each run that ends takes at least two cycles, and its levels agree on the run with the inputs of the number. The summary has the lines that multiply, the cycles and the result.
 pub record IsSoakRun (number : ℕ) (summary : Summary) : Type 0 where
   pub muls : summary.muls ≡ count_products number 40
   pub accepted : IsAccepted (program_text number) (codes "f")
@@ -56,6 +57,7 @@ pub record IsSoakRun (number : ℕ) (summary : Summary) : Type 0 where
   pub circuit : Netlist
   pub scheduled : IsScheduledReport soak_settings (expansion_of accepted) report circuit
   pub promise : KeepsPromise accepted.program accepted.index (codes "f") accepted.function report circuit
+  pub long : RunsAreLong accepted.program accepted.index report
   pub final : Final
   pub agreed : IsAgreedRun accepted.program accepted.index accepted.function (argument number ∷ []) (elements number ∷ []) report circuit final summary.cycles
   pub result : final.ret ≡ Some summary.ret

@@ -17,6 +17,7 @@ use Rattle.compile_steps.specs.Flat.{IsFlatOf}
 use Rattle.compile_steps.specs.Resets.{expanded_frame, AreAddressable, reset_cycles}
 use Rattle.compile_steps.specs.Reports.{allowed_units, IsTimed, EachNodeCounts, ReportsDesign, IsReportOf, KeepsSettings}
 use Rattle.compiled_answers.specs.Laws.{AnswersAlways}
+use Rattle.long_runs.specs.Laws.{RunsAreLong}
 use Rattle.cosim_pins.specs.FunctionPins.{interface_of}
 use Rattle.c_box.specs.CAnswers.{c_answers}
 use Rattle.hls_flow.specs.FirstFault.{IsFirstFault, IsAccepted, expansion_of}
@@ -56,7 +57,7 @@ pub record IsScheduledReport (settings : Settings) (expanded : ExpandedTree) (re
   pub reported : IsReportOf report settings timed design
   pub longer : EachNodeCounts timed.nodes.items report
 
--- What a synthesis gives: the source is accepted, so that it has no fault, and both files have their texts. The module is a circuit that agrees with the C program, for every power-up and every list of pin values after a reset: a run raises `done` in exactly the cycle that the report's formula gives for it, with its result, its final arrays and its file-scope contents. The report is that of the expanded program with times, whose clocked runs answer what the runs in C answer, in these cycles.
+-- What a synthesis gives: the source is accepted, so that it has no fault, and both files have their texts. The module is a circuit that agrees with the C program, for every power-up and every list of pin values after a reset: a run raises `done` in exactly the cycle that the report's formula gives for it, with its result, its final arrays and its file-scope contents, and no run that ends takes less than two cycles by this formula. The report is that of the expanded program with times, whose clocked runs answer what the runs in C answer, in these cycles.
 pub record IsSynthesis (source : List ℕ) (settings : Settings) (module_bytes report_bytes : List ℕ) : Type 0 where
   pub accepted : IsAccepted source settings.top
   pub no_fault : (fault : Refusal) → ¬ IsFirstFault source settings.top fault
@@ -65,3 +66,4 @@ pub record IsSynthesis (source : List ℕ) (settings : Settings) (module_bytes r
   pub agrees : Agrees texts.design (interface_of accepted.function) texts.report.init (first_contents accepted.program) (c_answers accepted.program accepted.index texts.report)
   pub scheduled : IsScheduledReport settings (expansion_of accepted) texts.report texts.design
   pub answers : AnswersAlways accepted.program accepted.index scheduled.timed texts.report.rows
+  pub long : RunsAreLong accepted.program accepted.index texts.report

@@ -1,0 +1,4 @@
+pub mod Places
+mod Beginning
+mod Nodes
+pub mod Whole
