@@ -1,5 +1,5 @@
 -- Bodies whose operations come behind those that they wait for.
-use Rattle.std.specs.Prelude.{◌≡◌, ℕ, suc, ◌+◌, ◌<◌, ◌≤◌, ◌^◌, true, List, [], ◌∷◌, Option, None, Some, IfSome}
+use Rattle.std.specs.Prelude.{◌≡◌, ℕ, suc, ◌<◌, ◌≤◌, ◌^◌, true, List, [], ◌∷◌, Option, None, Some, IfSome}
 use Rattle.std.specs.List.{All}
 use Rattle.hls_base.specs.declared.number.OpId.{OpId}
 use Rattle.ir_core.specs.declared.body.Body.{Body}

@@ -1,5 +1,5 @@
 -- Bodies of few operations, and the numbers that come of them.
-use Rattle.std.specs.Prelude.{◌≡◌, ◌≢◌, ℕ, ◌+◌, ◌*◌, ◌<◌, ◌≤◌, ◌^◌, pos, unsigned_abs, List, length, Option, Some, None}
+use Rattle.std.specs.Prelude.{◌≢◌, ℕ, ◌*◌, ◌<◌, ◌≤◌, ◌^◌, pos, unsigned_abs, List, length, Option, Some, None}
 use Rattle.std.specs.List.{All}
 use Rattle.ir_core.specs.declared.body.Body.{Body}
 use Rattle.ir_core.specs.declared.stamp.Untimed.{Untimed}

@@ -1,5 +1,5 @@
 //! Whether operations come behind those that they wait for.
-ghost use Rattle.std.specs.Prelude.{IsTrue, ◌<◌, ◌≤◌, length};
+ghost use Rattle.std.specs.Prelude.{◌↔◌, IsTrue};
 ghost use Rattle.std.specs.List.{All};
 ghost use Rattle.dep_graph.specs.ForwardBodies.{IsEarlier, IsForwardOperand, IsForwardOp, IsForwardBody};
 
@@ -17,7 +17,7 @@ const OP_LIMIT: usize = 1 << 25;
 const MAX_DISTANCE: u32 = 65_536;
 
 fn is_earlier(number: usize, op: Option<OpId>) -> bool
-    ensures { IsTrue result → IsEarlier number op }
+    ensures { IsTrue result ↔ IsEarlier number op }
 {
     match op {
         Some(op) => (op.0 as usize) < number,
@@ -26,14 +26,14 @@ fn is_earlier(number: usize, op: Option<OpId>) -> bool
 }
 
 fn is_forward_operand(number: usize, operand: Operand) -> bool
-    ensures { IsTrue result → IsForwardOperand number operand }
+    ensures { IsTrue result ↔ IsForwardOperand number operand }
 {
     let names_earlier = operand.distance > 0 || is_earlier(number, result_of(operand.value));
     names_earlier && operand.distance <= MAX_DISTANCE
 }
 
 fn are_forward_operands(number: usize, operands: &[Operand]) -> bool
-    ensures { IsTrue result → All (IsForwardOperand number) operands.now }
+    ensures { IsTrue result ↔ All (IsForwardOperand number) operands.now }
 {
     operands
         .iter()
@@ -41,7 +41,7 @@ fn are_forward_operands(number: usize, operands: &[Operand]) -> bool
 }
 
 fn is_forward_op(test: Option<Operand>, number: usize, op: &Op<Untimed>) -> bool
-    ensures { IsTrue result → IsForwardOp test number op.now }
+    ensures { IsTrue result ↔ IsForwardOp test number op.now }
 {
     if !are_forward_operands(number, op.args.as_slice()) {
         return false;
@@ -56,7 +56,7 @@ fn is_forward_op(test: Option<Operand>, number: usize, op: &Op<Untimed>) -> bool
 
 /// Whether the operations of a body come behind those that they wait for, and are few.
 pub fn is_forward(body: &Body<Untimed>) -> bool
-    ensures { IsTrue result → IsForwardBody body.now }
+    ensures { IsTrue result ↔ IsForwardBody body.now }
 {
     for (number, op) in body.ops.iter().enumerate() {
         if !is_forward_op(body.test, number, op) {
