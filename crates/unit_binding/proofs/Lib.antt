@@ -5,3 +5,4 @@ pub mod Dealing
 pub mod Requests
 pub mod Serving
 pub mod Leading
+pub mod EarlyTimes
