@@ -1,25 +1,15 @@
 //! The constraints of a block, each behind those that it builds on.
-ghost use Rattle.std.specs.Prelude.{◌≡◌, ◌+◌, ◌++◌, IfOk, OnOk, Ok};
+ghost use Rattle.std.specs.Prelude.{◌≡◌, ◌^◌, ◌++◌, IfOk, OnOk};
+ghost use Rattle.std.specs.List.{All};
 ghost use Rattle.std.specs.List.Sorted.{IsPermutation};
+ghost use Rattle.unit_binding.specs.Ranks.{IsOrderWithin};
 ghost use Rattle.unit_binding.specs.Times.{edge_constraints};
 ghost use Rattle.block_schedule.specs.Constraints.{order_constraints, unit_constraints, block_constraints};
 
 use dep_graph::edge::Edge;
 use diff_solve::solve::Constraint;
-use hls_base::refusal::impossible;
 use std::alloc::{AllocError, Global};
 use unit_binding::binding::{Binding, UnitOrder};
-
-/// The node of an operation.
-fn node(op: u32) -> Result<u32, AllocError>
-    ensures { IfOk result (λ n. n ≡ op + 1) }
-{
-    if op < u32::MAX {
-        Ok(op + 1)
-    } else {
-        Err(impossible())
-    }
-}
 
 /// The constraints of the edges within the block.
 fn edges_within(alloc: Global, edges: &[Edge]) -> Result<Vec<Constraint>, AllocError>
@@ -40,12 +30,13 @@ fn edges_within(alloc: Global, edges: &[Edge]) -> Result<Vec<Constraint>, AllocE
 
 /// Adds that a unit serves each of its operations after the one before.
 fn add_order(order: &UnitOrder, constraints: &mut Vec<Constraint>) -> Result<(), AllocError>
+    requires { IsOrderWithin (2 ^ 25) order.now }
     ensures { OnOk result (constraints.new.items ≡ constraints.old.items ++ order_constraints order.now.occupancy order.now.ops.items) }
 {
     for position in 1..order.ops.len() {
         constraints.push(Constraint {
-            from: node(order.ops[position - 1])?,
-            to: node(order.ops[position])?,
+            from: order.ops[position - 1] + 1,
+            to: order.ops[position] + 1,
             weight: i64::from(order.occupancy),
         })?;
     }
@@ -54,6 +45,7 @@ fn add_order(order: &UnitOrder, constraints: &mut Vec<Constraint>) -> Result<(),
 
 /// Adds the orders of units.
 fn add_orders(orders: &[UnitOrder], constraints: &mut Vec<Constraint>) -> Result<(), AllocError>
+    requires { All (IsOrderWithin (2 ^ 25)) orders.now }
     ensures { OnOk result (constraints.new.items ≡ constraints.old.items ++ unit_constraints orders.now) }
 {
     for order in orders {
@@ -91,6 +83,7 @@ pub fn constraints(
     edges: &[Edge],
     binding: &Binding,
 ) -> Result<Vec<Constraint>, AllocError>
+    requires { All (IsOrderWithin (2 ^ 25)) binding.now.orders.items }
     ensures { IfOk result (λ cs. IsPermutation (block_constraints edges.now binding.now.orders.items) cs.items) }
 {
     let mut constraints = edges_within(alloc, edges)?;

@@ -1,6 +1,9 @@
-ghost use Rattle.std.specs.Prelude.{◌≡◌, ◌+◌, ◌<◌, ◌≤◌, ◌^◌, ◌↔◌, ℕ, IsTrue, IfOk, length};
+ghost use Rattle.std.specs.Prelude.{◌≡◌, ◌+◌, ◌-◌, ◌<◌, ◌≤◌, ◌^◌, ℕ, IfOk, length};
 ghost use Rattle.std.specs.List.{All};
+ghost use Rattle.dep_graph.specs.Sizes.{IsSmallBody};
+ghost use Rattle.dep_graph.specs.ForwardBodies.{IsForwardEdge};
 ghost use Rattle.diff_solve.specs.Times.{Solves, IsBelowAll};
+ghost use Rattle.unit_binding.specs.Ranks.{AreForwardOrders};
 ghost use Rattle.block_schedule.specs.Constraints.{block_constraints};
 ghost use Rattle.block_schedule.specs.Schedules.{ready, IsThereBefore, EndIsReady, IsLongEnough, IsScheduled};
 
@@ -8,9 +11,8 @@ use crate::order::constraints;
 use body_times::copy::{end_copy, timed_body};
 use clock_ir::timed::Timed;
 use dep_graph::edge::Edge;
-use diff_solve::solve::{Solved, is_admissible, solve};
+use diff_solve::solve::{Solved, solve};
 use hls_base::number::NodeId;
-use hls_base::refusal::impossible;
 use hls_base::words::Words;
 use ir_core::body::{Body, Operand, Source};
 use ir_core::cfg::{Block, End};
@@ -19,19 +21,6 @@ use ir_operation::timing::latency;
 use std::alloc::{AllocError, Global};
 use unit_binding::binding::Binding;
 
-/// The greatest number of nodes.
-const MAX_NODES: usize = 1 << 26;
-
-/// All times are below this one.
-const TIME_LIMIT: u64 = 1 << 32;
-
-/// Whether all times are below the limit.
-fn are_early(times: &[u64]) -> bool
-    ensures { IsTrue result ↔ All (λ t. t < 2 ^ 32) times.now }
-{
-    times.iter().all(|time| *time < TIME_LIMIT)
-}
-
 /// The least time of each node.
 fn least_times(
     alloc: Global,
@@ -39,36 +28,27 @@ fn least_times(
     edges: &[Edge],
     binding: &Binding,
 ) -> Result<Words, AllocError>
+    requires few { ops < 2 ^ 25 }
+    requires edges { All (IsForwardEdge (ops + 1)) edges.now }
+    requires orders { AreForwardOrders ops edges.now binding.now.orders.items }
     ensures solves { IfOk result (λ times. Solves (ops + 1) (block_constraints edges.now binding.now.orders.items) times) }
     ensures least { IfOk result (λ times. IsBelowAll (ops + 1) (block_constraints edges.now binding.now.orders.items) times) }
-    ensures early { IfOk result (λ times. All (λ t. t < 2 ^ 32) times) }
+    ensures early { IfOk result (λ times. All (λ t. t ≤ 2 ^ 32 - 2 ^ 25) times) }
 {
-    if ops >= MAX_NODES {
-        return Err(impossible());
-    }
     let constraints = constraints(alloc, ops + 1, edges, binding)?;
     let nodes = ops as u32 + 1;
-    if !is_admissible(nodes, &constraints) {
-        return Err(impossible());
-    }
     match solve(alloc, nodes, &constraints)? {
-        Solved::Least(times) => {
-            if are_early(times.items()) {
-                Ok(times)
-            } else {
-                Err(impossible())
-            }
-        }
-        Solved::Cycle(_) => Err(impossible()),
+        Solved::Least(times) => Ok(times),
+        Solved::Cycle(_) => unreachable!(),
     }
 }
 
 /// The cycle from which the value of an operation is there.
 fn ready_time(body: &Body<Untimed>, times: &[u64], number: usize) -> u64
     requires long { length times.now ≡ length body.now.ops.items + 1 }
-    requires early { All (λ t. t < 2 ^ 32) times.now }
+    requires early { All (λ t. t ≤ 2 ^ 32 - 2 ^ 25) times.now }
     ensures value { result ≡ ready body.now.ops.items times.now number }
-    ensures small { result ≤ 2 ^ 33 }
+    ensures small { result + 1 < 2 ^ 32 }
 {
     if number < body.ops.len() {
         let op = &body.ops[number];
@@ -81,10 +61,11 @@ fn ready_time(body: &Body<Untimed>, times: &[u64], number: usize) -> u64
 /// The least length that has an operand there one cycle before the end.
 fn length_for(body: &Body<Untimed>, times: &[u64], operand: Operand) -> u64
     requires long { length times.now ≡ length body.now.ops.items + 1 }
-    requires early { All (λ t. t < 2 ^ 32) times.now }
+    requires early { All (λ t. t ≤ 2 ^ 32 - 2 ^ 25) times.now }
     ensures some { 1 ≤ result }
     ensures enough { IsThereBefore body.now.ops.items times.now operand result }
     ensures least { (len : ℕ) → 1 ≤ len → IsThereBefore body.now.ops.items times.now operand len → result ≤ len }
+    ensures small { result < 2 ^ 32 }
 {
     match operand.value {
         Source::Result(op) => ready_time(body, times, op.0 as usize) + 1,
@@ -95,10 +76,11 @@ fn length_for(body: &Body<Untimed>, times: &[u64], operand: Operand) -> u64
 /// The least length that has the cases there one cycle before the end.
 fn length_for_cases(body: &Body<Untimed>, times: &[u64], cases: &[(Operand, NodeId)]) -> u64
     requires long { length times.now ≡ length body.now.ops.items + 1 }
-    requires early { All (λ t. t < 2 ^ 32) times.now }
+    requires early { All (λ t. t ≤ 2 ^ 32 - 2 ^ 25) times.now }
     ensures some { 1 ≤ result }
     ensures enough { All (λ c. IsThereBefore body.now.ops.items times.now c.0 result) cases.now }
     ensures least { (len : ℕ) → 1 ≤ len → All (λ c. IsThereBefore body.now.ops.items times.now c.0 len) cases.now → result ≤ len }
+    ensures small { result < 2 ^ 32 }
 {
     let mut length = 1;
     for (operand, _) in cases {
@@ -110,10 +92,11 @@ fn length_for_cases(body: &Body<Untimed>, times: &[u64], cases: &[(Operand, Node
 /// The least length that has what the end uses there one cycle before.
 fn length_for_end(body: &Body<Untimed>, times: &[u64], end: &End) -> u64
     requires long { length times.now ≡ length body.now.ops.items + 1 }
-    requires early { All (λ t. t < 2 ^ 32) times.now }
+    requires early { All (λ t. t ≤ 2 ^ 32 - 2 ^ 25) times.now }
     ensures some { 1 ≤ result }
     ensures enough { EndIsReady body.now.ops.items times.now end.now result }
     ensures least { (len : ℕ) → 1 ≤ len → EndIsReady body.now.ops.items times.now end.now len → result ≤ len }
+    ensures small { result < 2 ^ 32 }
 {
     match end {
         End::Jump(_) | End::Return(None) => 1,
@@ -126,9 +109,10 @@ fn length_for_end(body: &Body<Untimed>, times: &[u64], end: &End) -> u64
 /// The least length of a block whose operations start at these times.
 fn least_length(block: &Block<Untimed>, times: &[u64]) -> u64
     requires long { length times.now ≡ length block.now.body.ops.items + 1 }
-    requires early { All (λ t. t < 2 ^ 32) times.now }
+    requires early { All (λ t. t ≤ 2 ^ 32 - 2 ^ 25) times.now }
     ensures enough { IsLongEnough block.now times.now result }
     ensures shortest { (len : ℕ) → IsLongEnough block.now times.now len → result ≤ len }
+    ensures small { result < 2 ^ 32 }
 {
     let mut length = length_for_end(&block.body, times, &block.end);
     for number in 0..block.body.ops.len() {
@@ -144,12 +128,13 @@ pub fn schedule(
     edges: &[Edge],
     binding: &Binding,
 ) -> Result<Block<Timed>, AllocError>
+    requires small { IsSmallBody block.now.body }
+    requires edges { All (IsForwardEdge (length block.now.body.ops.items + 1)) edges.now }
+    requires orders { AreForwardOrders (length block.now.body.ops.items) edges.now binding.now.orders.items }
     ensures { IfOk result (IsScheduled block.now edges.now binding.now) }
 {
     let times = least_times(alloc, block.body.ops.len(), edges, binding)?;
-    let Ok(length) = u32::try_from(least_length(block, times.items())) else {
-        return Err(impossible());
-    };
+    let length = least_length(block, times.items()) as u32;
     Ok(Block {
         point: block.point.copy(alloc)?,
         body: timed_body(alloc, &block.body, times.items(), &binding.unit_of)?,

@@ -1,2 +1,3 @@
 mod OtherKinds
 mod Lists
+pub mod ForwardEdges

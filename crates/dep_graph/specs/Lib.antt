@@ -1,3 +1,5 @@
 pub mod Offsets
 pub mod Meetings
 pub mod Dependences
+pub mod Sizes
+pub mod ForwardBodies

@@ -1,10 +1,11 @@
 //! At which distances two accesses of an array may meet.
-ghost use Rattle.std.specs.Prelude.{◌≡◌, ◌≤◌, IfOk, length, map, option_to_list};
+ghost use Rattle.std.specs.Prelude.{◌≡◌, ◌≢◌, ◌<◌, ◌≤◌, ◌^◌, pos, ◌-ℤ◌, unsigned_abs, IfOk, IfSome, length, map, option_to_list};
+ghost use Rattle.std.specs.List.{All};
 ghost use Rattle.dep_graph.specs.Meetings as spec;
+ghost use Rattle.dep_graph.specs.Sizes.{IsSmallBody, IsNear, AreNear, IsNearSubscript, IsOfSmallBody};
 
 use crate::counter::{Offset, Sum, offset_of};
 use hls_base::number::ArrayId;
-use hls_base::refusal::impossible;
 use ir_core::body::{Body, Op, OpKind, Operand, Source};
 use ir_core::stamp::Untimed;
 use std::alloc::{AllocError, Global};
@@ -40,7 +41,10 @@ fn subscript_of(
     operand: Operand,
     guard: Option<Operand>,
 ) -> Subscript
-    ensures { result ≡ spec.subscript_of body.now sums.now guard operand }
+    requires few { length sums.now ≤ 2 ^ 25 }
+    requires near { AreNear sums.now }
+    ensures value { result ≡ spec.subscript_of body.now sums.now guard operand }
+    ensures near { IsNearSubscript result }
 {
     if let Source::Constant(word) = operand.value {
         return Subscript::Constant(word);
@@ -68,7 +72,10 @@ fn subscripts_of(
     sums: &[Option<Sum>],
     op: &Op<Untimed>,
 ) -> Result<Vec<Subscript>, AllocError>
-    ensures { IfOk result (λ v. v.items ≡ spec.subscripts_of body.now sums.now op.now) }
+    requires few { length sums.now ≤ 2 ^ 25 }
+    requires near { AreNear sums.now }
+    ensures value { IfOk result (λ v. v.items ≡ spec.subscripts_of body.now sums.now op.now) }
+    ensures near { IfOk result (λ v. All IsNearSubscript v.items) }
 {
     let args = op.args.as_slice();
     let mut subscripts = Vec::new(alloc);
@@ -87,7 +94,7 @@ pub fn is_store(kind: OpKind) -> bool
     }
 }
 
-/// The access that an operation is, if it is one. There are fewer than 2^32 operations.
+/// The access that an operation is, if it is one.
 fn access_of(
     alloc: Global,
     body: &Body<Untimed>,
@@ -95,17 +102,18 @@ fn access_of(
     number: usize,
     op: &Op<Untimed>,
 ) -> Result<Option<Access>, AllocError>
-    ensures { IfOk result (λ access. map spec.reach (option_to_list access) ≡ spec.reach_of body.now sums.now number op.now op.now.array) }
+    requires number { number < 2 ^ 25 }
+    requires few { length sums.now ≤ 2 ^ 25 }
+    requires near { AreNear sums.now }
+    ensures value { IfOk result (λ access. map spec.reach (option_to_list access) ≡ spec.reach_of body.now sums.now number op.now op.now.array) }
+    ensures small { IfOk result (λ access. IfSome access IsOfSmallBody) }
 {
     let Some(array) = op.array else {
         return Ok(None);
     };
-    let Ok(index) = u32::try_from(number) else {
-        return Err(impossible());
-    };
     let subscripts = subscripts_of(alloc, body, sums, op)?;
     Ok(Some(Access {
-        op: index,
+        op: number as u32,
         array,
         is_store: is_store(op.kind),
         subscripts,
@@ -118,7 +126,11 @@ pub fn accesses_of(
     body: &Body<Untimed>,
     sums: &[Option<Sum>],
 ) -> Result<Vec<Access>, AllocError>
-    ensures { IfOk result (λ v. map spec.reach v.items ≡ spec.reaches_from body.now sums.now 0 body.now.ops.items) }
+    requires small { IsSmallBody body.now }
+    requires few { length sums.now ≤ 2 ^ 25 }
+    requires near { AreNear sums.now }
+    ensures value { IfOk result (λ v. map spec.reach v.items ≡ spec.reaches_from body.now sums.now 0 body.now.ops.items) }
+    ensures small { IfOk result (λ v. All IsOfSmallBody v.items) }
 {
     let mut accesses = Vec::new(alloc);
     for (number, op) in body.ops.iter().enumerate() {
@@ -129,42 +141,56 @@ pub fn accesses_of(
     Ok(accesses)
 }
 
-/// The distance after which a counter has gone so far. Numbers beyond 128 bits do not come.
-fn distance_of(step: i128, gap: i128) -> Result<Meeting, AllocError>
-    ensures { IfOk result (λ m. m ≡ spec.distance_of step gap) }
+/// By how much one offset is ahead of another of the same counter.
+fn gap_between(from: Offset, to: Offset) -> i128
+    requires from { IsNear (2 ^ 25) from }
+    requires to { IsNear (2 ^ 25) to }
+    ensures value { result ≡ from.constant -ℤ to.constant }
+    ensures small { unsigned_abs result ≤ 2 ^ 97 }
 {
-    match (gap.checked_rem(step), gap.checked_div(step)) {
-        (Some(0), Some(distance)) => Ok(Meeting::At(distance)),
-        (Some(_), Some(_)) => Ok(Meeting::Never),
-        _ => Err(impossible()),
+    from.constant - to.constant
+}
+
+/// The distance after which a counter has gone so far.
+fn distance_of(step: i128, gap: i128) -> Meeting
+    requires step { step ≢ pos 0 }
+    requires gap { unsigned_abs gap ≤ 2 ^ 97 }
+    ensures { result ≡ spec.distance_of step gap }
+{
+    if gap % step == 0 {
+        Meeting::At(gap / step)
+    } else {
+        Meeting::Never
     }
 }
 
-fn offsets_meet(from: Offset, to: Offset) -> Result<Meeting, AllocError>
-    ensures { IfOk result (λ m. m ≡ spec.offsets_meet from to) }
+fn offsets_meet(from: Offset, to: Offset) -> Meeting
+    requires from { IsNear (2 ^ 25) from }
+    requires to { IsNear (2 ^ 25) to }
+    ensures { result ≡ spec.offsets_meet from to }
 {
-    if from.counter.0 != to.counter.0 {
-        return Ok(Meeting::Always);
-    }
-    match from.constant.checked_sub(to.constant) {
-        Some(gap) => distance_of(from.step, gap),
-        None => Err(impossible()),
+    if from.counter.0 == to.counter.0 {
+        distance_of(from.step, gap_between(from, to))
+    } else {
+        Meeting::Always
     }
 }
 
-pub fn subscripts_meet(from: Subscript, to: Subscript) -> Result<Meeting, AllocError>
-    ensures { IfOk result (λ m. m ≡ spec.subscripts_meet from to) }
+pub fn subscripts_meet(from: Subscript, to: Subscript) -> Meeting
+    requires from { IsNearSubscript from }
+    requires to { IsNearSubscript to }
+    ensures { result ≡ spec.subscripts_meet from to }
 {
     match (from, to) {
         (Subscript::Constant(one), Subscript::Constant(other)) => {
             if one == other {
-                Ok(Meeting::Always)
+                Meeting::Always
             } else {
-                Ok(Meeting::Never)
+                Meeting::Never
             }
         }
         (Subscript::Counted(one), Subscript::Counted(other)) => offsets_meet(one, other),
-        _ => Ok(Meeting::Always),
+        _ => Meeting::Always,
     }
 }
 
@@ -187,13 +213,15 @@ pub fn both(one: Meeting, other: Meeting) -> Meeting
 }
 
 /// At which distances `to` may meet `from`.
-pub fn distances_between(from: &[Subscript], to: &[Subscript]) -> Result<Meeting, AllocError>
-    ensures { IfOk result (λ m. m ≡ spec.distances_between from.now to.now) }
+pub fn distances_between(from: &[Subscript], to: &[Subscript]) -> Meeting
+    requires from { All IsNearSubscript from.now }
+    requires to { All IsNearSubscript to.now }
+    ensures { result ≡ spec.distances_between from.now to.now }
 {
     let count = from.len().min(to.len());
     let mut distances = Meeting::Always;
     for index in 0..count {
-        distances = both(distances, subscripts_meet(from[index], to[index])?);
+        distances = both(distances, subscripts_meet(from[index], to[index]));
     }
-    Ok(distances)
+    distances
 }

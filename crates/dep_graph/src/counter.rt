@@ -1,9 +1,9 @@
 //! Variables that grow by a constant with each iteration, and what is reckoned from them.
-ghost use Rattle.std.specs.Prelude.{◌≡◌, ◌<◌, ◌^◌, ◌↔◌, ◌+ℤ◌, IfOk, IfSome, is_some, unsigned_abs};
+ghost use Rattle.std.specs.Prelude.{◌≡◌, ◌≢◌, ◌<◌, ◌≤◌, ◌^◌, ◌+◌, ◌*◌, ◌+ℤ◌, ℕ, pos, IfOk, IfSome, length, unsigned_abs};
 ghost use Rattle.dep_graph.specs.Offsets as spec;
+ghost use Rattle.dep_graph.specs.Sizes.{IsSmallBody, IsNear, IsNearSum, AreNear};
 
 use hls_base::number::{OpId, VarId};
-use hls_base::refusal::impossible;
 use ir_core::body::{Body, Op, OpKind, Operand, Out, Source};
 use ir_core::stamp::Untimed;
 use ir_operation::value::number_of;
@@ -64,7 +64,8 @@ fn constant_of(operand: Operand, bits: u8) -> Option<i128>
 }
 
 fn plus(left: Operand, right: Operand, bits: u8) -> Option<Addition>
-    ensures { result ≡ spec.added_by OpKind.Add bits left right }
+    ensures value { result ≡ spec.added_by OpKind.Add bits left right }
+    ensures small { IfSome result (λ a. unsigned_abs a.constant < 2 ^ 64) }
 {
     if let Some(constant) = constant_of(right, bits) {
         return Some(Addition {
@@ -80,7 +81,8 @@ fn plus(left: Operand, right: Operand, bits: u8) -> Option<Addition>
 }
 
 fn minus(left: Operand, right: Operand, bits: u8) -> Option<Addition>
-    ensures { result ≡ spec.added_by OpKind.Sub bits left right }
+    ensures value { result ≡ spec.added_by OpKind.Sub bits left right }
+    ensures small { IfSome result (λ a. unsigned_abs a.constant < 2 ^ 64) }
 {
     let constant = constant_of(right, bits)?;
     Some(Addition {
@@ -90,7 +92,8 @@ fn minus(left: Operand, right: Operand, bits: u8) -> Option<Addition>
 }
 
 pub fn added(kind: OpKind, bits: u8, left: Operand, right: Operand) -> Option<Addition>
-    ensures { result ≡ spec.added_by kind bits left right }
+    ensures value { result ≡ spec.added_by kind bits left right }
+    ensures small { IfSome result (λ a. unsigned_abs a.constant < 2 ^ 64) }
 {
     match kind {
         OpKind::Add => plus(left, right, bits),
@@ -101,7 +104,8 @@ pub fn added(kind: OpKind, bits: u8, left: Operand, right: Operand) -> Option<Ad
 
 /// The operand to which a flagged operation adds a constant, and the constant.
 fn addition_of(op: &Op<Untimed>) -> Option<Addition>
-    ensures { result ≡ spec.addition op.now }
+    ensures value { result ≡ spec.addition op.now }
+    ensures small { IfSome result (λ a. unsigned_abs a.constant < 2 ^ 64) }
 {
     if op.flag.is_none() {
         return None;
@@ -123,7 +127,8 @@ pub fn is_variable(source: Source, variable: VarId) -> bool
 
 /// By how much a variable grows with each iteration whose next value this operation makes, where it is a counter.
 fn step_by(op: &Op<Untimed>, variable: VarId) -> Option<i128>
-    ensures { result ≡ spec.step_by op.now variable.0 }
+    ensures value { result ≡ spec.step_by op.now variable.0 }
+    ensures moves { IfSome result (λ step. step ≢ pos 0) }
 {
     if op.guard.is_some() {
         return None;
@@ -138,7 +143,8 @@ fn step_by(op: &Op<Untimed>, variable: VarId) -> Option<i128>
 
 /// By how much the variable grows with each iteration, where it is a counter.
 fn step(body: &Body<Untimed>, variable: VarId) -> Option<i128>
-    ensures { result ≡ spec.step_of body.now variable.0 }
+    ensures value { result ≡ spec.step_of body.now variable.0 }
+    ensures moves { IfSome result (λ step. step ≢ pos 0) }
 {
     let maker = maker(&body.outs, variable)?.0 as usize;
     if maker < body.ops.len() {
@@ -197,7 +203,9 @@ fn either_guard(one: Option<Operand>, other: Option<Operand>) -> Option<Operand>
 
 /// The sum that an operand is, where those of the first operations are known.
 fn operand_sum(body: &Body<Untimed>, sums: &[Option<Sum>], operand: Operand) -> Option<Sum>
-    ensures { result ≡ spec.source_sum body.now sums.now operand.value }
+    requires near { AreNear sums.now }
+    ensures value { result ≡ spec.source_sum body.now sums.now operand.value }
+    ensures near { IsNearSum (length sums.now) result }
 {
     match operand.value {
         Source::Constant(_) => None,
@@ -224,55 +232,59 @@ fn operand_sum(body: &Body<Untimed>, sums: &[Option<Sum>], operand: Operand) -> 
     }
 }
 
-/// A sum and a constant, by an operation with this guard. Numbers beyond 128 bits do not come.
-fn plus_constant(
-    sum: Sum,
-    constant: i128,
-    guard: Option<Operand>,
-) -> Result<Option<Sum>, AllocError>
-    ensures { IfOk result (λ made. made ≡ spec.plus_constant (Some sum) constant guard) }
+/// A constant and one of 64 bits, added up.
+fn increased(constant: i128, more: i128) -> i128
+    requires constant { unsigned_abs constant ≤ 2 ^ 96 }
+    requires more { unsigned_abs more < 2 ^ 64 }
+    ensures value { result ≡ constant +ℤ more }
+    ensures near { unsigned_abs result ≤ unsigned_abs constant + 2 ^ 64 }
+{
+    constant + more
+}
+
+/// A sum and a constant, by an operation with this guard.
+fn plus_constant(sum: Sum, constant: i128, guard: Option<Operand>) -> Option<Sum>
+    requires near { IsNear (2 ^ 25) sum.offset }
+    requires small { unsigned_abs constant < 2 ^ 64 }
+    ensures value { result ≡ spec.plus_constant (Some sum) constant guard }
+    ensures near { (n : ℕ) → IsNear n sum.offset → IsNearSum (n + 1) result }
 {
     if !guards_agree(sum.guard, guard) {
-        return Ok(None);
+        return None;
     }
-    let Some(constant) = sum.offset.constant.checked_add(constant) else {
-        return Err(impossible());
-    };
     let offset = Offset {
         counter: sum.offset.counter,
         step: sum.offset.step,
-        constant,
+        constant: increased(sum.offset.constant, constant),
     };
-    Ok(Some(Sum {
+    Some(Sum {
         offset,
         guard: either_guard(sum.guard, guard),
-    }))
+    })
 }
 
 /// The sum that an operation makes, where those of the operations before it are known.
-fn op_sum(
-    body: &Body<Untimed>,
-    sums: &[Option<Sum>],
-    op: &Op<Untimed>,
-) -> Result<Option<Sum>, AllocError>
-    ensures { IfOk result (λ made. made ≡ spec.op_sum body.now sums.now op.now) }
+fn op_sum(body: &Body<Untimed>, sums: &[Option<Sum>], op: &Op<Untimed>) -> Option<Sum>
+    requires few { length sums.now < 2 ^ 25 }
+    requires near { AreNear sums.now }
+    ensures value { result ≡ spec.op_sum body.now sums.now op.now }
+    ensures near { IsNearSum (length sums.now + 1) result }
 {
-    let Some(added) = addition_of(op) else {
-        return Ok(None);
-    };
-    match operand_sum(body, sums, added.operand) {
-        Some(sum) => plus_constant(sum, added.constant, op.guard),
-        None => Ok(None),
-    }
+    let added = addition_of(op)?;
+    let sum = operand_sum(body, sums, added.operand)?;
+    plus_constant(sum, added.constant, op.guard)
 }
 
 /// The sums that the operations of a body make.
 pub fn sums_of(alloc: Global, body: &Body<Untimed>) -> Result<Vec<Option<Sum>>, AllocError>
-    ensures { IfOk result (λ sums. sums.items ≡ spec.sums_of body.now) }
+    requires small { IsSmallBody body.now }
+    ensures value { IfOk result (λ sums. sums.items ≡ spec.sums_of body.now) }
+    ensures near { IfOk result (λ sums. AreNear sums.items) }
+    ensures few { IfOk result (λ sums. length sums.items ≤ 2 ^ 25) }
 {
     let mut sums = Vec::new(alloc);
     for op in &body.ops {
-        let sum = op_sum(body, &sums, op)?;
+        let sum = op_sum(body, &sums, op);
         sums.push(sum)?;
     }
     Ok(sums)
@@ -285,7 +297,9 @@ pub fn offset_of(
     subscript: Operand,
     guard: Option<Operand>,
 ) -> Option<Offset>
-    ensures { result ≡ spec.offset_of body.now sums.now subscript guard }
+    requires near { AreNear sums.now }
+    ensures value { result ≡ spec.offset_of body.now sums.now subscript guard }
+    ensures near { IfSome result (IsNear (length sums.now)) }
 {
     let sum = operand_sum(body, sums, subscript)?;
     if is_covered(sum.guard, guard) {

@@ -1,39 +1,21 @@
-ghost use Rattle.std.specs.Prelude.{◌≡◌, ◌≤◌, ◌+◌, ◌++◌, ◌∷◌, [], IfOk, OnOk, min, map};
+ghost use Rattle.std.specs.Prelude.{◌≡◌, ◌<◌, ◌≤◌, ◌^◌, ◌+◌, ◌++◌, ◌∷◌, [], IfOk, OnOk, length, min, map};
+ghost use Rattle.std.specs.List.{All};
 ghost use Rattle.std.specs.Prelude.{ℕ, pos};
 ghost use Rattle.dep_graph.specs.Meetings.{reach};
 ghost use Rattle.dep_graph.specs.Dependences as spec;
+ghost use Rattle.dep_graph.specs.Sizes.{IsSmallBody, IsOfSmallBody};
+ghost use Rattle.dep_graph.specs.ForwardBodies.{IsForwardBody, IsForwardEdge};
 
 use crate::access::{Access, Meeting, accesses_of, distances_between, is_store};
 use crate::counter::{maker, result_of, sums_of};
 use crate::edge::{Edge, Why};
 use hls_base::number::OpId;
-use hls_base::refusal::impossible;
 use ir_core::body::{Body, Op, Operand, Out, Source};
 use ir_core::stamp::Untimed;
 use ir_operation::timing::latency;
 use std::alloc::{AllocError, Global};
 
 const MAX_DISTANCE: i128 = 65_536;
-
-/// The node of an operation.
-fn node_of(op: u32) -> Result<u32, AllocError>
-    ensures { IfOk result (λ node. node ≡ op + 1) }
-{
-    match op.checked_add(1) {
-        Some(node) => Ok(node),
-        None => Err(impossible()),
-    }
-}
-
-/// The node of the operation of this number. There are fewer than 2^32 operations.
-fn node_at(number: usize) -> Result<u32, AllocError>
-    ensures { IfOk result (λ node. node ≡ number + 1) }
-{
-    match u32::try_from(number) {
-        Ok(op) => node_of(op),
-        Err(_) => Err(impossible()),
-    }
-}
 
 /// The operation that makes what an operand names.
 fn maker_of(outs: &[Out], operand: Operand) -> Option<OpId>
@@ -59,15 +41,15 @@ fn push_edge(
     edge: Edge,
     edges: &mut Vec<Edge>,
 ) -> Result<(), AllocError>
+    requires small { length ops.now < 2 ^ 25 }
     ensures { OnOk result (edges.new.items ≡ edges.old.items ++ spec.edges_behind ops.now (Some from) edge.to edge.distance edge.why) }
 {
     let index = from.0 as usize;
     if index < ops.len() {
         let op = &ops[index];
         let latency = latency(op.kind, op.bits);
-        let from = node_of(from.0)?;
         edges.push(Edge {
-            from,
+            from: from.0 + 1,
             to: edge.to,
             latency,
             distance: edge.distance,
@@ -83,6 +65,7 @@ fn push_data_edge(
     to: u32,
     edges: &mut Vec<Edge>,
 ) -> Result<(), AllocError>
+    requires small { IsSmallBody body.now }
     ensures { OnOk result (edges.new.items ≡ edges.old.items ++ spec.data_edge body.now to operand) }
 {
     if let Some(from) = maker_of(&body.outs, operand) {
@@ -105,6 +88,7 @@ fn push_edges_to(
     to: u32,
     edges: &mut Vec<Edge>,
 ) -> Result<(), AllocError>
+    requires small { IsSmallBody body.now }
     ensures { OnOk result (edges.new.items ≡ edges.old.items ++ spec.gather (spec.data_edge body.now to) operands.now) }
 {
     for operand in operands {
@@ -120,6 +104,7 @@ fn push_data_edges(
     to: u32,
     edges: &mut Vec<Edge>,
 ) -> Result<(), AllocError>
+    requires small { IsSmallBody body.now }
     ensures { OnOk result (edges.new.items ≡ edges.old.items ++ spec.data_edges body.now to op.now) }
 {
     push_edges_to(body, op.args.as_slice(), to, edges)?;
@@ -130,7 +115,7 @@ fn push_data_edges(
 }
 
 /// The operation that makes the test of an iteration in this iteration.
-fn test_maker(test: Option<Operand>) -> Option<OpId>
+pub fn test_maker(test: Option<Operand>) -> Option<OpId>
     ensures { result ≡ spec.test_maker test }
 {
     match test {
@@ -146,6 +131,7 @@ fn push_control_edges(
     to: u32,
     edges: &mut Vec<Edge>,
 ) -> Result<(), AllocError>
+    requires small { IsSmallBody body.now }
     ensures { OnOk result (edges.new.items ≡ edges.old.items ++ spec.control_edges body.now to op.now) }
 {
     if !is_store(op.kind) {
@@ -164,16 +150,18 @@ fn push_control_edges(
     Ok(())
 }
 
-fn memory_edge(from: &Access, to: &Access, distance: u32) -> Result<Edge, AllocError>
-    ensures { IfOk result (λ edge. edge ≡ spec.memory_edge (reach from.now) (reach to.now) distance) }
+fn memory_edge(from: &Access, to: &Access, distance: u32) -> Edge
+    requires from { IsOfSmallBody from.now }
+    requires to { IsOfSmallBody to.now }
+    ensures { result ≡ spec.memory_edge (reach from.now) (reach to.now) distance }
 {
-    Ok(Edge {
-        from: node_of(from.op)?,
-        to: node_of(to.op)?,
+    Edge {
+        from: from.op + 1,
+        to: to.op + 1,
         latency: if from.is_store { 1 } else { 0 },
         distance,
         why: Why::Memory,
-    })
+    }
 }
 
 /// The edges at one distance: none at a negative one, and at 0 in the order of the program.
@@ -183,36 +171,42 @@ fn push_near_edges(
     distance: i128,
     edges: &mut Vec<Edge>,
 ) -> Result<(), AllocError>
+    requires from { IsOfSmallBody from.now }
+    requires to { IsOfSmallBody to.now }
     ensures { OnOk result (edges.new.items ≡ edges.old.items ++ spec.near_edges (reach from.now) (reach to.now) distance) }
 {
     if distance > 0 {
         let near = distance.min(MAX_DISTANCE) as u32;
-        edges.push(memory_edge(from, to, near)?)?;
+        edges.push(memory_edge(from, to, near))?;
     } else if distance == 0 && from.op < to.op {
-        edges.push(memory_edge(from, to, 0)?)?;
+        edges.push(memory_edge(from, to, 0))?;
     }
     Ok(())
 }
 
 /// The edges from one access to another one that it may meet at every distance.
 fn push_all_edges(from: &Access, to: &Access, edges: &mut Vec<Edge>) -> Result<(), AllocError>
+    requires from { IsOfSmallBody from.now }
+    requires to { IsOfSmallBody to.now }
     ensures { OnOk result (edges.new.items ≡ edges.old.items ++ spec.edges_at (reach from.now) (reach to.now) Meeting.Always) }
 {
     if from.op < to.op {
-        edges.push(memory_edge(from, to, 0)?)?;
+        edges.push(memory_edge(from, to, 0))?;
     }
-    edges.push(memory_edge(from, to, 1)?)?;
+    edges.push(memory_edge(from, to, 1))?;
     Ok(())
 }
 
 /// The edges from one access to another one that it meets.
 fn push_memory_edges(from: &Access, to: &Access, edges: &mut Vec<Edge>) -> Result<(), AllocError>
+    requires from { IsOfSmallBody from.now }
+    requires to { IsOfSmallBody to.now }
     ensures { OnOk result (edges.new.items ≡ edges.old.items ++ spec.memory_edges (reach from.now) (reach to.now)) }
 {
     if !is_pair(from, to) {
         return Ok(());
     }
-    match distances_between(&from.subscripts, &to.subscripts)? {
+    match distances_between(&from.subscripts, &to.subscripts) {
         Meeting::Never => Ok(()),
         Meeting::At(distance) => push_near_edges(from, to, distance, edges),
         Meeting::Always => push_all_edges(from, to, edges),
@@ -232,6 +226,8 @@ fn push_edges_from(
     others: &[Access],
     edges: &mut Vec<Edge>,
 ) -> Result<(), AllocError>
+    requires access { IsOfSmallBody access.now }
+    requires others { All IsOfSmallBody others.now }
     ensures { OnOk result (edges.new.items ≡ edges.old.items ++ spec.gather (spec.memory_edges (reach access.now)) (map reach others.now)) }
 {
     for other in others {
@@ -242,6 +238,7 @@ fn push_edges_from(
 
 /// The edges between accesses.
 fn push_edges_between(accesses: &[Access], edges: &mut Vec<Edge>) -> Result<(), AllocError>
+    requires { All IsOfSmallBody accesses.now }
     ensures { OnOk result (edges.new.items ≡ edges.old.items ++ spec.edges_of_reaches (map reach accesses.now)) }
 {
     for access in accesses {
@@ -252,19 +249,22 @@ fn push_edges_between(accesses: &[Access], edges: &mut Vec<Edge>) -> Result<(), 
 
 /// The edges to the operations of a body other than those between accesses.
 fn push_op_edges(body: &Body<Untimed>, edges: &mut Vec<Edge>) -> Result<(), AllocError>
+    requires small { IsSmallBody body.now }
     ensures { OnOk result (edges.new.items ≡ edges.old.items ++ spec.op_edges body.now 0 body.now.ops.items) }
 {
     for (number, op) in body.ops.iter().enumerate() {
-        let to = node_at(number)?;
+        let to = number as u32 + 1;
         push_data_edges(body, op, to, edges)?;
         push_control_edges(body, op, to, edges)?;
     }
     Ok(())
 }
 
-/// What each operation of a body waits for. An edge of distance 0 leads to an operation of a higher number; where the body is no loop's, only these count.
+/// What each operation of a body waits for. Where the body is no loop's, only edges of distance 0 count.
 pub fn edges(alloc: Global, body: &Body<Untimed>) -> Result<Vec<Edge>, AllocError>
-    ensures { IfOk result (λ edges. edges.items ≡ spec.edges_of body.now) }
+    requires { IsForwardBody body.now }
+    ensures all { IfOk result (λ edges. edges.items ≡ spec.edges_of body.now) }
+    ensures forward { IfOk result (λ edges. All (IsForwardEdge (length body.now.ops.items + 1)) edges.items) }
 {
     let sums = sums_of(alloc, body)?;
     let accesses = accesses_of(alloc, body, &sums)?;

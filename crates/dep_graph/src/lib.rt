@@ -5,3 +5,4 @@ pub mod access;
 pub mod counter;
 pub mod edge;
 pub mod edges;
+pub mod forward;

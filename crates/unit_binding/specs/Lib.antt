@@ -1,2 +1,3 @@
 pub mod Binding
 pub mod Times
+pub mod Ranks

@@ -1,11 +1,13 @@
 ghost use Rattle.std.specs.Prelude.{◌≡◌, ◌+◌, ◌<◌, ◌≤◌, ◌^◌, IfOk, OnOk, length, map, option_to_list, slice_index};
 ghost use Rattle.ir_operation.specs.Timing as timing;
+ghost use Rattle.std.specs.List.{All};
+ghost use Rattle.dep_graph.specs.ForwardBodies.{IsForwardBody, IsForwardEdge};
 ghost use Rattle.unit_binding.specs.Binding as spec;
+ghost use Rattle.unit_binding.specs.Ranks.{AreForwardOrders};
 
 use crate::binding::{Binding, UnitOrder};
-use crate::times::{lead_on, least_times, sorted_within};
+use crate::times::{least_times, sorted_within};
 use dep_graph::edge::Edge;
-use hls_base::refusal::impossible;
 use hls_base::settings::Units;
 use ir_core::body::{Body, Op};
 use ir_core::cfg::Memory;
@@ -21,9 +23,6 @@ pub struct Request {
     pub op: u32,
     pub occupancy: u32,
 }
-
-/// There are no more operations than this.
-const MAX_OPS: usize = 4_294_967_295;
 
 /// How many units a class has, at least one.
 fn unit_count(units: Units, class: UnitClass) -> u32
@@ -200,7 +199,7 @@ fn deal(
     Ok(())
 }
 
-/// Gives the operations of each class to its units in turn, in the order of the times at which they could start if there were units enough, and of their numbers where these are equal. Each edge within an iteration leads to an operation of a higher number. The orders name operations by their numbers.
+/// Gives the operations of each class to its units in turn, in the order of the times at which they could start if there were units enough, and of their numbers where these are equal. The orders name operations by their numbers.
 pub fn bind(
     alloc: Global,
     body: &Body<Untimed>,
@@ -208,13 +207,13 @@ pub fn bind(
     edges: &[Edge],
     units: Units,
 ) -> Result<Binding, AllocError>
-    ensures { IfOk result (λ binding. spec.IsBoundBy ⟦<Request as Ord>⟧.cmp body.now memories.now edges.now units binding) }
+    requires body { IsForwardBody body.now }
+    requires edges { All (IsForwardEdge (length body.now.ops.items + 1)) edges.now }
+    ensures bound { IfOk result (λ binding. spec.IsBoundBy ⟦<Request as Ord>⟧.cmp body.now memories.now edges.now units binding) }
+    ensures forward { IfOk result (λ binding. AreForwardOrders (length body.now.ops.items) edges.now binding.orders.items) }
 {
     let ops = body.ops.len();
     let within = sorted_within(alloc, edges)?;
-    if ops > MAX_OPS || !lead_on(&within, ops + 1) {
-        return Err(impossible());
-    }
     let times = least_times(alloc, ops + 1, &within)?;
     let mut requests = requests_of(alloc, body, memories, &times)?;
     requests.sort()?;

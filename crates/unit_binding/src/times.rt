@@ -31,15 +31,6 @@ pub fn sorted_within(alloc: Global, edges: &[Edge]) -> Result<Vec<Edge>, AllocEr
     Ok(within)
 }
 
-/// Whether each edge leads to a higher node, which is one of so many.
-pub fn lead_on(edges: &[Edge], nodes: usize) -> bool
-    ensures { IsTrue result ↔ All (spec.LeadsOn nodes) edges.now }
-{
-    edges
-        .iter()
-        .all(|edge| edge.from < edge.to && (edge.to as usize) < nodes)
-}
-
 /// Moves each node behind those from which edges lead to it.
 fn follow_all(times: &mut [u64], edges: &[Edge])
     requires lead_on { All (spec.LeadsOn (length times.old)) edges.now }

@@ -19,6 +19,7 @@ loop-operand-preserved c =
     let enough : here ≤ longer = omega (arith, c.max-length.ensures) in
     record {
       some = omega (arith, inv.some, above);
+      small = omega (arith, inv.small, c.max-length.ensures, c.length_for.ensures.small);
       enough = All-more (λ a. IsThereBefore ops times a.0 longer) cases i _ (omega arith) (λ k d k_in. source_longer ops times _ was longer above (inv.enough k d k_in)) (source_longer ops times _ here longer enough c.length_for.ensures.enough);
       least = λ len some all. omega (arith, c.max-length.ensures, inv.least len some all, c.length_for.ensures.least len some (all i _ (omega arith)));
     }
