@@ -1,6 +1,5 @@
 -- Bytes are the text of one circuit at most.
-use Rattle.std.proofs.Common.{◌≡◌, ℕ, ◌<◌, List, [], ◌∷◌, ◌++◌, codes, append_assoc, refl, sym, ap, ◌∙◌, subst}
-use Rattle.rtl_core.specs.Netlist.{Netlist}
+use Rattle.std.proofs.Common.{◌≡◌, ℕ, List, [], ◌∷◌, ◌++◌, codes, append_assoc, sym, ap, ◌∙◌, subst}
 use Rattle.rtl_core.specs.ModuleTokens.{Token, IsToken, IsLongest, Spells}
 use Rattle.rtl_core.specs.ModuleTokens as spelled
 use Rattle.rtl_core.specs.ModuleText.{Means}
