@@ -26,6 +26,7 @@ use ir_core::stamp::Untimed;
 use live_variables::live::live_variables;
 use pieces::expanded::Expanded;
 use reg_binding::assign::assign;
+use reg_binding::small_times::has_small_times;
 use report_rows::costs::formula_of;
 use report_rows::initial::initial_cycles;
 use report_rows::resources::{Resources, resources_of};
@@ -58,6 +59,9 @@ fn circuit_of(alloc: Global, timed: &Cfg<Timed>) -> Result<Design, AllocError>
     ensures { IfOk result (λ d. HasCircuit timed.now (netlist_of d)) }
 {
     numbers_are_small(timed);
+    if !has_small_times(timed) {
+        return Err(impossible());
+    }
     let live = live_variables(alloc, timed)?;
     let registers = assign(alloc, timed, &live)?;
     let design = build(alloc, timed, &registers, live)?;

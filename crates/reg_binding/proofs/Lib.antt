@@ -4,3 +4,4 @@ pub mod Members
 pub mod Pools
 pub mod Rows
 pub mod Sharing
+pub mod Soon

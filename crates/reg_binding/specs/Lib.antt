@@ -2,3 +2,4 @@ pub mod Assigned
 pub mod Lives
 pub mod Pools
 pub mod Sharing
+pub mod SmallTimes

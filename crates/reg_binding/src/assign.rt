@@ -6,6 +6,7 @@ ghost use Rattle.live_variables.specs.Sets.{has};
 ghost use Rattle.live_variables.specs.Liveness.{IsLiveness, flow_of};
 ghost use Rattle.reg_binding.specs.Lives.{node_lives, node_period};
 ghost use Rattle.reg_binding.specs.Sharing.{IsPeriod};
+ghost use Rattle.reg_binding.specs.SmallTimes.{IsEarlyNode, HasSmallTimes};
 ghost use Rattle.reg_binding.specs.Assigned as spec;
 
 use crate::block_reads::block_lives;
@@ -15,13 +16,13 @@ use crate::registers::{Held, Registers};
 use crate::share::share;
 use clock_ir::timed::Timed;
 use hls_base::number::{NodeId, OpId};
-use hls_base::refusal::impossible;
 use ir_core::cfg::{Cfg, Node};
 use live_variables::live::Live;
 use live_variables::var_set::VarSet;
 use std::alloc::{AllocError, Global};
 
 fn lives_of(alloc: Global, node: &Node<Timed>, behind: &VarSet) -> Result<Vec<Life>, AllocError>
+    requires { IsEarlyNode node.now }
     ensures { IfOk result (λ lives. lives.items ≡ node_lives (has behind.now) node.now) }
 {
     match node {
@@ -32,6 +33,7 @@ fn lives_of(alloc: Global, node: &Node<Timed>, behind: &VarSet) -> Result<Vec<Li
 
 /// The lives of the values of a node, sorted by their widths and by the cycles from which they are there.
 fn sorted_lives(alloc: Global, node: &Node<Timed>, behind: &VarSet) -> Result<Vec<Life>, AllocError>
+    requires { IsEarlyNode node.now }
     ensures { IfOk result (λ lives. IsPermutation (node_lives (has behind.now) node.now) lives.items) }
 {
     let mut lives = lives_of(alloc, node, behind)?;
@@ -79,6 +81,7 @@ fn assign_node(
     behind: &VarSet,
     registers: &mut Registers,
 ) -> Result<(), AllocError>
+    requires { IsEarlyNode node.now }
     ensures { OnOk result (spec.AddsRows id.0 (node_lives (has behind.now) node.now) (node_period node.now) registers.old registers.new) }
 {
     let lives = sorted_lives(alloc, node, behind)?;
@@ -89,7 +92,8 @@ fn assign_node(
 
 /// Gives each value that is read a register of its width in each place of its chain, in which no other value of its node is there in the same cycle. The registers of one node serve the others too. `live` has the live variables of the program.
 pub fn assign(alloc: Global, cfg: &Cfg<Timed>, live: &Live) -> Result<Registers, AllocError>
-    requires { IsLiveness (flow_of cfg.now) live.now }
+    requires small { HasSmallTimes cfg.now }
+    requires live { IsLiveness (flow_of cfg.now) live.now }
     ensures { IfOk result (λ registers. spec.IsAssignment cfg.now live.now registers) }
 {
     let mut registers = Registers {
@@ -97,12 +101,10 @@ pub fn assign(alloc: Global, cfg: &Cfg<Timed>, live: &Live) -> Result<Registers,
         held: Vec::new(alloc),
     };
     for number in 0..cfg.nodes.len() {
-        let Ok(id) = u32::try_from(number) else {
-            return Err(impossible());
-        };
+        let id = NodeId(number as u32);
         let node = &cfg.nodes[number];
         let behind = live.behind(alloc, node)?;
-        assign_node(alloc, NodeId(id), node, &behind, &mut registers)?;
+        assign_node(alloc, id, node, &behind, &mut registers)?;
     }
     Ok(registers)
 }

@@ -1,13 +1,13 @@
 //! The lives of the results of a block's operations.
-ghost use Rattle.std.specs.Prelude.{◌≡◌, ◌<◌, ◌++◌, ℕ, Option, None, length, slice_index_or, IfOk, OnOk};
+ghost use Rattle.std.specs.Prelude.{◌≡◌, ◌<◌, ◌^◌, ◌++◌, ℕ, Option, None, length, slice_index_or, IfOk, OnOk};
 ghost use Rattle.std.specs.List.{flat_map};
 ghost use Rattle.live_variables.specs.Sets.{has};
 ghost use Rattle.reg_binding.specs.Lives as spec;
+ghost use Rattle.reg_binding.specs.SmallTimes.{IsEarlyOp, IsEarlyBody};
 
 use crate::life::{Life, Read, ready};
 use clock_ir::timed::Timed;
 use hls_base::number::NodeId;
-use hls_base::refusal::impossible;
 use ir_core::body::{Op, Operand, Out, Source};
 use ir_core::cfg::{Block, End};
 use ir_operation::timing::result_bits;
@@ -168,23 +168,21 @@ fn push_life(
     last: Option<u64>,
     lives: &mut Vec<Life>,
 ) -> Result<(), AllocError>
+    requires { IsEarlyOp op.now }
     ensures { OnOk result (lives.new.items ≡ lives.old.items ++ spec.block_life id op.now last) }
 {
     let Some(last) = last else {
         return Ok(());
     };
-    let start = ready(op)?;
+    let start = ready(op);
     if start <= last {
-        let Some(length) = (last - start).checked_add(1) else {
-            return Err(impossible());
-        };
         lives.push(Life {
             first: start,
             op: id,
             place: 0,
             width: result_bits(op),
             start,
-            length,
+            length: last - start + 1,
             entry: 0,
         })?;
     }
@@ -197,6 +195,7 @@ pub fn block_lives(
     block: &Block<Timed>,
     behind: &VarSet,
 ) -> Result<Vec<Life>, AllocError>
+    requires { IsEarlyBody block.now.body }
     ensures { IfOk result (λ lives. lives.items ≡ spec.block_lives (has behind.now) block.now) }
 {
     let ops = &block.body.ops;
@@ -204,10 +203,7 @@ pub fn block_lives(
     let last = last_reads(alloc, ops.len(), &reads)?;
     let mut lives = Vec::new(alloc);
     for number in 0..ops.len() {
-        let Ok(id) = u32::try_from(number) else {
-            return Err(impossible());
-        };
-        push_life(id, &ops[number], last[number], &mut lives)?;
+        push_life(number as u32, &ops[number], last[number], &mut lives)?;
     }
     Ok(lives)
 }

@@ -8,3 +8,4 @@ pub mod loop_reads;
 pub(crate) mod pool;
 pub mod registers;
 pub mod share;
+pub mod small_times;

@@ -1,25 +1,20 @@
 //! When values are there, and when they are read for the last time.
-ghost use Rattle.std.specs.Prelude.{◌≡◌, ◌+◌, IfOk};
+ghost use Rattle.std.specs.Prelude.{◌≡◌, ◌+◌, ◌<◌, ◌≤◌};
 ghost use Rattle.reg_binding.specs.Lives as spec;
+ghost use Rattle.reg_binding.specs.SmallTimes.{IsEarlyOp};
 
 use clock_ir::timed::Timed;
-use hls_base::refusal::impossible;
 use ir_core::body::Op;
 use ir_operation::timing::latency;
-use std::alloc::AllocError;
 
-/// The cycle from which the result of an operation is there, which is a number of 64 bits.
-pub fn ready(op: &Op<Timed>) -> Result<u64, AllocError>
-    ensures { IfOk result (λ time. time ≡ spec.ready op.now) }
+/// The cycle from which the result of an operation is there, which is not the first one.
+pub fn ready(op: &Op<Timed>) -> u64
+    requires { IsEarlyOp op.now }
+    ensures value { result ≡ spec.ready op.now }
+    ensures later { 0 < result }
+    ensures soon { result ≤ op.now.stamp.start + 66 }
 {
-    match op
-        .stamp
-        .start
-        .checked_add(u64::from(latency(op.kind, op.bits)))
-    {
-        Some(time) => Ok(time),
-        None => Err(impossible()),
-    }
+    op.stamp.start + u64::from(latency(op.kind, op.bits))
 }
 
 /// That the result of an operation is read at a time.

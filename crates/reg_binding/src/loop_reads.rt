@@ -1,14 +1,14 @@
 //! The lives of the results of a loop's operations, in all places of their chains.
-ghost use Rattle.std.specs.Prelude.{◌≡◌, ◌+◌, ◌*◌, ◌^◌, ◌<◌, ◌≤◌, ◌++◌, None, map, option_to_list, IfOk, OnOk};
-ghost use Rattle.std.specs.List.{flat_map, range_with_len};
+ghost use Rattle.std.specs.Prelude.{◌≡◌, ℕ, ◌+◌, ◌*◌, ◌^◌, ◌<◌, ◌≤◌, ◌++◌, None, map, option_to_list, IfOk, IfSome, OnOk};
+ghost use Rattle.std.specs.List.{All, flat_map, range_with_len};
 ghost use Rattle.live_variables.specs.Sets.{has};
 ghost use Rattle.reg_binding.specs.Lives as spec;
+ghost use Rattle.reg_binding.specs.SmallTimes.{IsNear, IsNearOut, IsEarlyOp, IsEarlyBody, IsEarlyLoop};
 
 use crate::block_reads::last_reads;
 use crate::life::{Life, Read, ready};
 use clock_ir::timed::Timed;
 use hls_base::number::VarId;
-use hls_base::refusal::impossible;
 use ir_core::body::{Op, Operand, Out, Source};
 use ir_core::cfg::Loop;
 use ir_operation::timing::result_bits;
@@ -49,14 +49,11 @@ fn maker(outs: &[Out], variable: VarId) -> Option<u32>
 }
 
 /// A time so many intervals later.
-fn later_by(time: u64, distance: u32, ii: u32) -> Result<u64, AllocError>
-    ensures { IfOk result (λ later. later ≡ time + distance * ii) }
+fn later_by(time: u64, distance: u32, ii: u32) -> u64
+    requires { time + distance * ii < 2 ^ 64 }
+    ensures { result ≡ time + distance * ii }
 {
-    let more = u64::from(distance) * u64::from(ii);
-    match time.checked_add(more) {
-        Some(later) => Ok(later),
-        None => Err(impossible()),
-    }
+    time + u64::from(distance) * u64::from(ii)
 }
 
 fn push_operand(
@@ -65,10 +62,12 @@ fn push_operand(
     operand: Operand,
     reads: &mut Vec<Read>,
 ) -> Result<(), AllocError>
+    requires near { IsNear operand }
+    requires early { time < 2 ^ 33 }
     ensures { OnOk result (reads.new.items ≡ reads.old.items ++ spec.iteration_reads region.now.body.outs.items region.now.ii time operand) }
 {
     if let Some(op) = source_maker(&region.body.outs, operand.value) {
-        let time = later_by(time, operand.distance, region.ii)?;
+        let time = later_by(time, operand.distance, region.ii);
         reads.push(Read { op, time })?;
     }
     Ok(())
@@ -80,6 +79,8 @@ fn push_operands(
     operands: &[Operand],
     reads: &mut Vec<Read>,
 ) -> Result<(), AllocError>
+    requires near { All IsNear operands.now }
+    requires early { time < 2 ^ 33 }
     ensures { OnOk result (reads.new.items ≡ reads.old.items ++ flat_map (spec.iteration_reads region.now.body.outs.items region.now.ii time) operands.now) }
 {
     for operand in operands {
@@ -89,6 +90,7 @@ fn push_operands(
 }
 
 fn push_op(region: &Loop<Timed>, op: &Op<Timed>, reads: &mut Vec<Read>) -> Result<(), AllocError>
+    requires { IsEarlyOp op.now }
     ensures { OnOk result (reads.new.items ≡ reads.old.items ++ spec.iteration_op_reads region.now.body.outs.items region.now.ii op.now) }
 {
     let time = op.stamp.start;
@@ -99,6 +101,7 @@ fn push_op(region: &Loop<Timed>, op: &Op<Timed>, reads: &mut Vec<Read>) -> Resul
 }
 
 fn push_ops(region: &Loop<Timed>, reads: &mut Vec<Read>) -> Result<(), AllocError>
+    requires { IsEarlyBody region.now.body }
     ensures { OnOk result (reads.new.items ≡ reads.old.items ++ flat_map (spec.iteration_op_reads region.now.body.outs.items region.now.ii) region.now.body.ops.items) }
 {
     for op in &region.body.ops {
@@ -108,23 +111,23 @@ fn push_ops(region: &Loop<Timed>, reads: &mut Vec<Read>) -> Result<(), AllocErro
 }
 
 /// The time at which a test is known.
-fn known(ops: &[Op<Timed>], value: Source) -> Result<u64, AllocError>
-    ensures { IfOk result (λ time. time ≡ spec.known ops.now value) }
+fn known(ops: &[Op<Timed>], value: Source) -> u64
+    requires { All IsEarlyOp ops.now }
+    ensures value { result ≡ spec.known ops.now value }
+    ensures early { result < 2 ^ 33 }
 {
     match value {
-        Source::Result(op) => match ops.get(op.0 as usize) {
-            Some(maker) => ready(maker),
-            None => Ok(0),
-        },
-        _ => Ok(0),
+        Source::Result(op) if (op.0 as usize) < ops.len() => ready(&ops[op.0 as usize]),
+        _ => 0,
     }
 }
 
 fn push_test(region: &Loop<Timed>, reads: &mut Vec<Read>) -> Result<(), AllocError>
+    requires { IsEarlyBody region.now.body }
     ensures { OnOk result (reads.new.items ≡ reads.old.items ++ flat_map (spec.test_reads region.now) (option_to_list region.now.body.test)) }
 {
     if let Some(test) = region.body.test {
-        let time = known(&region.body.ops, test.value)?;
+        let time = known(&region.body.ops, test.value);
         push_operand(region, time, test, reads)?;
     }
     Ok(())
@@ -137,6 +140,8 @@ fn push_left(
     out: &Out,
     reads: &mut Vec<Read>,
 ) -> Result<(), AllocError>
+    requires near { IsNearOut out.now }
+    requires early { time < 2 ^ 33 }
     ensures { OnOk result (reads.new.items ≡ reads.old.items ++ spec.left_reads (has behind.now) region.now.body.outs.items region.now.ii time out.now) }
 {
     if behind.contains(out.variable) {
@@ -146,6 +151,7 @@ fn push_left(
 }
 
 fn push_outs(region: &Loop<Timed>, behind: &VarSet, reads: &mut Vec<Read>) -> Result<(), AllocError>
+    requires { IsEarlyLoop region.now }
     ensures { OnOk result (reads.new.items ≡ reads.old.items ++ flat_map (spec.left_reads (has behind.now) region.now.body.outs.items region.now.ii (region.now.ii + region.now.exit)) region.now.body.outs.items) }
 {
     let time = u64::from(region.ii) + u64::from(region.exit);
@@ -157,6 +163,7 @@ fn push_outs(region: &Loop<Timed>, behind: &VarSet, reads: &mut Vec<Read>) -> Re
 
 /// What the iterations read when, counted from the beginning of the iteration that makes the value.
 fn loop_reads(alloc: Global, region: &Loop<Timed>, behind: &VarSet) -> Result<Vec<Read>, AllocError>
+    requires { IsEarlyLoop region.now }
     ensures { IfOk result (λ reads. reads.items ≡ spec.loop_reads (has behind.now) region.now) }
 {
     let mut reads = Vec::new(alloc);
@@ -196,23 +203,19 @@ fn is_taken_over(outs: &[Out], op: u32) -> bool
 }
 
 /// One place of the chain of a result that is there at a time and is read for the last time at another, both counted from the beginning of the iteration.
-fn place_life(
-    op: &Op<Timed>,
-    id: u32,
-    place: u32,
-    period: u32,
-    last: u64,
-) -> Result<Life, AllocError>
-    ensures { IfOk result (λ life. life ≡ spec.place_life period id op.now last place) }
+fn place_life(op: &Op<Timed>, id: u32, place: u32, period: u32, last: u64) -> Life
+    requires early { IsEarlyOp op.now }
+    requires reached { spec.ready op.now + place * period ≤ last }
+    ensures { result ≡ spec.place_life period id op.now last place }
 {
-    let start = later_by(ready(op)?, place, period)?;
+    let start = later_by(ready(op), place, period);
     let left = last.saturating_sub(start);
     let length = if left < u64::from(period) {
         left + 1
     } else {
         u64::from(period)
     };
-    Ok(Life {
+    Life {
         first: start,
         op: id,
         place,
@@ -220,7 +223,7 @@ fn place_life(
         start,
         length,
         entry: 0,
-    })
+    }
 }
 
 /// The same where a variable takes the result over, and has another value before the first iteration.
@@ -246,22 +249,17 @@ fn with_entry(life: Life, period: u32) -> Life
     }
 }
 
-fn chain_life(
-    outs: &[Out],
-    op: &Op<Timed>,
-    id: u32,
-    place: u32,
-    period: u32,
-    last: u64,
-) -> Result<Life, AllocError>
-    requires { 0 < period }
-    ensures { IfOk result (λ life. life ≡ spec.chain_life outs.now period id op.now last place) }
+fn chain_life(outs: &[Out], op: &Op<Timed>, id: u32, place: u32, period: u32, last: u64) -> Life
+    requires early { IsEarlyOp op.now }
+    requires some { 0 < period }
+    requires reached { spec.ready op.now + place * period ≤ last }
+    ensures { result ≡ spec.chain_life outs.now period id op.now last place }
 {
-    let life = place_life(op, id, place, period, last)?;
+    let life = place_life(op, id, place, period, last);
     if is_taken_over(outs, id) {
-        Ok(with_entry(life, period))
+        with_entry(life, period)
     } else {
-        Ok(life)
+        life
     }
 }
 
@@ -275,12 +273,14 @@ fn push_places(
     last: u64,
     lives: &mut Vec<Life>,
 ) -> Result<(), AllocError>
+    requires early { IsEarlyOp op.now }
     requires some { 0 < period }
     requires few { count ≤ 2 ^ 32 }
+    requires reached { (place : ℕ) → place < count → spec.ready op.now + place * period ≤ last }
     ensures { OnOk result (lives.new.items ≡ lives.old.items ++ map (spec.chain_life outs.now period id op.now last) (range_with_len 0 count)) }
 {
     for number in 0..count {
-        lives.push(chain_life(outs, op, id, number as u32, period, last)?)?;
+        lives.push(chain_life(outs, op, id, number as u32, period, last))?;
     }
     Ok(())
 }
@@ -293,20 +293,19 @@ fn push_chain(
     last: Option<u64>,
     lives: &mut Vec<Life>,
 ) -> Result<(), AllocError>
+    requires early { IsEarlyOp op.now }
+    requires soon { IfSome last (λ time. time < 2 ^ 32 * spec.period region.now) }
     ensures { OnOk result (lives.new.items ≡ lives.old.items ++ spec.chain_lives region.now.body.outs.items (spec.period region.now) id op.now last) }
 {
     let Some(last) = last else {
         return Ok(());
     };
-    let start = ready(op)?;
+    let start = ready(op);
     if last < start {
         return Ok(());
     }
     let period = period(region);
-    let Ok(greatest) = u32::try_from((last - start) / u64::from(period)) else {
-        return Err(impossible());
-    };
-    let count = u64::from(greatest) + 1;
+    let count = (last - start) / u64::from(period) + 1;
     push_places(&region.body.outs, op, id, count, period, last, lives)
 }
 
@@ -316,6 +315,7 @@ pub fn loop_lives(
     region: &Loop<Timed>,
     behind: &VarSet,
 ) -> Result<Vec<Life>, AllocError>
+    requires { IsEarlyLoop region.now }
     ensures { IfOk result (λ lives. lives.items ≡ spec.loop_lives (has behind.now) region.now) }
 {
     let ops = &region.body.ops;
@@ -323,10 +323,13 @@ pub fn loop_lives(
     let last = last_reads(alloc, ops.len(), &reads)?;
     let mut lives = Vec::new(alloc);
     for number in 0..ops.len() {
-        let Ok(id) = u32::try_from(number) else {
-            return Err(impossible());
-        };
-        push_chain(region, &ops[number], id, last[number], &mut lives)?;
+        push_chain(
+            region,
+            &ops[number],
+            number as u32,
+            last[number],
+            &mut lives,
+        )?;
     }
     Ok(lives)
 }

@@ -20,11 +20,9 @@ loop-number-preserved c =
     let before = c.loop-number.registers in
     let after = c.assign_node.new.registers in
     let behind : Node Timed → ℕ → Bool = λ x. is_behind live (summary_of x) in
-    let same : has c.in_ok-behind.behind ≡ behind node = λ i k. c.in_ok-behind.ensures.members c.requires.sized k i in
-    let number : c.in-Ok.id ≡ n = c.in-Ok.ensures.1 in
+    let same : has c.in_ok-behind.behind ≡ behind node = λ i k. c.in_ok-behind.ensures.members c.requires.live.sized k i in
     let adds : AddsRows n (node_lives (behind node) node) (node_period node) before after =
-    subst (λ (i : ℕ). AddsRows i (node_lives (behind node) node) (node_period node) before after) number
-    (subst (λ (b : ℕ → Bool). AddsRows c.in-Ok.id (node_lives b node) (node_period node) before after) same c.in_ok-assign_node.ensures) in
+    subst (λ (b : ℕ → Bool). AddsRows n (node_lives b node) (node_period node) before after) same c.in_ok-assign_node.ensures in
     IsAssigned-more behind c.args.cfg.now.nodes.items n node before after c.loop-number.invariant
     (slice_get-get_or c.args.cfg.now.nodes.items n node (omega (arith, c.loop-number-test.true, c.loop-number.auto.number-end, c.len-number-end.ensures)) ∙ ap Some (sym c.index-node.ensures)) adds
 
@@ -34,6 +32,6 @@ returns c =
     let nodes = c.args.cfg.now.nodes.items in
     let all : c.loop-number.number ≡ length nodes = omega (arith, c.loop-number-test.false, c.loop-number.auto.number-end, c.len-number-end.ensures) in
     record {
-      liveness = c.requires;
+      liveness = c.requires.live;
       assigned = subst (λ (n : ℕ). IsAssigned (λ node. is_behind live (summary_of node)) nodes n c.loop-number.registers) all c.loop-number.invariant;
     }

@@ -9,11 +9,11 @@ pub loop-number-preserved : goal.loop-number-preserved
 loop-number-preserved c =
     let f = chain_life c.args.outs.now c.args.period c.args.id c.args.op.now c.args.last in
     let n = c.loop-number.number in
-    let life = c.in_ok-chain_life.field-0 in
+    let life = c.chain_life.result in
     let old = c.args.lives.now.items in
     let so_far : List Life = map f (range_with_len 0 n) in
     c.in_ok-push.ensures.items
     ∙ ap (λ (xs : List Life). xs ++ life ∷ []) c.loop-number.invariant
     ∙ append_assoc old so_far (life ∷ [])
-    ∙ ap (λ (x : Life). old ++ (so_far ++ x ∷ [])) c.in_ok-chain_life.ensures
+    ∙ ap (λ (x : Life). old ++ (so_far ++ x ∷ [])) c.chain_life.ensures
     ∙ ap (λ (xs : List Life). old ++ xs) (sym (map-range_with_len_more f 0 n n (omega arith)))
