@@ -1,5 +1,5 @@
 //! Loads that start together, counted by array.
-ghost use Rattle.std.specs.Prelude.{◌≡◌, ◌+◌, ◌%◌, ◌<◌, ◌&&◌, ◌||◌, ◌∷◌, ◌++◌, [], if◌then◌else◌, length, List, IfOk, OnOk};
+ghost use Rattle.std.specs.Prelude.{◌≡◌, ◌+◌, ◌%◌, ◌^◌, ◌<◌, ◌&&◌, ◌||◌, ◌∷◌, ◌++◌, [], if◌then◌else◌, length, List, IfOk, OnOk};
 ghost use Rattle.ir_core.specs.declared.body.Op.{Op};
 ghost use Rattle.clock_ir.specs.declared.timed.Timed.{Timed};
 ghost use Rattle.datapath.specs.Ports.{is_load, is_store};
@@ -57,17 +57,17 @@ fn counted(loads: &Loads, moment: Moment) -> u32
 
 /// One more load at this moment.
 fn note(loads: &mut Loads, moment: Moment) -> Result<(), AllocError>
+    requires { count_at loads.old moment + 1 < 2 ^ 32 }
     ensures { OnOk result ((m : Moment) → count_at loads.new m ≡ (if moment_eq moment m then count_at loads.old moment + 1 else count_at loads.old m)) }
 {
-    let Some(more) = counted(loads, moment).checked_add(1) else {
-        return Err(impossible());
-    };
+    let more = counted(loads, moment) + 1;
     loads.insert(moment, more)?;
     Ok(())
 }
 
 /// One more operation.
 fn note_if(loads: &mut Loads, moment: Moment, kind: OpKind) -> Result<(), AllocError>
+    requires { count_at loads.old moment + 1 < 2 ^ 32 }
     ensures { OnOk result ((m : Moment) → count_at loads.new m ≡ (if is_load kind && moment_eq moment m then count_at loads.old moment + 1 else count_at loads.old m)) }
 {
     if is_loading(kind) {
@@ -103,7 +103,8 @@ pub fn port_of(
     op: &Op<Timed>,
     span: u64,
 ) -> Result<u32, AllocError>
-    requires { 0 < span }
+    requires span { 0 < span }
+    requires few { (m : Moment) → count_at loads.old m + 1 < 2 ^ 32 }
     ensures port { (before : List (Op Timed)) → Counts span before loads.old → IfOk result (λ n. n ≡ port_if (tables_in memories.now) span before op.now) }
     ensures counts { (before : List (Op Timed)) → Counts span before loads.old → OnOk result (Counts span (before ++ op.now ∷ []) loads.new) }
 {

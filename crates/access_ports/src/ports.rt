@@ -1,5 +1,6 @@
 //! The ports of accesses. The loads of a table that start together have a port each.
-ghost use Rattle.std.specs.Prelude.{◌≡◌, ◌<◌, [], map, length, ℕ, Some, IfOk, OnOk, slice_get};
+ghost use Rattle.std.specs.Prelude.{◌≡◌, ◌<◌, ◌^◌, [], map, length, ℕ, Some, IfOk, OnOk, slice_get};
+ghost use Rattle.std.specs.List.{All};
 ghost use Rattle.hls_base.specs.declared.number.ArrayId.{ArrayId};
 ghost use Rattle.clock_meaning.specs.Flows.{TimedOp};
 ghost use Rattle.reg_binding.specs.declared.registers.Registers.{Registers};
@@ -42,7 +43,8 @@ fn row_of(
     ops: &[Op<Timed>],
     span: u64,
 ) -> Result<Vec<u32>, AllocError>
-    requires { 0 < span }
+    requires span { 0 < span }
+    requires few { length ops.now < 2 ^ 32 }
     ensures { IfOk result (λ row. row.items ≡ ports_from (tables_in memories.now) span [] ops.now) }
 {
     let mut loads = IndexMap::new(alloc);
@@ -87,6 +89,7 @@ fn ports_in(
     memories: &[Memory],
     nodes: &[Node<Timed>],
 ) -> Result<PortNumbers, AllocError>
+    requires { All (λ n. length (ops_in n) < 2 ^ 32) nodes.now }
     ensures { IfOk result (AreNumbered memories.now nodes.now) }
 {
     let mut counts = vec![in alloc; 1u32; memories.len()]?;
@@ -101,6 +104,7 @@ fn ports_in(
 
 /// The ports of a program's accesses.
 pub fn ports_of(alloc: Global, cfg: &Cfg<Timed>) -> Result<PortNumbers, AllocError>
+    requires { All (λ n. length (ops_in n) < 2 ^ 32) cfg.now.nodes.items }
     ensures { (p : Plan) (registers : Registers) → IsPlanOf p cfg.now registers → IfOk result (λ ports. ArePorts p ports) }
 {
     ports_in(alloc, &cfg.frame.memories, &cfg.nodes)

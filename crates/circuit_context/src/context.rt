@@ -1,10 +1,5 @@
 //! A program with times, and what was found for its circuit.
-ghost use Rattle.std.specs.Prelude.{◌≡◌, List, IfOk, Some, slice_get};
-ghost use Rattle.datapath.specs.Plans.{Plan};
-ghost use Rattle.datapath.specs.Cycles.{Register};
-ghost use Rattle.circuit_wires.specs.Carrying.{IsRegister};
-ghost use Rattle.circuit_log.specs.Roles.{named};
-ghost use Rattle.circuit_context.specs.Contexts.{IsContext};
+ghost use Rattle.small_numbers.specs.Small.{HasFewParts};
 
 use access_ports::ports::PortNumbers;
 use circuit_log::role::Role;
@@ -30,6 +25,7 @@ pub struct Context<'a> {
     pub ports: PortNumbers,
     pub read: Vec<bool>,
     pub live: Live,
+    ghost few: { HasFewParts cfg.now },
 }
 
 /// A node, and the time in its block or iteration.
@@ -40,6 +36,13 @@ pub struct Reading {
 }
 
 impl<'a> Context<'a> {
+    ghost use Rattle.std.specs.Prelude.{◌≡◌, List, IfOk, Some, slice_get};
+    ghost use Rattle.datapath.specs.Plans.{Plan};
+    ghost use Rattle.datapath.specs.Cycles.{Register};
+    ghost use Rattle.circuit_wires.specs.Carrying.{IsRegister};
+    ghost use Rattle.circuit_log.specs.Roles.{named};
+    ghost use Rattle.circuit_context.specs.Contexts.{IsContext};
+
     /// The node with this number.
     pub fn node(&self, node: NodeId) -> Result<&Node<Timed>, AllocError>
         ensures { IfOk result (λ n. slice_get self.now.cfg.now.nodes.items node.0 ≡ Some n.now) }

@@ -1,5 +1,5 @@
 //! Which variables are read, and the cases of which no two can hold.
-ghost use Rattle.std.specs.Prelude.{◌≡◌, ◌<◌, ℕ, IfOk, length, slice_get, Some};
+ghost use Rattle.std.specs.Prelude.{◌≡◌, ◌<◌, ◌^◌, ℕ, IfOk, length, slice_get, Some};
 ghost use Rattle.live_variables.specs.Liveness.{IsSized};
 ghost use Rattle.live_variables.specs.Sets.{has};
 ghost use Rattle.clock_meaning.specs.Flows.{timed_body};
@@ -9,7 +9,6 @@ use crate::cases::{are_others, comparison};
 use crate::reads::{note_kept, note_nodes};
 use clock_ir::timed::Timed;
 use hls_base::number::{NodeId, VarId};
-use hls_base::refusal::impossible;
 use ir_core::body::{Body, Operand};
 use ir_core::cfg::Cfg;
 use live_variables::live::Live;
@@ -18,13 +17,11 @@ use std::alloc::{AllocError, Global};
 
 /// Which of so many variables the set has.
 fn members(alloc: Global, set: &VarSet, count: usize) -> Result<Vec<bool>, AllocError>
+    requires { count < 2 ^ 32 }
     ensures { IfOk result (λ read. (v : ℕ) → v < count → slice_get read.items v ≡ Some (has set.now v)) }
 {
-    let Ok(count) = u32::try_from(count) else {
-        return Err(impossible());
-    };
     let mut read = Vec::new(alloc);
-    for number in 0..count {
+    for number in 0..count as u32 {
         read.push(set.contains(VarId(number)))?;
     }
     Ok(read)
@@ -32,6 +29,7 @@ fn members(alloc: Global, set: &VarSet, count: usize) -> Result<Vec<bool>, Alloc
 
 /// Which variables some node reads, or stay for the next run.
 pub fn variables_read(alloc: Global, cfg: &Cfg<Timed>, live: &Live) -> Result<Vec<bool>, AllocError>
+    requires { length cfg.now.frame.variables.items < 2 ^ 32 }
     ensures { IsSized live.now → length cfg.now.frame.variables.items ≡ live.now.variables
         → IfOk result (λ read. (v : ℕ) → v < length cfg.now.frame.variables.items → slice_get read.items v ≡ Some (is_read cfg.now live.now v)) }
 {

@@ -88,14 +88,20 @@ fn chosen(of: &Context<'_>, logic: &mut Logic, words: Vec<Atom>) -> Result<Vec<A
     Ok(level)
 }
 
+/// As many as can be numbered.
+fn counted(count: usize) -> u32
+    requires { count < 2 ^ 32 }
+    ensures { result ≡ count }
+{
+    count as u32
+}
+
 /// What the host reads: the word that port 0 of the array named in the cycle before has taken.
 pub fn element(of: &Context<'_>, logic: &mut Logic) -> Result<Atom, AllocError>
     ensures { (p : Plan) (names : List Register) → IsContext p names of.now → IsBegun p names (circuit logic.old)
         → IfOk result (λ a. MakesElement p names (circuit logic.old) (circuit logic.new) a) }
 {
-    let Ok(count) = u32::try_from(host_memories(of.cfg)) else {
-        return Err(impossible());
-    };
+    let count = counted(host_memories(of.cfg));
     let words = words(of, logic, count)?;
     if count < 2 {
         return Ok(first_word(&words));

@@ -1,5 +1,5 @@
 //! The registers of a circuit, each for one thing.
-ghost use Rattle.std.specs.Prelude.{◌≡◌, ◌∷◌, ◌++◌, [], map, IfOk, OnOk};
+ghost use Rattle.std.specs.Prelude.{◌≡◌, ◌<◌, ◌^◌, ◌∷◌, ◌++◌, [], length, map, IfOk, OnOk};
 ghost use Rattle.datapath.specs.Plans.{Plan};
 ghost use Rattle.rtl_logic.specs.Making.{circuit};
 ghost use Rattle.circuit_wires.specs.Carrying.{IsBegun, IsRegister};
@@ -78,6 +78,9 @@ pub fn allot(
     registers: &Registers,
     ports: &[u32],
 ) -> Result<Bank, AllocError>
+    requires nodes { length cfg.now.nodes.items < 2 ^ 32 }
+    requires variables { length cfg.now.frame.variables.items < 2 ^ 32 }
+    requires arrays { length cfg.now.frame.memories.items < 2 ^ 32 }
     ensures { (p : Plan) → IsPlanOf p cfg.now registers.now → ArePortCounts p ports.now → IsBegun p [] (circuit logic.old)
         → IfOk result (λ bank. IsAllotted p (circuit logic.old) (circuit logic.new) bank) }
 {

@@ -30,13 +30,11 @@ pub struct Slot {
 }
 
 /// A number of 32 bits.
-fn number_of(number: usize) -> Result<u32, AllocError>
-    ensures { IfOk result (λ n. n ≡ number) }
+fn number_of(number: usize) -> u32
+    requires { number < 2 ^ 32 }
+    ensures { result ≡ number }
 {
-    match u32::try_from(number) {
-        Ok(number) => Ok(number),
-        Err(_) => Err(impossible()),
-    }
+    number as u32
 }
 
 fn push(slots: &mut Vec<Slot>, role: Role, bits: u8) -> Result<(), AllocError>
@@ -67,14 +65,16 @@ fn is_loop(node: &Node<Timed>) -> bool
 }
 
 fn push_node(slots: &mut Vec<Slot>, number: usize, node: &Node<Timed>) -> Result<(), AllocError>
+    requires { number < 2 ^ 32 }
     ensures { (p : Plan) → OnOk result (Adds p slots.old.items slots.new.items (node_roles (number, timed_node node.now))) }
 {
-    let id = NodeId(number_of(number)?);
+    let id = NodeId(number_of(number));
     push(slots, Role::Active(id), 1)?;
     push_if(slots, is_loop(node), Role::Load(id), 1)
 }
 
 fn push_nodes(slots: &mut Vec<Slot>, nodes: &[Node<Timed>]) -> Result<(), AllocError>
+    requires { length nodes.now < 2 ^ 32 }
     ensures { (p : Plan) → OnOk result (Adds p slots.old.items slots.new.items (flat_map node_roles (enumerate_from 0 (map timed_node nodes.now)))) }
 {
     for (number, node) in nodes.iter().enumerate() {
@@ -84,6 +84,7 @@ fn push_nodes(slots: &mut Vec<Slot>, nodes: &[Node<Timed>]) -> Result<(), AllocE
 }
 
 fn push_control(slots: &mut Vec<Slot>, cfg: &Cfg<Timed>) -> Result<(), AllocError>
+    requires { length cfg.now.nodes.items < 2 ^ 32 }
     ensures { (p : Plan) (registers : Registers) → IsPlanOf p cfg.now registers → initial_cycles p < 2 ^ 64 → OnOk result (Adds p slots.old.items slots.new.items (control_roles p)) }
 {
     push(slots, Role::Ready, 1)?;
@@ -126,10 +127,11 @@ fn push_loops(slots: &mut Vec<Slot>, cfg: &Cfg<Timed>, lines: Lines) -> Result<(
 // ---- variables and results
 
 fn push_variables(slots: &mut Vec<Slot>, widths: &[u8]) -> Result<(), AllocError>
+    requires { length widths.now < 2 ^ 32 }
     ensures { (p : Plan) → p.program.shapes.widths ≡ widths.now → OnOk result (Adds p slots.old.items slots.new.items (map (λ (v : ℕ). role.Variable (variable_of v)) (range_with_len 0 (length widths.now)))) }
 {
     for (number, bits) in widths.iter().enumerate() {
-        push(slots, Role::Variable(VarId(number_of(number)?)), *bits)?;
+        push(slots, Role::Variable(VarId(number_of(number))), *bits)?;
     }
     Ok(())
 }
@@ -148,6 +150,7 @@ fn push_results(
     cfg: &Cfg<Timed>,
     registers: &Registers,
 ) -> Result<(), AllocError>
+    requires { length cfg.now.frame.variables.items < 2 ^ 32 }
     ensures { (p : Plan) → IsPlanOf p cfg.now registers.now → OnOk result (Adds p slots.old.items slots.new.items (value_roles p)) }
 {
     push_variables(slots, &cfg.frame.variables)?;
@@ -167,19 +170,21 @@ fn push_words(slots: &mut Vec<Slot>, array: ArrayId, ports: u32, bits: u8) -> Re
 }
 
 fn push_arrays(slots: &mut Vec<Slot>, memories: &[Memory], ports: &[u32]) -> Result<(), AllocError>
+    requires { length memories.now < 2 ^ 32 }
     ensures { (p : Plan) → map array_of memories.now ≡ p.arrays → ArePortCounts p ports.now → OnOk result (Adds p slots.old.items slots.new.items (flat_map (word_roles p) (range_with_len 0 (length p.arrays)))) }
 {
     for (number, memory) in memories.iter().enumerate() {
         if number >= ports.len() {
             return Err(impossible());
         }
-        let array = ArrayId(number_of(number)?);
+        let array = ArrayId(number_of(number));
         push_words(slots, array, ports[number], memory.bits)?;
     }
     Ok(())
 }
 
 fn push_ports(slots: &mut Vec<Slot>, cfg: &Cfg<Timed>, ports: &[u32]) -> Result<(), AllocError>
+    requires { length cfg.now.frame.memories.items < 2 ^ 32 }
     ensures { (p : Plan) (registers : Registers) → IsPlanOf p cfg.now registers → ArePortCounts p ports.now → OnOk result (Adds p slots.old.items slots.new.items (port_roles p)) }
 {
     push_arrays(slots, &cfg.frame.memories, ports)?;
@@ -202,6 +207,9 @@ pub fn slots_of(
     ports: &[u32],
     lines: Lines,
 ) -> Result<Vec<Slot>, AllocError>
+    requires nodes { length cfg.now.nodes.items < 2 ^ 32 }
+    requires variables { length cfg.now.frame.variables.items < 2 ^ 32 }
+    requires arrays { length cfg.now.frame.memories.items < 2 ^ 32 }
     ensures { (p : Plan) → IsPlanOf p cfg.now registers.now → ArePortCounts p ports.now → initial_cycles p < 2 ^ 64
         → IfOk result (λ slots. slots.items ≡ map (slot p) (all_roles p lines.gates lines.stages)) }
 {
