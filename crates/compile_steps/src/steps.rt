@@ -1,5 +1,6 @@
 //! The steps from a program without faults to its flat form with times.
 ghost use Rattle.std.specs.Prelude.{◌≡◌, ◌≤◌, IfOk, map};
+ghost use Rattle.std.specs.List.{All};
 ghost use Rattle.hls_base.specs.Refusals.{IfRefused};
 ghost use Rattle.c_tree.specs.View.{program_of};
 ghost use Rattle.c_elaborate.specs.Programs.{program_elaborated};
@@ -7,6 +8,7 @@ ghost use Rattle.pieces.specs.Program.{expanded_of};
 ghost use Rattle.c_expand.specs.Expansion.{expansion, expanded_weight, IsOverweight};
 ghost use Rattle.ir_lower.specs.Frames.{frame_view, frame_of};
 ghost use Rattle.cycle_report.specs.PlainReport.{loop_of};
+ghost use Rattle.program_times.specs.ForwardNodes.{HasForwardBody};
 ghost use Rattle.compile_steps.specs.Flat.{IsFlatOf};
 ghost use Rattle.compile_steps.specs.Runs.{IsWithoutFaults, RunsAsProgram};
 ghost use Rattle.compile_steps.specs.Reports.{IsTimed};
@@ -17,7 +19,7 @@ use c_elaborate::elaborate::elaborate;
 use c_expand::expand::expand;
 use clock_ir::timed::Timed;
 use cycle_report::report::LoopRow;
-use hls_base::refusal::Fail;
+use hls_base::refusal::{Fail, impossible};
 use hls_base::settings::{Settings, Units};
 use if_convert::convert::convert;
 use ir_core::cfg::Cfg;
@@ -25,6 +27,7 @@ use ir_core::stamp::Untimed;
 use ir_layout::layout::lay_out;
 use ir_lower::lower::lower;
 use pieces::expanded::Expanded;
+use program_times::forward::are_forward;
 use program_times::nodes::{TimedNodes, timed_nodes};
 use std::alloc::{AllocError, Global};
 use value_number::number::number;
@@ -48,11 +51,15 @@ pub fn flat_program(
 ) -> Result<Cfg<Untimed>, AllocError>
     ensures frame { IfOk result (λ cfg. frame_view cfg.frame ≡ frame_of expanded.now) }
     ensures flat { IfOk result (λ cfg. IsFlatOf (expanded_of expanded.now) settings.now.plain cfg) }
+    ensures forward { IfOk result (λ cfg. All HasForwardBody cfg.nodes.items) }
 {
     let tree = lower(alloc, expanded)?;
     let tree = number(alloc, tree)?;
     let tree = convert(alloc, tree, !settings.plain)?;
     let cfg = lay_out(alloc, tree)?;
+    if !are_forward(&cfg.nodes) {
+        return Err(impossible());
+    }
     Ok(cfg)
 }
 
@@ -69,6 +76,7 @@ pub fn timed_program(
     untimed: &Cfg<Untimed>,
     units: Units,
 ) -> Result<Schedule, AllocError>
+    requires { All HasForwardBody untimed.now.nodes.items }
     ensures { IfOk result (λ made. IsTimed units untimed.now made.timed (map loop_of made.loops.items)) }
 {
     let TimedNodes { nodes, loops } = timed_nodes(

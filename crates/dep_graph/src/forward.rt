@@ -16,7 +16,8 @@ const OP_LIMIT: usize = 1 << 25;
 /// The greatest number of iterations by which an operand goes back.
 const MAX_DISTANCE: u32 = 65_536;
 
-fn is_earlier(number: usize, op: Option<OpId>) -> bool
+/// Whether the operation, if there is one, is among the first ones.
+pub fn is_earlier(number: usize, op: Option<OpId>) -> bool
     ensures { IsTrue result ↔ IsEarlier number op }
 {
     match op {

@@ -1,8 +1,11 @@
-ghost use Rattle.std.specs.Prelude.{◌≡◌, ◌+◌, ◌-◌, ◌<◌, ◌≤◌, ◌^◌, ◌↔◌, IsTrue, IfOk, length};
+ghost use Rattle.std.specs.Prelude.{◌≡◌, ◌+◌, ◌-◌, ◌<◌, ◌≤◌, ◌^◌, IfOk, length};
 ghost use Rattle.std.specs.List.{All};
-ghost use Rattle.modulo_loop.specs.Rules.{loop_rules};
+ghost use Rattle.dep_graph.specs.Dependences.{edges_of};
+ghost use Rattle.dep_graph.specs.ForwardBodies.{IsForwardEdge};
+ghost use Rattle.unit_binding.specs.Ranks.{AreForwardOrders};
+ghost use Rattle.modulo_loop.specs.ForwardRules.{IsForwardLoop, AreForwardRules};
 ghost use Rattle.modulo_loop.specs.Lowest.{HasLeastInterval};
-ghost use Rattle.modulo_loop.specs.Searches.{IsAttempt, IsFound};
+ghost use Rattle.modulo_loop.specs.Searches.{IsAttempt, IsEarlyAttempt, IsFound};
 
 use crate::exit::least_exit;
 use crate::rules::rules;
@@ -10,22 +13,12 @@ use crate::tight::{constraints_at, cycle_of, least_interval};
 use body_times::copy::timed_body;
 use clock_ir::timed::Timed;
 use dep_graph::edge::Edge;
-use diff_solve::solve::{Solved, is_admissible, solve};
-use hls_base::refusal::impossible;
+use diff_solve::solve::{Solved, solve};
 use hls_base::words::Words;
 use ir_core::cfg::Loop;
 use ir_core::stamp::Untimed;
 use std::alloc::{AllocError, Global};
 use unit_binding::binding::Binding;
-
-/// The greatest number of nodes.
-const MAX_NODES: u32 = 1 << 26;
-
-/// The greatest number of intervals that are tried.
-const MAX_ROUNDS: u32 = 1 << 31;
-
-/// All times are below this one.
-const TIME_LIMIT: u64 = 1 << 32;
 
 /// A loop with times. Above interval 1 `lower` has constraints that an interval one less cannot meet, each of which begins where the one before ends.
 #[derive(Debug, Drop)]
@@ -49,46 +42,36 @@ struct Found {
     lower: Option<Vec<Edge>>,
 }
 
-/// Whether all times are below the limit.
-fn are_early(times: &[u64]) -> bool
-    ensures { IsTrue result ↔ All (λ t. t < 2 ^ 32) times.now }
-{
-    times.iter().all(|time| *time < TIME_LIMIT)
-}
-
 /// Tries an interval.
 fn try_interval(alloc: Global, nodes: u32, rules: &[Edge], ii: u32) -> Result<Attempt, AllocError>
-    ensures { IfOk result (IsAttempt nodes rules.now ii) }
+    requires some { 0 < nodes }
+    requires few { nodes ≤ 2 ^ 25 }
+    requires forward { AreForwardRules nodes rules.now }
+    ensures attempt { IfOk result (IsAttempt nodes rules.now ii) }
+    ensures early { IfOk result (IsEarlyAttempt (2 ^ 32 - 2 ^ 25)) }
 {
     let constraints = constraints_at(alloc, rules, ii)?;
-    if nodes == 0 || nodes > MAX_NODES || !is_admissible(nodes, &constraints) {
-        return Err(impossible());
-    }
     match solve(alloc, nodes, &constraints)? {
-        Solved::Least(times) => {
-            if are_early(times.items()) {
-                Ok(Attempt::Met(times))
-            } else {
-                Err(impossible())
-            }
-        }
+        Solved::Least(times) => Ok(Attempt::Met(times)),
         Solved::Cycle(positions) => {
             let cycle = cycle_of(alloc, rules, positions.items())?;
-            match least_interval(&cycle) {
-                Some(next) if next > ii => Ok(Attempt::TooTight { cycle, next }),
-                _ => Err(impossible()),
-            }
+            let next = least_interval(&cycle);
+            Ok(Attempt::TooTight { cycle, next })
         }
     }
 }
 
 /// Raises the interval past each cycle of rules that cannot be met, until there is none.
 fn search(alloc: Global, nodes: u32, rules: &[Edge]) -> Result<Found, AllocError>
-    ensures { IfOk result (IsFound nodes rules.now) }
+    requires some { 0 < nodes }
+    requires few { nodes ≤ 2 ^ 25 }
+    requires forward { AreForwardRules nodes rules.now }
+    ensures found { IfOk result (IsFound nodes rules.now) }
+    ensures early { IfOk result (λ found. All (λ t. t ≤ 2 ^ 32 - 2 ^ 25) found.times) }
 {
     let mut ii = 1;
     let mut lower = None;
-    for _round in 0..MAX_ROUNDS {
+    for _round in 0..u32::MAX {
         match try_interval(alloc, nodes, rules, ii)? {
             Attempt::Met(times) => return Ok(Found { ii, times, lower }),
             Attempt::TooTight { cycle, next } => {
@@ -97,7 +80,7 @@ fn search(alloc: Global, nodes: u32, rules: &[Edge]) -> Result<Found, AllocError
             }
         }
     }
-    Err(impossible())
+    unreachable!()
 }
 
 /// Starts an iteration each `ii` cycles, with the least `ii` that there is, and each operation as soon as it may.
@@ -107,19 +90,18 @@ pub fn pipeline(
     edges: &[Edge],
     binding: &Binding,
 ) -> Result<Pipelined, AllocError>
+    requires forward { IsForwardLoop region.now.body }
+    requires edges { edges.now ≡ edges_of region.now.body }
+    requires leading { All (IsForwardEdge (length region.now.body.ops.items + 1)) edges.now }
+    requires orders { AreForwardOrders (length region.now.body.ops.items) edges.now binding.now.orders.items }
     ensures { IfOk result (HasLeastInterval region.now edges.now binding.now) }
 {
     let body = &region.body;
     let ops = body.ops.len();
-    if ops >= MAX_NODES as usize {
-        return Err(impossible());
-    }
     let rules = rules(alloc, body, edges, binding)?;
     let found = search(alloc, ops as u32 + 1, &rules)?;
     let times = found.times.items();
-    let Ok(exit) = u32::try_from(least_exit(body, times, found.ii)) else {
-        return Err(impossible());
-    };
+    let exit = least_exit(body, times, found.ii) as u32;
     let region = Loop {
         point: region.point.copy(alloc)?,
         body: timed_body(alloc, body, times, &binding.unit_of)?,

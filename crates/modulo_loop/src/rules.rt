@@ -1,30 +1,24 @@
 //! The constraints of a loop, as edges.
-ghost use Rattle.std.specs.Prelude.{◌≡◌, ◌+◌, ◌++◌, IfOk, OnOk};
+ghost use Rattle.std.specs.Prelude.{◌↔◌, IsTrue, ◌≡◌, ◌<◌, ◌≤◌, ◌^◌, ◌++◌, IfOk, OnOk, length};
+ghost use Rattle.std.specs.List.{All};
+ghost use Rattle.dep_graph.specs.ForwardBodies.{IsEarlier};
+ghost use Rattle.unit_binding.specs.Ranks.{IsOrderWithin};
+ghost use Rattle.modulo_loop.specs.ForwardRules.{IsForwardLoop};
 ghost use Rattle.modulo_loop.specs.Rules as spec;
 
 use dep_graph::edge::{Edge, Why};
+use dep_graph::forward::{is_earlier, is_forward};
 use hls_base::number::OpId;
-use hls_base::refusal::impossible;
 use ir_core::body::{Body, Op, OpKind, Operand, Out, Source};
 use ir_core::stamp::Untimed;
 use ir_operation::timing::latency;
 use std::alloc::{AllocError, Global};
 use unit_binding::binding::{Binding, UnitOrder};
 
-/// The node of an operation.
-fn node(op: u32) -> Result<u32, AllocError>
-    ensures { IfOk result (λ n. n ≡ op + 1) }
-{
-    if op < u32::MAX {
-        Ok(op + 1)
-    } else {
-        Err(impossible())
-    }
-}
-
 /// The latency of an operation; 0 where there is none of this number.
 pub fn latency_of(ops: &[Op<Untimed>], op: OpId) -> u32
-    ensures { result ≡ spec.latency_of ops.now op }
+    ensures value { result ≡ spec.latency_of ops.now op }
+    ensures small { result ≤ 257 }
 {
     let number = op.0 as usize;
     if number < ops.len() {
@@ -92,14 +86,22 @@ fn known_first(outs: &[Out], test: Option<Operand>) -> Option<OpId>
     }
 }
 
+/// Whether the operations of a loop come behind those that they wait for, and are few, and one of them makes what must be known before the next iteration.
+pub fn is_forward_loop(body: &Body<Untimed>) -> bool
+    ensures { IsTrue result ↔ IsForwardLoop body.now }
+{
+    is_earlier(body.ops.len(), known_first(&body.outs, body.test)) && is_forward(body)
+}
+
 /// Adds that a unit serves each of its operations after the one before.
 fn add_next_rules(order: &UnitOrder, rules: &mut Vec<Edge>) -> Result<(), AllocError>
+    requires { IsOrderWithin (2 ^ 25) order.now }
     ensures { OnOk result (rules.new.items ≡ rules.old.items ++ spec.next_rules order.now.occupancy order.now.ops.items) }
 {
     for position in 1..order.ops.len() {
         rules.push(Edge {
-            from: node(order.ops[position - 1])?,
-            to: node(order.ops[position])?,
+            from: order.ops[position - 1] + 1,
+            to: order.ops[position] + 1,
             latency: order.occupancy,
             distance: 0,
             why: Why::Unit,
@@ -110,12 +112,13 @@ fn add_next_rules(order: &UnitOrder, rules: &mut Vec<Edge>) -> Result<(), AllocE
 
 /// Adds that a unit serves the first operation of an iteration after the last of the one before.
 fn add_again_rule(order: &UnitOrder, rules: &mut Vec<Edge>) -> Result<(), AllocError>
+    requires { IsOrderWithin (2 ^ 25) order.now }
     ensures { OnOk result (rules.new.items ≡ rules.old.items ++ spec.again_rules order.now.occupancy order.now.ops.items) }
 {
     if !order.ops.is_empty() {
         rules.push(Edge {
-            from: node(order.ops[order.ops.len() - 1])?,
-            to: node(order.ops[0])?,
+            from: order.ops[order.ops.len() - 1] + 1,
+            to: order.ops[0] + 1,
             latency: order.occupancy,
             distance: 1,
             why: Why::Unit,
@@ -126,6 +129,7 @@ fn add_again_rule(order: &UnitOrder, rules: &mut Vec<Edge>) -> Result<(), AllocE
 
 /// Adds the orders of units.
 fn add_unit_rules(orders: &[UnitOrder], rules: &mut Vec<Edge>) -> Result<(), AllocError>
+    requires { All (IsOrderWithin (2 ^ 25)) orders.now }
     ensures { OnOk result (rules.new.items ≡ rules.old.items ++ spec.unit_rules orders.now) }
 {
     for order in orders {
@@ -141,11 +145,12 @@ fn add_known_rule(
     known: Option<OpId>,
     rules: &mut Vec<Edge>,
 ) -> Result<(), AllocError>
+    requires { IsEarlier (2 ^ 25) known }
     ensures { OnOk result (rules.new.items ≡ rules.old.items ++ spec.known_rules ops.now known) }
 {
     if let Some(op) = known {
         rules.push(Edge {
-            from: node(op.0)?,
+            from: op.0 + 1,
             to: 0,
             latency: latency_of(ops, op),
             distance: 1,
@@ -161,6 +166,8 @@ fn add_store_rules(
     test: Option<OpId>,
     rules: &mut Vec<Edge>,
 ) -> Result<(), AllocError>
+    requires few { length ops.now < 2 ^ 25 }
+    requires test { IsEarlier (2 ^ 25) test }
     ensures { OnOk result (rules.new.items ≡ rules.old.items ++ spec.store_rules ops.now test) }
 {
     let Some(test) = test else {
@@ -168,12 +175,9 @@ fn add_store_rules(
     };
     for (number, op) in ops.iter().enumerate() {
         if is_store(op.kind) {
-            let Ok(store) = u32::try_from(number) else {
-                return Err(impossible());
-            };
             rules.push(Edge {
-                from: node(test.0)?,
-                to: node(store)?,
+                from: test.0 + 1,
+                to: number as u32 + 1,
                 latency: latency_of(ops, test),
                 distance: 0,
                 why: Why::Control,
@@ -190,6 +194,8 @@ pub fn rules(
     edges: &[Edge],
     binding: &Binding,
 ) -> Result<Vec<Edge>, AllocError>
+    requires forward { IsForwardLoop body.now }
+    requires orders { All (IsOrderWithin (2 ^ 25)) binding.now.orders.items }
     ensures { IfOk result (λ rules. rules.items ≡ spec.loop_rules body.now edges.now binding.now.orders.items) }
 {
     let mut rules: Vec<Edge> = Vec::from_slice(alloc, edges)?;

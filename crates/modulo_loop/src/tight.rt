@@ -1,37 +1,35 @@
 //! Cycles of rules that an interval cannot meet.
-ghost use Rattle.std.specs.Prelude.{◌≡◌, ◌-◌, ◌*◌, ◌<◌, IfOk, IfSome, OnOk, pos, ◌-ℤ◌};
+ghost use Rattle.std.specs.Prelude.{◌≡◌, ℕ, ◌+◌, ◌-◌, ◌*◌, ◌<◌, ◌≤◌, ◌^◌, IfOk, OnOk, pos, ◌-ℤ◌};
+ghost use Rattle.std.specs.List.{All};
+ghost use Rattle.dep_graph.specs.declared.edge.Edge.{Edge};
 ghost use Rattle.modulo_loop.specs.Lowest.{total_latency, total_distance};
 ghost use Rattle.modulo_loop.specs.Trips.{IsRoundTrip, RulesLead, Joins, IsCycleAlong};
 ghost use Rattle.modulo_loop.specs.Rules as spec;
 
 use dep_graph::edge::{Edge, Why};
 use diff_solve::solve::Constraint;
-use hls_base::refusal::impossible;
 use std::alloc::{AllocError, Global};
 
 /// What a rule adds where an iteration begins each `ii` cycles.
-fn weight_at(rule: Edge, ii: u32) -> Option<i64>
-    ensures { IfSome result (λ weight. weight ≡ (pos rule.latency -ℤ pos (ii * rule.distance))) }
+fn weight_at(rule: Edge, ii: u32) -> i64
+    requires { rule.distance ≤ 2 ^ 16 }
+    ensures { result ≡ (pos rule.latency -ℤ pos (ii * rule.distance)) }
 {
-    match i64::try_from(u64::from(ii) * u64::from(rule.distance)) {
-        Ok(back) => Some(i64::from(rule.latency) - back),
-        Err(_) => None,
-    }
+    let back = u64::from(ii) * u64::from(rule.distance);
+    i64::from(rule.latency) - back as i64
 }
 
 /// The rules as constraints, where an iteration begins each `ii` cycles.
 pub fn constraints_at(alloc: Global, rules: &[Edge], ii: u32) -> Result<Vec<Constraint>, AllocError>
+    requires { All (λ (rule : Edge). rule.distance ≤ 2 ^ 16) rules.now }
     ensures { IfOk result (λ cs. cs.items ≡ spec.constraints_at ii rules.now) }
 {
     let mut constraints = Vec::with_capacity(alloc, rules.len())?;
     for rule in rules {
-        let Some(weight) = weight_at(*rule, ii) else {
-            return Err(impossible());
-        };
         constraints.push(Constraint {
             from: rule.from,
             to: rule.to,
-            weight,
+            weight: weight_at(*rule, ii),
         })?;
     }
     Ok(constraints)
@@ -85,29 +83,38 @@ pub fn cycle_of(alloc: Global, rules: &[Edge], positions: &[u64]) -> Result<Vec<
     Ok(cycle)
 }
 
-/// The latencies and the distances of edges, added up.
-fn totals(cycle: &[Edge]) -> Option<(u64, u64)>
-    ensures { IfSome result (λ t. (t.0 ≡ total_latency cycle.now) × (t.1 ≡ total_distance cycle.now)) }
+/// A total and one more number.
+fn increased(total: u128, more: u32) -> u128
+    requires { total < 2 ^ 127 }
+    ensures value { result ≡ total + more }
+    ensures low { result ≤ total + 2 ^ 32 }
 {
-    let mut latency: u64 = 0;
-    let mut distance: u64 = 0;
-    for edge in cycle {
-        latency = latency.checked_add(u64::from(edge.latency))?;
-        distance = distance.checked_add(u64::from(edge.distance))?;
-    }
-    Some((latency, distance))
+    total + u128::from(more)
 }
 
-/// The least interval that is not too tight for a cycle of rules, if there is one.
-pub fn least_interval(cycle: &[Edge]) -> Option<u32>
-    ensures { IfSome result (λ ii. (ii - 1) * total_distance cycle.now < total_latency cycle.now) }
+/// The latencies and the distances of edges, added up.
+fn totals(cycle: &[Edge]) -> (u128, u128)
+    ensures latency { result.0 ≡ total_latency cycle.now }
+    ensures distance { result.1 ≡ total_distance cycle.now }
 {
-    let (latency, distance) = totals(cycle)?;
-    if distance == 0 || latency == 0 {
-        return None;
+    let mut latency: u128 = 0;
+    let mut distance: u128 = 0;
+    for edge in cycle {
+        latency = increased(latency, edge.latency);
+        distance = increased(distance, edge.distance);
     }
-    match u32::try_from((latency - 1) / distance) {
-        Ok(before) if before < u32::MAX => Some(before + 1),
-        _ => None,
-    }
+    (latency, distance)
+}
+
+/// The least interval that is not too tight for a cycle of rules.
+pub fn least_interval(cycle: &[Edge]) -> u32
+    requires later { 0 < total_distance cycle.now }
+    requires long { 0 < total_latency cycle.now }
+    requires low { (ii : ℕ) → ii * total_distance cycle.now < total_latency cycle.now → ii + 1 < 2 ^ 32 }
+    ensures least { (result - 1) * total_distance cycle.now < total_latency cycle.now }
+    ensures enough { (ii : ℕ) → ii * total_distance cycle.now < total_latency cycle.now → ii < result }
+{
+    let (latency, distance) = totals(cycle);
+    let before = (latency - 1) / distance;
+    before as u32 + 1
 }

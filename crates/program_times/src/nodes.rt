@@ -1,9 +1,13 @@
 //! The times of a program's operations.
 ghost use Rattle.std.specs.Prelude.{◌≡◌, ◌++◌, [], map, length, IfOk, OnOk, option_to_list};
+ghost use Rattle.std.specs.List.{All};
 ghost use Rattle.std.specs.List.Sorted.{IsPermutation, IsSortedBy};
 ghost use Rattle.std.specs.Ordering.{is_lt};
+ghost use Rattle.dep_graph.specs.ForwardBodies.{IsForwardBody};
+ghost use Rattle.modulo_loop.specs.ForwardRules.{IsForwardLoop};
 ghost use Rattle.cycle_report.specs.PlainReport.{loop_of};
 ghost use Rattle.report_rows.specs.Points.{point_order};
+ghost use Rattle.program_times.specs.ForwardNodes.{HasForwardBody};
 ghost use Rattle.program_times.specs.Timing.{printed_edge, printed_cycle, IsTimedBlock, IsTimedLoop, IsTimedNode, AreTimed, AreTimedAs};
 
 use block_schedule::schedule::schedule;
@@ -33,6 +37,7 @@ fn timed_block(
     memories: &[Memory],
     units: Units,
 ) -> Result<Block<Timed>, AllocError>
+    requires { IsForwardBody block.now.body }
     ensures { IfOk result (IsTimedBlock memories.now units block.now) }
 {
     let all = edges(alloc, &block.body)?;
@@ -75,6 +80,7 @@ fn timed_loop(
     memories: &[Memory],
     units: Units,
 ) -> Result<(Loop<Timed>, LoopRow), AllocError>
+    requires { IsForwardLoop region.now.body }
     ensures { IfOk result (λ made. IsTimedLoop memories.now units region.now made.0 (loop_of made.1)) }
 {
     let all = edges(alloc, &region.body)?;
@@ -97,6 +103,7 @@ fn timed_node(
     memories: &[Memory],
     units: Units,
 ) -> Result<(Node<Timed>, Option<LoopRow>), AllocError>
+    requires { HasForwardBody node.now }
     ensures { IfOk result (λ made. IsTimedNode memories.now units node.now made.0 (map loop_of (option_to_list made.1))) }
 {
     match node {
@@ -127,6 +134,7 @@ fn all_timed(
     memories: &[Memory],
     units: Units,
 ) -> Result<TimedNodes, AllocError>
+    requires { All HasForwardBody nodes.now }
     ensures { IfOk result (λ made. AreTimed memories.now units nodes.now made.nodes.items (map loop_of made.loops.items)) }
 {
     let mut timed = Vec::with_capacity(alloc, nodes.len())?;
@@ -159,6 +167,7 @@ pub fn timed_nodes(
     memories: &[Memory],
     units: Units,
 ) -> Result<TimedNodes, AllocError>
+    requires { All HasForwardBody nodes.now }
     ensures { IfOk result (λ made. AreTimedAs memories.now units nodes.now made.nodes.items (map loop_of made.loops.items)) }
 {
     let TimedNodes { nodes, loops } = all_timed(alloc, nodes, memories, units)?;

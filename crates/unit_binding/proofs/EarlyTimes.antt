@@ -47,16 +47,16 @@ module _ (rank : ℕ → ℕ) where
   behind_low limit zero = omega arith
   behind_low limit (suc n) = omega (arith, one_low limit (rank n), behind_low limit n)
 
-  behind_none : (n : ℕ) → behind 0 n ≡ 0
+  pub behind_none : (n : ℕ) → behind 0 n ≡ 0
   behind_none zero = refl
   behind_none (suc n) = omega (arith, one_none 0 (rank n) (omega arith), behind_none n)
 
-  behind_grows : (a b n : ℕ) → a ≤ b → behind a n ≤ behind b n
+  pub behind_grows : (a b n : ℕ) → a ≤ b → behind a n ≤ behind b n
   behind_grows a b zero le = omega arith
   behind_grows a b (suc n) le = omega (arith, one_grows a b (rank n) le, behind_grows a b n le)
 
   -- a node between the limits counts for the second alone
-  behind_gains : (a b n v : ℕ) → a ≤ rank v → rank v < b → v < n → behind a n + 1 ≤ behind b n
+  pub behind_gains : (a b n v : ℕ) → a ≤ rank v → rank v < b → v < n → behind a n + 1 ≤ behind b n
   behind_gains a b zero v above below inside = absurd (omega arith)
   behind_gains a b (suc n) v above below inside = elim (cases_eq v n) [
     | inl e ↦
@@ -72,7 +72,7 @@ module _ (rank : ℕ → ℕ) where
   ]
 
   -- a node of no lower rank does not count
-  behind_less : (limit n v : ℕ) → limit ≤ rank v → v < n → behind limit n + 1 ≤ n
+  pub behind_less : (limit n v : ℕ) → limit ≤ rank v → v < n → behind limit n + 1 ≤ n
   behind_less limit zero v above inside = absurd (omega arith)
   behind_less limit (suc n) v above inside = elim (cases_eq v n) [
     | inl e ↦

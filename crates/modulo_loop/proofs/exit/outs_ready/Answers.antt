@@ -19,6 +19,7 @@ loop-out-preserved c =
     let above : was + ii ≤ later + ii = omega (arith, c.max-exit.ensures) in
     let enough : here + ii ≤ later + ii = omega (arith, c.max-exit.ensures) in
     record {
+      small = omega (arith, c.max-exit.ensures, c.out_ready.ensures.small, inv.small);
       enough = All-more (λ o. IsReadyBy (later + ii) ops times (result_of o.value.value)) outs i _ (omega arith) (λ k d k_in. ready_later ops times _ (was + ii) (later + ii) above (inv.enough k d k_in)) (ready_later ops times _ (here + ii) (later + ii) enough (rw c.result_of.ensures at c.out_ready.ensures.enough));
       least = λ exit all. omega (arith, c.max-exit.ensures, inv.least exit all, c.out_ready.ensures.least exit (rw c.result_of.ensures (all i _ (omega arith))));
     }

@@ -1,9 +1,10 @@
-use Rattle.std.proofs.Common.{◌≤◌}
+use Rattle.std.proofs.Common.{◌+◌, ◌<◌, ◌≤◌, ◌^◌}
 use Rattle.modulo_loop.specs.Lowest.{IsLowest, edges_of}
 use Rattle.modulo_loop.proofs.pipeline.search.Given as goal
 
 abbrev pub invariant-loop-round : goal.invariant-loop-round
 invariant-loop-round l = record {
-  positive : 1 ≤ l.ii;
+  positive : l._round + 1 ≤ l.ii;
+  small : l.ii < 2 ^ 32;
   lowest : IsLowest l.rules l.ii (edges_of l.lower);
 }

@@ -2,7 +2,7 @@ use Rattle.std.proofs.Common.{◌≡◌, ◌+◌, ◌++◌, [], ◌∷◌, take,
 use Rattle.std.proofs.lemmas.Grind.{common_steps}
 use Rattle.modulo_loop.specs.Rules.{latency_of, store_rules_from}
 use Rattle.modulo_loop.proofs.Growing.{stores_more, store_yes, store_no}
-use Rattle.modulo_loop.proofs.rules.add_store_rules.Goals.{then-is_store+in-Ok+in_ok-node+in_ok-node-2+in_ok-push, else-is_store}
+use Rattle.modulo_loop.proofs.rules.add_store_rules.Goals.{then-is_store+in_ok-push, else-is_store}
 use Rattle.modulo_loop.proofs.rules.add_store_rules.Goals as goal
 
 pub loop-number-preserved : goal.loop-number-preserved
@@ -15,7 +15,7 @@ loop-number-preserved c =
     let grown : store_rules_from test.0 lat 0 (take (i + 1) ops) ≡ store_rules_from test.0 lat 0 (take i ops) ++ store_rules_from test.0 lat i (op ∷ []) =
     stores_more test.0 lat ops i op (omega arith) ∙ ap (λ o. store_rules_from test.0 lat 0 (take i ops) ++ store_rules_from test.0 lat i (o ∷ [])) (sym c.index-ops-number.is) in
     elim c.if-is_store.branch [
-      | then-is_store+in-Ok+in_ok-node+in_ok-node-2+in_ok-push w ↦
+      | then-is_store+in_ok-push w ↦
           let store = store_yes test.0 lat i op (sym c.is_store.ensures ∙ w.if-is_store.true) in
           grind (arith, common_steps, grown, store, append_assoc)
       | else-is_store w ↦
