@@ -1,5 +1,5 @@
 -- A run in C that ends has passed the point at which its function begins.
-use Rattle.std.proofs.Common.{◌≡◌, ◌∙◌, ℕ, zero, suc, ◌+◌, ◌≤◌, sym, ap, subst, refl, List, [], ◌∷◌, length, true, ℤ, Option, Some, slice_get, arith, if◌then◌else◌}
+use Rattle.std.proofs.Common.{◌≡◌, ◌∙◌, ℕ, zero, suc, ◌+◌, ◌≤◌, sym, ap, refl, List, [], ◌∷◌, length, ℤ, Option, Some, slice_get, arith, if◌then◌else◌}
 use Rattle.hls_base.specs.FileScope.{FileScope}
 use Rattle.hls_base.specs.Tallies.{count_in}
 use Rattle.hls_base.specs.declared.place.Place.{Place}

@@ -12,9 +12,10 @@ use Rattle.ir_core.specs.declared.cfg.Memory.{Memory}
 use Rattle.ir_core.specs.declared.cfg.Node.{Node}
 use Rattle.ir_core.specs.declared.cfg.Node.TheVariants as n
 use Rattle.ir_core.specs.declared.stamp.Untimed.{Untimed}
+use Rattle.block_meaning.specs.Bodies.{Shapes}
 use Rattle.block_meaning.specs.Trees.{BlockTree, SequenceTree, sequence, PartTrees, no_part, more_parts, ShapeTree}
 use Rattle.lowering.specs.Blocks.{begun}
-use Rattle.lowering.specs.Lowering.{scope_of}
+use Rattle.lowering.specs.Lowering.{scope_of, last}
 use Rattle.lower_control.proofs.Rests.{first_of, last_rest, lowered_rest}
 use Rattle.numbering.specs.Numbering as numbering
 use Rattle.numbering.specs.Numbering.{numbered_sequence}
@@ -34,8 +35,8 @@ use Rattle.compile_steps.specs.Reports.{IsTimed}
 
 lowered_point : (e : ExpandedTree) (start : Point) → (first_of (tree_of e start)).point ≡ start
 lowered_point e start =
-    let none = record { widths = []; dims = [] } in
-    (lowered_rest none (scope_of e) e.pieces _ (last_rest none)).point (begun start)
+    let none : Shapes = record { widths = []; dims = [] } in
+    (lowered_rest none (scope_of e) e.pieces last (last_rest none)).point (begun start)
 
 numbered_point : (scope : numbering.Scope) (s : SequenceTree) → (first_of (numbered_sequence scope s)).point ≡ (first_of s).point
 numbered_point scope (sequence first rest) = refl

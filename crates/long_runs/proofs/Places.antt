@@ -1,7 +1,6 @@
 -- The top function of a core program stands where the function of the source does.
 use Rattle.std.proofs.Common.{◌≡◌, ℕ, zero, suc, List, [], ◌∷◌, ◌++◌, Option, Some, None, is_some, true, length, take, refl, sym, subst, ap, ◌∙◌, slice_get}
 use Rattle.std.specs.Option.{option_map}
-use Rattle.hls_base.specs.declared.place.Place.{Place}
 use Rattle.c_tree.specs.Tree as tree
 use Rattle.c_tree.specs.Tree.{StmtTrees, FunctionTree, ItemTree, ProgramTree}
 use Rattle.c_checked.specs.Limits.{file_objects}

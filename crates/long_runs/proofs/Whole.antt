@@ -1,5 +1,5 @@
 -- Runs that end take at least two cycles.
-use Rattle.std.proofs.Common.{◌≡◌, ◌∙◌, ℕ, ◌≤◌, sym, ap, subst, refl, List, [], ◌∷◌, true, Option, Some, None, inl, inr, slice_get}
+use Rattle.std.proofs.Common.{◌≡◌, ◌∙◌, ℕ, ◌≤◌, sym, ap, subst, refl, List, [], true, Option, Some, None, inl, inr, slice_get}
 use Rattle.std.specs.Prelude.{is_some, if◌then◌else◌}
 use Rattle.std.specs.Option.{option_map}
 use Rattle.std.proofs.lemmas.Bool.{cases_Bool}
@@ -17,7 +17,6 @@ use Rattle.c_elaborate.specs.Programs.{program_elaborated}
 use Rattle.c_expand.specs.Expansion.{expansion, top_of}
 use Rattle.lowering.specs.Shapes.{first_point}
 use Rattle.begun_pieces.proofs.Whole.{expanded_point}
-use Rattle.report_rows.specs.Costs.{node_point}
 use Rattle.long_runs.specs.Laws.{EndedRunsAreLong}
 use Rattle.long_runs.proofs.Places.{top_place}
 use Rattle.long_runs.proofs.Beginning.{begin_at, first_passed, counted}
