@@ -1,0 +1,4 @@
+//! What programs have that are valid.
+#![tactic(auto)]
+
+pub mod laws;
