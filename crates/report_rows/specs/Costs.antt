@@ -42,6 +42,10 @@ costs_of nodes = flat_map node_costs nodes
 abbrev pub weighed : (Point → ℕ) → List Cost → ℕ
 weighed weight costs = sum_by (λ c. c.cost * weight c.point) costs
 
+-- where each point is passed once
+abbrev pub once : Point → ℕ
+once point = 1
+
 -- each point stands before the points of all rows behind its own
 abbrev pub Rises : List Cost → Type 0
 Rises [] = Unit {0}

@@ -1,16 +1,15 @@
 //! What each point of a program costs.
-ghost use Rattle.std.specs.Prelude.{◌≡◌, ◌+◌, ◌++◌, [], IfOk, OnOk, IsTrue, ◌↔◌};
+ghost use Rattle.std.specs.Prelude.{◌≡◌, ◌+◌, ◌*◌, ◌^◌, ◌<◌, ◌≤◌, ◌++◌, [], IfOk, OnOk, length};
 ghost use Rattle.std.specs.List.{flat_map};
 ghost use Rattle.std.specs.List.Sorted.{IsPermutation, IsSortedBy};
 ghost use Rattle.std.specs.Ordering.{is_lt, is_eq};
 ghost use Rattle.report_rows.specs.Points.{point_order};
-ghost use Rattle.report_rows.specs.Costs.{AreRowsOf, EachCounts, some_cost, some_costs, end_of, last_with, rows_with, merged_behind};
+ghost use Rattle.report_rows.specs.Costs.{AreRowsOf, EachCounts, weighed, once, some_cost, some_costs, end_of, last_with, rows_with, merged_behind};
 
 use crate::points::compare;
 use clock_ir::timed::Timed;
 use cycle_report::report::{Cost, Formula};
 use hls_base::point::{Point, PointKind};
-use hls_base::refusal::impossible;
 use ir_core::cfg::Node;
 use std::alloc::{AllocError, Global};
 use std::cmp::Ordering;
@@ -43,7 +42,8 @@ fn end_of(alloc: Global, point: &Point) -> Result<Point, AllocError>
 
 /// A block takes its length each time that its point is passed. A loop takes its interval for each iteration, and at its End two cycles more than its exit.
 fn add_costs(alloc: Global, costs: &mut Vec<Cost>, node: &Node<Timed>) -> Result<(), AllocError>
-    ensures { OnOk result (costs.new.items ≡ costs.old.items ++ some_costs node.now) }
+    ensures costs { OnOk result (costs.new.items ≡ costs.old.items ++ some_costs node.now) }
+    ensures small { OnOk result (weighed once (some_costs node.now) ≤ 2 ^ 33) }
 {
     match node {
         Node::Plain(block) => add_cost(alloc, costs, &block.point, u64::from(block.length)),
@@ -57,7 +57,8 @@ fn add_costs(alloc: Global, costs: &mut Vec<Cost>, node: &Node<Timed>) -> Result
 
 /// The costs of all blocks and loops.
 fn all_costs(alloc: Global, nodes: &[Node<Timed>]) -> Result<Vec<Cost>, AllocError>
-    ensures { IfOk result (λ v. v.items ≡ flat_map some_costs nodes.now) }
+    ensures costs { IfOk result (λ v. v.items ≡ flat_map some_costs nodes.now) }
+    ensures small { IfOk result (λ v. weighed once v.items ≤ length nodes.now * 2 ^ 33) }
 {
     let mut costs = Vec::new(alloc);
     for node in nodes {
@@ -82,25 +83,15 @@ fn is_same_point(a: &Point, b: &Point) -> bool
     compare(a, b) == Ordering::Equal
 }
 
-/// The sum of two costs. Each is of a program that fits in memory, and takes fewer than 2^33 cycles for each of its nodes.
-fn total(a: u64, b: u64) -> Result<u64, AllocError>
-    ensures { IfOk result (λ sum. sum ≡ a + b) }
-{
-    match a.checked_add(b) {
-        Some(sum) => Ok(sum),
-        None => Err(impossible()),
-    }
-}
-
 /// Adds the cost to the last row, if that is of the same point.
 fn add_behind(rows: &mut Vec<Cost>, last: Cost, cost: Cost) -> Result<(), AllocError>
+    requires { last.cost + cost.cost < 2 ^ 64 }
     ensures { OnOk result (rows.new.items ≡ rows.old.items ++ last_with last cost) }
 {
     if is_same_point(&last.point, &cost.point) {
-        let cost = total(last.cost, cost.cost)?;
         rows.push(Cost {
             point: last.point,
-            cost,
+            cost: last.cost + cost.cost,
         })?;
     } else {
         rows.push(last)?;
@@ -110,6 +101,7 @@ fn add_behind(rows: &mut Vec<Cost>, last: Cost, cost: Cost) -> Result<(), AllocE
 }
 
 fn add_row(rows: &mut Vec<Cost>, cost: Cost) -> Result<(), AllocError>
+    requires { weighed once rows.old.items + cost.cost < 2 ^ 64 }
     ensures { OnOk result (rows.new.items ≡ rows_with rows.old.items cost) }
 {
     match rows.pop() {
@@ -123,6 +115,7 @@ fn add_row(rows: &mut Vec<Cost>, cost: Cost) -> Result<(), AllocError>
 
 /// One row for each point.
 fn merged(alloc: Global, costs: Vec<Cost>) -> Result<Vec<Cost>, AllocError>
+    requires { weighed once costs.items < 2 ^ 64 }
     ensures { IfOk result (λ v. v.items ≡ merged_behind [] costs.items) }
 {
     let mut rows = Vec::with_capacity(alloc, costs.len())?;
@@ -134,6 +127,7 @@ fn merged(alloc: Global, costs: Vec<Cost>) -> Result<Vec<Cost>, AllocError>
 
 /// The cycles of a run: one, and the cost of each point as often as it is passed.
 pub fn formula_of(alloc: Global, nodes: &[Node<Timed>]) -> Result<Formula, AllocError>
+    requires { length nodes.now < 2 ^ 31 }
     ensures base { IfOk result (λ f. f.base ≡ 1) }
     ensures rows { IfOk result (λ f. AreRowsOf nodes.now f.rows.items) }
     ensures longer { IfOk result (λ f. EachCounts nodes.now f.rows.items) }
