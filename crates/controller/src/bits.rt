@@ -1,5 +1,5 @@
 //! Bits that follow from others, and what registers take.
-ghost use Rattle.std.specs.Prelude.{◌≡◌, ◌&&◌, ◌||◌, ◌+◌, ◌%◌, ◌^◌, [], ◌∷◌, ℕ, Bool, true, not, List, IfOk, OnOk, Some, slice_get};
+ghost use Rattle.std.specs.Prelude.{◌<◌, ◌≡◌, ◌&&◌, ◌||◌, ◌+◌, ◌%◌, ◌^◌, [], ◌∷◌, ℕ, Bool, true, not, List, IfOk, OnOk, Some, slice_get};
 ghost use Rattle.rtl_core.specs.Netlist.{Netlist};
 ghost use Rattle.rtl_core.specs.Valid.{IsBetween};
 ghost use Rattle.rtl_logic.specs.Making.{circuit};
@@ -22,7 +22,6 @@ use clock_ir::timed::Timed;
 use hls_base::number::NodeId;
 use hls_base::refusal::impossible;
 use ir_core::cfg::Node;
-use plan_sizes::sizes::node_id;
 use rtl_core::design::{Atom, Pair};
 use rtl_logic::logic::Logic;
 use rtl_logic::select::{Choice, constant};
@@ -103,14 +102,11 @@ pub fn write_always(
 }
 
 /// The node with this number.
-pub fn node_with_number(number: usize) -> Result<NodeId, AllocError>
-    ensures { IfOk result (λ node. node ≡ node_of number) }
+pub fn node_with_number(number: usize) -> NodeId
+    requires { number < 2 ^ 32 }
+    ensures { result ≡ node_of number }
 {
-    let node = node_id(number);
-    if node.0 as usize != number {
-        return Err(impossible());
-    }
-    Ok(node)
+    NodeId(number as u32)
 }
 
 /// The node with this number, as it stands in the program.

@@ -1,5 +1,5 @@
 //! The nodes, and where no run is under way. A reset wins over all else.
-ghost use Rattle.std.specs.Prelude.{◌≡◌, ◌<◌, ◌∷◌, [], true, List, IfOk, OnOk, Some, slice_get};
+ghost use Rattle.std.specs.Prelude.{◌^◌, ◌≡◌, ◌<◌, ◌∷◌, [], true, List, IfOk, OnOk, Some, slice_get};
 ghost use Rattle.rtl_logic.specs.Making.{circuit};
 ghost use Rattle.clock_meaning.specs.ClockRuns.{TimedNode};
 ghost use Rattle.datapath.specs.Plans as plans;
@@ -73,11 +73,12 @@ fn write_state(
     groups: &Groups,
     number: usize,
 ) -> Result<(), AllocError>
+    requires { number < 2 ^ 32 }
     ensures { (p : Plan) (names : List Register) (pushes : List Push) (n : TimedNode) → IsContext p names of.now → IsBegun p names (circuit logic.old)
         → ArePushes p names (circuit logic.old) pushes (moves_of p) → ((t : Target) → given groups.now t ≡ choices_of t pushes) → slice_get p.program.nodes number ≡ Some n
         → OnOk result (Logs p names (circuit logic.old) (circuit logic.new) log.old.pushes.items log.new.pushes.items (state_entries p (number, n))) }
 {
-    let node = node_with_number(number)?;
+    let node = node_with_number(number);
     let entered = is_wanted(of.alloc, logic, groups, Target::Entered(node))?;
     let looped = is_loop(of, number)?;
     if looped {

@@ -1,5 +1,5 @@
 //! The registers that all loops share.
-ghost use Rattle.std.specs.Prelude.{◌≡◌, ◌||◌, ◌+◌, ◌-◌, ◌∷◌, [], ◌&&◌, true, false, List, Bool, IfOk, OnOk, MatchOption, Some, slice_get, map};
+ghost use Rattle.std.specs.Prelude.{◌<◌, ◌^◌, ◌≡◌, ◌||◌, ◌+◌, ◌-◌, ◌∷◌, [], ◌&&◌, true, false, List, Bool, IfOk, OnOk, MatchOption, Some, slice_get, map};
 ghost use Rattle.rtl_core.specs.Netlist.{Netlist};
 ghost use Rattle.rtl_logic.specs.Making.{circuit};
 ghost use Rattle.clock_meaning.specs.ClockRuns.{TimedNode};
@@ -27,7 +27,6 @@ use crate::bits::{
 use circuit_context::context::{Context, Reading};
 use circuit_log::log::{Groups, Log};
 use circuit_log::role::{Role, Target};
-use hls_base::refusal::impossible;
 use ir_core::cfg::Node;
 use plan_sizes::sizes::{bits_of, greatest_wait};
 use rtl_core::design::Atom;
@@ -68,6 +67,7 @@ fn loads(of: &Context<'_>) -> Result<Vec<Atom>, AllocError>
 
 /// Adds that of one node, if it is a loop.
 fn add_load(of: &Context<'_>, all: &mut Vec<Atom>, number: usize) -> Result<(), AllocError>
+    requires { number < 2 ^ 32 }
     ensures { (p : Plan) (names : List Register) (d : Netlist) (n : TimedNode) (before : Cycle → Bool) → IsContext p names of.now → IsBegun p names d → slice_get p.program.nodes number ≡ Some n
         → TellTogether p names d all.old.items before
         → OnOk result (TellTogether p names d all.new.items (λ (c : Cycle). before c || (control.is_loop (Some n) && holds c (Load number)))) }
@@ -76,7 +76,7 @@ fn add_load(of: &Context<'_>, all: &mut Vec<Atom>, number: usize) -> Result<(), 
     if !looped {
         return Ok(());
     }
-    let node = node_with_number(number)?;
+    let node = node_with_number(number);
     let load = register_bit(of, Role::Load(node))?;
     all.push(load)?;
     Ok(())
@@ -142,6 +142,7 @@ fn add_end(
     all: &mut Vec<Atom>,
     number: usize,
 ) -> Result<(), AllocError>
+    requires { number < 2 ^ 32 }
     ensures { (p : Plan) (names : List Register) (d : Netlist) (n : TimedNode) (before : Cycle → Bool) → IsContext p names of.now → slice_get p.program.nodes number ≡ Some n
         → MakesTogether p names d (circuit logic.old) all.old.items before
         → OnOk result (MakesTogether p names d (circuit logic.new) all.new.items
@@ -150,7 +151,7 @@ fn add_end(
     let Some(interval) = interval_at(of, number)? else {
         return Ok(());
     };
-    let node = node_with_number(number)?;
+    let node = node_with_number(number);
     let time = (interval as u64).saturating_sub(1);
     let end = of.at(logic, Reading { node, time })?;
     all.push(end)?;
@@ -218,6 +219,7 @@ fn write_stage(
     passing: Passing,
     before: u64,
 ) -> Result<(), AllocError>
+    requires { before + 1 < 2 ^ 64 }
     ensures { (p : Plan) (names : List Register) → IsContext p names of.now → IsBegun p names (circuit logic.old)
         → Tells p names (circuit logic.old) passing.load (is_loading p) → Tells p names (circuit logic.old) passing.enable (λ (c : Cycle). is_loading p c || ends_interval p c)
         → OnOk result (Logs p names (circuit logic.old) (circuit logic.new) log.old.pushes.items log.new.pushes.items
@@ -226,10 +228,7 @@ fn write_stage(
     let reached = passed(of, before)?;
     let value = except(logic, reached, passing.load)?;
     let when = passing.enable;
-    match before.checked_add(1) {
-        Some(stage) => write(of, log, Role::Passed(stage), Choice { when, value }),
-        None => Err(impossible()),
-    }
+    write(of, log, Role::Passed(before + 1), Choice { when, value })
 }
 
 /// Whether so many intervals have passed.

@@ -131,6 +131,7 @@ fn initial_span(of: &Context<'_>) -> Result<Vec<Spanned>, AllocError>
 
 /// A node, which in its last cycle goes on only where it is a block.
 fn node_span(of: &Context<'_>, logic: &mut Logic, number: usize) -> Result<Spanned, AllocError>
+    requires { number < 2 ^ 32 }
     ensures { (p : Plan) (names : List Register) (n : TimedNode) → IsContext p names of.now → IsBegun p names (circuit logic.old) → slice_get p.program.nodes number ≡ Some n
         → IfOk result (λ s. (s.span ≡ plans.span p number) × MakesTelling p names (circuit logic.old) (circuit logic.new) s.active (λ (c : Cycle). control.stays_as p c number n)) }
 {
@@ -147,10 +148,11 @@ fn span_at(of: &Context<'_>, number: usize) -> Result<u64, AllocError>
 }
 
 fn stays(of: &Context<'_>, logic: &mut Logic, number: usize) -> Result<Atom, AllocError>
+    requires { number < 2 ^ 32 }
     ensures { (p : Plan) (names : List Register) (n : TimedNode) → IsContext p names of.now → IsBegun p names (circuit logic.old) → slice_get p.program.nodes number ≡ Some n
         → IfOk result (λ a. MakesTelling p names (circuit logic.old) (circuit logic.new) a (λ (c : Cycle). control.stays_as p c number n)) }
 {
-    let node = node_with_number(number)?;
+    let node = node_with_number(number);
     let active = register_bit(of, Role::Active(node))?;
     let looped = is_loop(of, number)?;
     if looped {

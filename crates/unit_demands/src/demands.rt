@@ -1,5 +1,5 @@
 //! The operations of all nodes, in order.
-ghost use Rattle.std.specs.Prelude.{◌≡◌, List, IfOk, OnOk, map};
+ghost use Rattle.std.specs.Prelude.{◌<◌, ◌^◌, ◌≡◌, List, IfOk, OnOk, map};
 ghost use Rattle.ir_core.specs.declared.body.Op.{Op};
 ghost use Rattle.clock_ir.specs.declared.timed.Timed.{Timed};
 ghost use Rattle.rtl_logic.specs.Making.{circuit};
@@ -25,7 +25,6 @@ use circuit_log::log::Log;
 use circuit_log::role::UnitKind;
 use clock_ir::timed::Timed;
 use hls_base::number::NodeId;
-use hls_base::refusal::impossible;
 use ir_core::body::{Op, OpKind};
 use ir_core::cfg::Node;
 use rtl_core::design::Atom;
@@ -109,13 +108,11 @@ fn ops_of(node: &Node<Timed>) -> &[Op<Timed>]
 }
 
 /// The name of the node with this number.
-fn node_named(number: usize) -> Result<NodeId, AllocError>
-    ensures { IfOk result (λ node. node.0 ≡ number) }
+fn node_named(number: usize) -> NodeId
+    requires { number < 2 ^ 32 }
+    ensures { result.0 ≡ number }
 {
-    match u32::try_from(number) {
-        Ok(number) => Ok(NodeId(number)),
-        Err(_) => Err(impossible()),
-    }
+    NodeId(number as u32)
 }
 
 /// Makes the wires of operations, and logs what they give to units and ports.
@@ -128,7 +125,7 @@ pub fn collect(of: &Context<'_>, logic: &mut Logic, log: &mut Log) -> Result<Com
     let nodes = &of.cfg.nodes;
     let mut wires = Vec::with_capacity(of.alloc, nodes.len())?;
     for (number, node) in nodes.iter().enumerate() {
-        let name = node_named(number)?;
+        let name = node_named(number);
         wires.push(collect_node(of, logic, log, name, ops_of(node))?)?;
     }
     Ok(Computed { wires })

@@ -23,10 +23,10 @@ returns-in_ok-load c = λ p names pushes n context begun are holds_ stands.
     let before = c.args.log.now.pushes.items in
     let middle = c.write_load.new.log.pushes.items in
     let after = c.write_active.new.log.pushes.items in
-    let node = c.in_ok-node.node in
+    let node = c.node_with_number-node.result in
     let i = node.0 in
     let is = sym (c.in_ok-looped.ensures p names n context stands) ∙ c.if-looped.true in
-    let here : slice_get p.program.nodes i ≡ Some n = subst (λ (m : NodeId). slice_get p.program.nodes m.0 ≡ Some n) (sym c.in_ok-node.ensures) stands in
+    let here : slice_get p.program.nodes i ≡ Some n = subst (λ (m : NodeId). slice_get p.program.nodes m.0 ≡ Some n) (sym c.node_with_number-node.ensures) stands in
     let asked = c.in_ok-entered.ensures p names pushes (moves_of p) begun are (holds_ (t.Entered node)) in
     let entered = tells_as p names e c.in_ok-entered.entered (is_asked (t.Entered node) (moves_of p)) (λ (x : Cycle). is_entered p x i) (entered_asked p i) asked.carries in
     let first = c.in_ok-write_load.ensures p names context asked.begun (ap is_loop here ∙ is) entered in
@@ -35,7 +35,7 @@ returns-in_ok-load c = λ p names pushes n context begun are holds_ stands.
     let loads : NodeId → Entry = λ (m : NodeId). always_entry (role.Load m) (λ (x : Cycle). bit (next_load p x m.0)) in
     let actives : NodeId → Entry = λ (m : NodeId). always_entry (role.Active m) (λ (x : Cycle). bit (next_active p x m.0)) in
     on_ok_weaker c.write_active.result
-    (λ second. logs_as p names d g before after _ _ (ap (λ (m : NodeId). loads m ∷ actives m ∷ []) c.in_ok-node.ensures ∙ load_state p c.args.number n is)
+    (λ second. logs_as p names d g before after _ _ (ap (λ (m : NodeId). loads m ∷ actives m ∷ []) c.node_with_number-node.ensures ∙ load_state p c.args.number n is)
     (logs_behind p names d e g before after _ asked.appends (logs_then p names e f g before middle after (loads node ∷ []) (actives node ∷ []) first second))) (c.write_active.ensures p names context first.begun begins_)
 
 pub returns-else-looped : goal.returns-else-looped
@@ -45,14 +45,14 @@ returns-else-looped c = λ p names pushes n context begun are holds_ stands.
     let g = circuit c.write_active-else-looped.new.logic in
     let before = c.args.log.now.pushes.items in
     let after = c.write_active-else-looped.new.log.pushes.items in
-    let node = c.in_ok-node.node in
+    let node = c.node_with_number-node.result in
     let i = node.0 in
     let is = sym (c.in_ok-looped.ensures p names n context stands) ∙ c.if-looped.false in
-    let here : slice_get p.program.nodes i ≡ Some n = subst (λ (m : NodeId). slice_get p.program.nodes m.0 ≡ Some n) (sym c.in_ok-node.ensures) stands in
+    let here : slice_get p.program.nodes i ≡ Some n = subst (λ (m : NodeId). slice_get p.program.nodes m.0 ≡ Some n) (sym c.node_with_number-node.ensures) stands in
     let asked = c.in_ok-entered.ensures p names pushes (moves_of p) begun are (holds_ (t.Entered node)) in
     let entered = tells_as p names e c.in_ok-entered.entered (is_asked (t.Entered node) (moves_of p)) (λ (x : Cycle). is_entered p x i) (entered_asked p i) asked.carries in
     let begins_ = tells_as p names e c.in_ok-entered.entered (λ (x : Cycle). is_entered p x i) (λ (x : Cycle). begins p x i) (λ (x : Cycle). begins_entered p x i n here is) entered in
     let actives : NodeId → Entry = λ (m : NodeId). always_entry (role.Active m) (λ (x : Cycle). bit (next_active p x m.0)) in
     on_ok_weaker c.write_active-else-looped.result
-    (λ second. logs_as p names d g before after _ _ (ap (λ (m : NodeId). actives m ∷ []) c.in_ok-node.ensures ∙ block_state p c.args.number n is) (logs_behind p names d e g before after _ asked.appends second))
+    (λ second. logs_as p names d g before after _ _ (ap (λ (m : NodeId). actives m ∷ []) c.node_with_number-node.ensures ∙ block_state p c.args.number n is) (logs_behind p names d e g before after _ asked.appends second))
     (c.write_active-else-looped.ensures p names context asked.begun begins_)

@@ -31,3 +31,6 @@ returns c = λ p names pushes context begun are holds_.
     let past : length c.args.of.now.cfg.now.nodes.items ≤ i = omega arith in
     logs_as p names (circuit c.args.logic.now) (circuit c.loop-number.logic) c.args.log.now.pushes.items c.loop-number.log.pushes.items _ _
     (ap (flat_map (state_entries p)) (all_taken p i (subst (λ m. m ≤ i) (sym (count_is p names c.args.of.now context)) past))) (c.loop-number.invariant p names pushes context begun are holds_)
+
+pub write_state-requires : goal.write_state-requires
+write_state-requires c = omega (arith, c.loop-number-test.true, c.len-number-end.ensures, c.args.of.now.few.nodes)

@@ -7,12 +7,12 @@ use Rattle.controller.specs.Gathered.{test_entries}
 use Rattle.controller.proofs.Pieces.{logs_as, test_there, no_test}
 use Rattle.controller.proofs.exits.write_exit.Goals as goal
 
-pub returns-in_ok-node : goal.returns-in_ok-node
-returns-in_ok-node c = λ p names n context begun stands.
+pub returns-then-looped : goal.returns-then-looped
+returns-then-looped c = λ p names n context begun stands.
     let is = sym (c.in_ok-looped.ensures p names n context stands) ∙ c.if-looped.true in
     on_ok_weaker c.write_test.result
     (λ h. logs_as p names (circuit c.args.logic.now) (circuit c.write_test.new.logic) c.args.log.now.pushes.items c.write_test.new.log.pushes.items _ _
-    (ap (λ (m : NodeId). test_entries p m.0) c.in_ok-node.ensures ∙ test_there p c.args.number n is) h) (c.write_test.ensures p names context begun)
+    (ap (λ (m : NodeId). test_entries p m.0) c.node_with_number-node.ensures ∙ test_there p c.args.number n is) h) (c.write_test.ensures p names context begun)
 
 pub returns-else-looped : goal.returns-else-looped
 returns-else-looped c = λ p names n context begun stands.

@@ -27,3 +27,6 @@ returns c = λ p names context begun.
     let past : length c.args.of.now.cfg.now.nodes.items ≤ i = omega arith in
     logs_as p names (circuit c.args.logic.now) (circuit c.loop-number.logic) c.args.log.now.pushes.items c.loop-number.log.pushes.items _ _
     (ap (flat_map (exit_entries p)) (all_taken p i (subst (λ m. m ≤ i) (sym (count_is p names c.args.of.now context)) past))) (c.loop-number.invariant p names context begun)
+
+pub write_exit-requires : goal.write_exit-requires
+write_exit-requires c = omega (arith, c.loop-number-test.true, c.len-number-end.ensures, c.args.of.now.few.nodes)

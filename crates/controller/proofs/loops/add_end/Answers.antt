@@ -31,6 +31,6 @@ returns c = λ p names d n before context stands h.
     let found = subst (λ o. MatchOption o (is_loop (Some n) ≡ false) (λ (k : ℕ). (is_loop (Some n) ≡ true) × (k ≡ (body_at p i).interval))) c.in-Some.is (c.in_ok-interval.ensures p names n context stands) in
     let when_ : time ≡ (body_at p i).interval - 1 = omega (arith, c.saturating_sub-time.ensures, found.1) in
     let made = c.in_ok-end.ensures p names context h.begun in
-    made_as p names d f c.push.new.self.items (λ (x : Cycle). before x || at p x c.in_ok-node.node.0 time) _
-    (λ (x : Cycle). ap (λ (m : NodeId). before x || at p x m.0 time) c.in_ok-node.ensures ∙ (ap (λ k. before x || at p x i k) when_ ∙ ap (λ b. before x || (b && at p x i ((body_at p i).interval - 1))) (sym found.0)))
-    (last_made p names d e f c.args.all.now.items c.push.new.self.items c.in_ok-end.end before (λ (x : Cycle). at p x c.in_ok-node.node.0 time) h made c.in_ok-push.ensures.items)
+    made_as p names d f c.push.new.self.items (λ (x : Cycle). before x || at p x c.node_with_number-node.result.0 time) _
+    (λ (x : Cycle). ap (λ (m : NodeId). before x || at p x m.0 time) c.node_with_number-node.ensures ∙ (ap (λ k. before x || at p x i k) when_ ∙ ap (λ b. before x || (b && at p x i ((body_at p i).interval - 1))) (sym found.0)))
+    (last_made p names d e f c.args.all.now.items c.push.new.self.items c.in_ok-end.end before (λ (x : Cycle). at p x c.node_with_number-node.result.0 time) h made c.in_ok-push.ensures.items)

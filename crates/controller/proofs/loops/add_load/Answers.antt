@@ -14,7 +14,7 @@ returns-then-not-looped c = λ p names d n before context begun stands h.
 pub returns : goal.returns
 returns c = λ p names d n before context begun stands h.
     let is = sym (c.in_ok-looped.ensures p names n context stands) ∙ c.if-not-looped.false in
-    let i = c.in_ok-node.node.0 in
+    let i = c.node_with_number-node.result.0 in
     together_as p names d _ (λ (x : Cycle). before x || holds x (Load i)) _
-    (λ (x : Cycle). ap (λ (m : NodeId). before x || holds x (Load m.0)) c.in_ok-node.ensures ∙ ap (λ b. before x || (b && holds x (Load c.args.number))) (sym is))
+    (λ (x : Cycle). ap (λ (m : NodeId). before x || holds x (Load m.0)) c.node_with_number-node.ensures ∙ ap (λ b. before x || (b && holds x (Load c.args.number))) (sym is))
     (last_together p names d c.args.all.now.items c.push.new.self.items c.in_ok-load.load before (λ (x : Cycle). holds x (Load i)) h (c.in_ok-load.ensures p names d context begun refl) c.in_ok-push.ensures.items)

@@ -35,3 +35,6 @@ returns c = λ p names context begun.
     made_as p names (circuit c.args.logic.now) (circuit c.loop-number.logic) c.loop-number.all.items _ (ends_interval p)
     (λ (x : Cycle). ap (list_any (λ (m : ℕ × TimedNode). is_loop (Some m.1) && at p x m.0 ((body_at p m.0).interval - 1))) (all_taken p i (subst (λ m. m ≤ i) (sym (count_is p names c.args.of.now context)) past)))
     (c.loop-number.invariant p names context begun)
+
+pub add_end-requires : goal.add_end-requires
+add_end-requires c = omega (arith, c.loop-number-test.true, c.len-number-end.ensures, c.args.of.now.few.nodes)

@@ -1,4 +1,4 @@
-use Rattle.std.proofs.Common.{[], ◌∷◌, ◌+◌, ap}
+use Rattle.std.proofs.Common.{[], ◌∷◌, ◌+◌, ap, refl}
 use Rattle.std.specs.Prelude.{ℕ, ◌&&◌, ◌||◌, ◌-◌, not}
 use Rattle.std.proofs.lemmas.Result.{on_ok_weaker}
 use Rattle.rtl_logic.specs.Choosing.{where_}
@@ -13,8 +13,8 @@ use Rattle.controller.proofs.Telling.{tells_later, tells_as}
 use Rattle.controller.proofs.Pieces.{logs_as, stage_takes}
 use Rattle.controller.proofs.loops.write_stage.Goals as goal
 
-pub returns-in-Some : goal.returns-in-Some
-returns-in-Some c = λ p names context begun load enable.
+pub returns : goal.returns
+returns c = λ p names context begun load enable.
     let k = c.args.before in
     let d = circuit c.args.logic.now in
     let e = circuit c.except.new.logic in
@@ -26,6 +26,6 @@ returns-in-Some c = λ p names context begun load enable.
     let when = tells_later p names d e c.args.passing.enable (λ (x : Cycle). is_loading p x || ends_interval p x) value.appends enable in
     on_ok_weaker c.write.result
     (λ h. logs_as p names d e first last _ _
-    (ap (λ (j : ℕ). register_entry (role.Passed j) (λ (x : Cycle). where_ (is_loading p x || ends_interval p x) (bit (not (is_loading p x) && has_passed x (k + 1 - 1)))) ∷ []) c.in-Some.ensures.1)
+    refl
     (logs_behind p names d e e first last _ value.appends h))
     (c.write.ensures p names e (λ (x : Cycle). is_loading p x || ends_interval p x) (λ (x : Cycle). bit (not (is_loading p x) && has_passed x (k + 1 - 1))) context value.begun when taken)

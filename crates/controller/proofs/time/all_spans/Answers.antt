@@ -38,3 +38,6 @@ returns c = λ p names context begun.
     let past : length c.args.of.now.cfg.now.nodes.items ≤ i = omega arith in
     spans_as p names (circuit c.args.logic.now) (circuit c.loop-number.logic) c.loop-number.all.items _ (goes_on p)
     (λ (x : Cycle). ap (λ l. initial_goes p x || list_any (node_goes p x) l) (all_taken p i (subst (λ m. m ≤ i) (sym (count_is p names c.args.of.now context)) past))) (c.loop-number.invariant p names context begun)
+
+pub node_span-requires : goal.node_span-requires
+node_span-requires c = omega (arith, c.loop-number-test.true, c.len-number-end.ensures, c.args.of.now.few.nodes)

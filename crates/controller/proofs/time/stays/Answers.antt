@@ -15,14 +15,14 @@ returns-in_ok-leave c = λ p names n context begun stands.
     let d = circuit c.args.logic.now in
     let e = circuit c.leaves.new.logic in
     let f = circuit c.except.new.logic in
-    let i = c.in_ok-node.node.0 in
+    let i = c.node_with_number-node.result.0 in
     let is = sym (c.in_ok-looped.ensures p names n context stands) ∙ c.if-looped.true in
-    let here : slice_get p.program.nodes i ≡ Some n = subst (λ (m : NodeId). slice_get p.program.nodes m.0 ≡ Some n) (sym c.in_ok-node.ensures) stands in
+    let here : slice_get p.program.nodes i ≡ Some n = subst (λ (m : NodeId). slice_get p.program.nodes m.0 ≡ Some n) (sym c.node_with_number-node.ensures) stands in
     let active = c.in_ok-active.ensures p names d context begun refl in
     let leave = c.in_ok-leave.ensures p names context begun in
     IfOk-weaker c.except.result _ _
     (λ a made. carries_as p names d f 1 a (λ (x : Cycle). bit (holds x (Active i) && not (leaves_if p x i (slice_get p.program.nodes i)))) (λ (x : Cycle). bit (stays_as p x c.args.number n))
-    (λ (x : Cycle). ap bit (loop_stays p x i n here is ∙ ap (λ (m : NodeId). stays_as p x m.0 n) c.in_ok-node.ensures))
+    (λ (x : Cycle). ap bit (loop_stays p x i n here is ∙ ap (λ (m : NodeId). stays_as p x m.0 n) c.node_with_number-node.ensures))
     (made_behind p names d e f 1 a (λ (x : Cycle). bit (holds x (Active i) && not (leaves_if p x i (slice_get p.program.nodes i)))) leave.appends made))
     (c.except.ensures p names (λ (x : Cycle). holds x (Active i)) (λ (x : Cycle). leaves_if p x i (slice_get p.program.nodes i)) leave.begun
     (tells_later p names d e c.in_ok-active.active (λ (x : Cycle). holds x (Active i)) leave.appends active) leave.carries)
@@ -30,8 +30,8 @@ returns-in_ok-leave c = λ p names n context begun stands.
 pub returns-else-looped : goal.returns-else-looped
 returns-else-looped c = λ p names n context begun stands.
     let d = circuit c.args.logic.now in
-    let i = c.in_ok-node.node.0 in
+    let i = c.node_with_number-node.result.0 in
     let is = sym (c.in_ok-looped.ensures p names n context stands) ∙ c.if-looped.false in
     let active = c.in_ok-active.ensures p names d context begun refl in
     carries_as p names d d 1 c.in_ok-active.active (λ (x : Cycle). bit (holds x (Active i))) (λ (x : Cycle). bit (stays_as p x c.args.number n))
-    (λ (x : Cycle). ap bit (block_stays p x i n is ∙ ap (λ (m : NodeId). stays_as p x m.0 n) c.in_ok-node.ensures)) (there_already p names d 1 c.in_ok-active.active (λ (x : Cycle). bit (holds x (Active i))) begun active)
+    (λ (x : Cycle). ap bit (block_stays p x i n is ∙ ap (λ (m : NodeId). stays_as p x m.0 n) c.node_with_number-node.ensures)) (there_already p names d 1 c.in_ok-active.active (λ (x : Cycle). bit (holds x (Active i))) begun active)

@@ -27,7 +27,7 @@ loop-number-preserved c = λ p names context begun.
     let nodes = c.args.of.now.cfg.now.nodes.items in
     let k = c.loop-number.number in
     let node = c.node-item.result in
-    let name = c.in_ok-name.name.0 in
+    let name = c.node_named-name.result.0 in
     let ops = c.ops_of.result.now in
     let rows = map (λ row. row.items) c.loop-number.wires.items in
     let wires = c.in_ok-collect_node.field-0 in
@@ -37,8 +37,15 @@ loop-number-preserved c = λ p names context begun.
     let took : take (k + 1) nodes ≡ take k nodes ++ node ∷ [] = take_more nodes k node inside ∙ ap (λ x. take k nodes ++ x ∷ []) (sym node_is) in
     let number : k ≡ length (take k nodes) = omega (arith, length-take-le k nodes (omega (arith, inside))) in
     let before = c.loop-number.invariant p names context begun in
-    let are : AreOpsOf p name ops = subst (λ i. AreOpsOf p i ops) (sym c.in_ok-name.ensures) (node_ops p names c.args.of.now k node ops context stands c.ops_of.ensures.ops c.ops_of.ensures.units) in
+    let are : AreOpsOf p name ops = subst (λ i. AreOpsOf p i ops) (sym c.node_named-name.ensures) (node_ops p names c.args.of.now k node ops context stands c.ops_of.ensures.ops c.ops_of.ensures.units) in
     let one = c.in_ok-collect_node.ensures p names context before.logs.begun are in
     let pushed = ap (map (λ row. row.items)) c.in_ok-push.ensures.items ∙ map-append (λ row. row.items) c.loop-number.wires.items (wires ∷ []) in
     one_node p names (circuit c.args.logic.now) (circuit c.loop-number.logic) (circuit c.collect_node.new.logic) c.args.log.now.pushes.items c.loop-number.log.pushes.items c.collect_node.new.log.pushes.items
-    name (take k nodes) (take (k + 1) nodes) node ops rows (map (λ row. row.items) c.push.new.self.items) wires.items before (c.in_ok-name.ensures ∙ number) took c.ops_of.ensures.ops one pushed
+    name (take k nodes) (take (k + 1) nodes) node ops rows (map (λ row. row.items) c.push.new.self.items) wires.items before (c.node_named-name.ensures ∙ number) took c.ops_of.ensures.ops one pushed
+
+pub node_named-name-requires : goal.node_named-name-requires
+node_named-name-requires c =
+    let nodes = c.args.of.now.cfg.now.nodes.items in
+    let k = c.loop-number.number in
+    let inside : k < length nodes = subst (λ (ns : List (Node Timed)). k < length ns) c.deref-node-items.ensures.value c.loop-number-test.true in
+    omega (arith, inside, c.args.of.now.few.nodes)
