@@ -8,6 +8,7 @@ ghost use Rattle.c_expand.specs.Expansion.{expansion, IsOverweight};
 ghost use Rattle.ir_lower.specs.Frames.{frame_view};
 ghost use Rattle.rtl_core.specs.Netlist.{netlist_of};
 ghost use Rattle.cycle_report.specs.PlainReport.{plain_of};
+ghost use Rattle.report_rows.specs.Resources.{IsReportable};
 ghost use Rattle.compile_steps.specs.Flat.{IsFlatOf};
 ghost use Rattle.compile_steps.specs.Resets.{expanded_frame, AreAddressable, reset_cycles};
 ghost use Rattle.compile_steps.specs.Reports.{allowed_units, IsTimed, EachNodeCounts, IsReportOf, KeepsSettings};
@@ -29,7 +30,7 @@ use reg_binding::assign::assign;
 use reg_binding::small_times::has_small_times;
 use report_rows::costs::formula_of;
 use report_rows::initial::initial_cycles;
-use report_rows::resources::{Resources, resources_of};
+use report_rows::resources::{Resources, is_reportable, resources_of};
 use rtl_core::design::Design;
 use small_numbers::numbers::numbers_are_small;
 use std::alloc::{AllocError, Global};
@@ -76,6 +77,7 @@ fn report_of(
     design: &Design,
     settings: &Settings,
 ) -> Result<Report, AllocError>
+    requires { IsReportable timed.now design.now }
     ensures report { IfOk result (λ r. IsReportOf (plain_of r) settings.now timed.now (netlist_of design.now)) }
     ensures loops { IfOk result (λ r. r.loops ≡ loops) }
 {
@@ -134,6 +136,9 @@ pub fn compile_expanded(
     let untimed = flat_program(alloc, expanded, settings)?;
     let Schedule { timed, loops } = timed_program(alloc, &untimed, units)?;
     let design = circuit_of(alloc, &timed)?;
+    if !is_reportable(&timed, &design) {
+        return Err(impossible());
+    }
     let report = report_of(alloc, &timed, loops, &design, settings)?;
     if !keeps_settings(&report, settings) {
         return Err(impossible());

@@ -213,20 +213,11 @@ each_counts nodes rows are node tally (k, l, e) counts passed =
 
 -- ---- what all costs come to, each once
 
-pub appended_once : (costs more : List Cost) → weighed once (costs ++ more) ≡ weighed once costs + weighed once more
+appended_once : (costs more : List Cost) → weighed once (costs ++ more) ≡ weighed once costs + weighed once more
 appended_once costs more = sum_by-append (part once) costs more
-
-pub some_once : (point : Point) (cost : ℕ) → weighed once (some_cost point cost) ≡ cost
-some_once point cost = omega (arith, some_sum once point cost)
-
-pub loop_once : (point end_point : Point) (cost exit_cost : ℕ) → weighed once (some_cost point cost ++ some_cost end_point exit_cost) ≡ cost + exit_cost
-loop_once point end_point cost exit_cost = omega (arith, appended_once (some_cost point cost) (some_cost end_point exit_cost), some_once point cost, some_once end_point exit_cost)
 
 pub merged_once : (costs : List Cost) → weighed once (merged_behind [] costs) ≡ weighed once costs
 merged_once costs = omega (arith, merged_sum once costs [])
-
-pub last_once : (rows : List Cost) (last : Cost) → weighed once (rows ++ last ∷ []) ≡ weighed once rows + last.cost
-last_once rows last = omega (arith, appended_once rows (last ∷ []), sum_by-cons (part once) last [])
 
 pub next_once : (costs rest : List Cost) (cost : Cost) → weighed once (costs ++ cost ∷ rest) ≡ weighed once costs + cost.cost + weighed once rest
 next_once costs rest cost = omega (arith, appended_once costs (cost ∷ rest), sum_by-cons (part once) cost rest)

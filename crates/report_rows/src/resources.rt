@@ -1,13 +1,14 @@
 //! What a circuit is built of.
-ghost use Rattle.std.specs.Prelude.{◌≡◌, IfOk, map, length, take};
+ghost use Rattle.std.specs.Prelude.{◌≡◌, ◌↔◌, IfOk, IsTrue, map, length, take};
+ghost use Rattle.std.specs.List.{All};
 ghost use Rattle.rtl_core.specs.Netlist.{netlist_of, memory_of};
 ghost use Rattle.rtl_core.specs.Resources.{multipliers, dividers};
-ghost use Rattle.report_rows.specs.Resources.{shape_of, row_shape, declared_names};
+ghost use Rattle.report_rows.specs.Resources.{shape_of, row_shape, declared_names, FitsRow, HasRows, IsReportable};
 
+use clock_ir::timed::Timed;
 use cycle_report::report::MemoryRow;
-use hls_base::refusal::impossible;
 use hls_base::text::Text;
-use ir_core::cfg::{Frame, Memory};
+use ir_core::cfg::{Cfg, Frame, Memory};
 use rtl_core::design::{Design, Mem};
 use std::alloc::{AllocError, Global};
 
@@ -51,22 +52,17 @@ fn unit_counts(design: &Design) -> Result<UnitCounts, AllocError>
     })
 }
 
-/// The memory with the name that the program gives it. A circuit's memories have at most 16 address bits and at most two ports.
+/// The memory with the name that the program gives it.
 fn memory_row(alloc: Global, name: &Text, built: &Mem) -> Result<MemoryRow, AllocError>
+    requires { FitsRow built.now }
     ensures shape { IfOk result (λ m. row_shape m ≡ shape_of (memory_of built.now)) }
     ensures name { IfOk result (λ m. m.name ≡ name.now) }
 {
-    let Some(depth) = 2u32.checked_pow(u32::from(built.depth_log)) else {
-        return Err(impossible());
-    };
-    let Ok(ports) = u8::try_from(built.ports.len()) else {
-        return Err(impossible());
-    };
     Ok(MemoryRow {
         name: name.copy(alloc)?,
         bits: built.bits,
-        depth,
-        ports,
+        depth: 2u32.pow(u32::from(built.depth_log)),
+        ports: built.ports.len() as u8,
     })
 }
 
@@ -85,24 +81,21 @@ fn memory_names<'m>(alloc: Global, memories: &'m [Memory]) -> Result<Vec<&'m Tex
 
 /// A row for each memory of the circuit, which are those of the program without its tables.
 fn memory_rows(alloc: Global, names: &[&Text], built: &[Mem]) -> Result<Vec<MemoryRow>, AllocError>
+    requires fit { All FitsRow built.now }
+    requires count { length names.now ≡ length built.now }
     ensures shapes { IfOk result (λ v. map row_shape v.items ≡ map shape_of (map memory_of built.now)) }
     ensures names { IfOk result (λ v. map (λ row. row.name) v.items ≡ map (λ name. name.now) names.now) }
 {
-    if names.len() != built.len() {
-        return Err(impossible());
-    }
     let mut rows = Vec::with_capacity(alloc, built.len())?;
-    for mem in built {
-        let Some(name) = names.get(rows.len()) else {
-            return Err(impossible());
-        };
-        rows.push(memory_row(alloc, *name, mem)?)?;
+    for number in 0..built.len() {
+        rows.push(memory_row(alloc, names[number], &built[number])?)?;
     }
     Ok(rows)
 }
 
 /// What a circuit is built of, with the names of the program's memories.
 pub fn resources_of(alloc: Global, frame: &Frame, design: &Design) -> Result<Resources, AllocError>
+    requires { HasRows frame.now.memories.items design.now.mems.items }
     ensures mul32 { IfOk result (λ r. r.units.mul32 ≡ multipliers 32 (netlist_of design.now)) }
     ensures mul64 { IfOk result (λ r. r.units.mul64 ≡ multipliers 64 (netlist_of design.now)) }
     ensures div32 { IfOk result (λ r. r.units.div32 ≡ dividers 32 (netlist_of design.now)) }
@@ -114,4 +107,42 @@ pub fn resources_of(alloc: Global, frame: &Frame, design: &Design) -> Result<Res
     let names = memory_names(alloc, &frame.memories)?;
     let memories = memory_rows(alloc, &names, &design.mems)?;
     Ok(Resources { units, memories })
+}
+
+/// How many memories are no tables.
+fn declared_count(memories: &[Memory]) -> usize
+    ensures { result ≡ length (declared_names memories.now) }
+{
+    let mut count = 0;
+    for declared in memories {
+        if declared.table.is_none() {
+            count += 1;
+        }
+    }
+    count
+}
+
+fn fits_row(built: &Mem) -> bool
+    ensures { IsTrue result ↔ FitsRow built.now }
+{
+    built.depth_log <= 16 && built.ports.len() < 256
+}
+
+fn fit_rows(built: &[Mem]) -> bool
+    ensures { IsTrue result ↔ All FitsRow built.now }
+{
+    built.iter().all(|mem| fits_row(mem))
+}
+
+fn has_rows(memories: &[Memory], built: &[Mem]) -> bool
+    ensures { IsTrue result ↔ HasRows memories.now built.now }
+{
+    fit_rows(built) && declared_count(memories) == built.len()
+}
+
+/// Whether a report has room for a program with times and its circuit.
+pub fn is_reportable(timed: &Cfg<Timed>, design: &Design) -> bool
+    ensures { IsTrue result ↔ IsReportable timed.now design.now }
+{
+    timed.nodes.len() < 1 << 31 && has_rows(&timed.frame.memories, &design.mems)
 }

@@ -1,4 +1,4 @@
-use Rattle.std.proofs.Common.{◌≡◌, ℕ, ◌+◌, ◌<◌, ◌^◌, ◌++◌, ◌∷◌, List, sym, ap, subst, ◌∙◌, arith}
+use Rattle.std.proofs.Common.{◌≡◌, ◌<◌, ◌^◌, ◌++◌, ◌∷◌, List, sym, ap, subst, ◌∙◌, arith}
 use Rattle.cycle_report.specs.declared.report.Cost.{Cost}
 use Rattle.report_rows.specs.Costs.{weighed, once}
 use Rattle.report_rows.proofs.Merging.{merged_once, next_once}
