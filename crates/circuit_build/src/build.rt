@@ -8,6 +8,7 @@ ghost use Rattle.rtl_logic.specs.Making.{circuit};
 ghost use Rattle.datapath.specs.Plans.{Plan};
 ghost use Rattle.datapath.specs.Cycles.{Register};
 ghost use Rattle.circuit_wires.specs.Carrying.{IsBegun};
+ghost use Rattle.small_numbers.specs.Small.{HasFewParts};
 ghost use Rattle.circuit_context.specs.Contexts.{IsContext};
 ghost use Rattle.circuit_build.specs.Making.{begun_with, HasOutputs, IsWhole, IsBuilt};
 
@@ -63,7 +64,8 @@ fn wired(
     registers: &Registers,
     live: Live,
 ) -> Result<Design, AllocError>
-    requires { IsLiveness (flow_of cfg.now) live }
+    requires live { IsLiveness (flow_of cfg.now) live }
+    requires few { HasFewParts cfg.now }
     ensures { IfOk result (λ d. IsWhole cfg.now live registers.now (netlist_of d)) }
 {
     let mut logic = begun(alloc, cfg)?;
@@ -81,7 +83,8 @@ fn pruned(
     registers: &Registers,
     live: Live,
 ) -> Result<Design, AllocError>
-    requires { IsLiveness (flow_of cfg.now) live }
+    requires live { IsLiveness (flow_of cfg.now) live }
+    requires few { HasFewParts cfg.now }
     ensures built { IfOk result (λ d. IsBuilt cfg.now live registers.now (netlist_of d)) }
     ensures inputs { IfOk result (λ d. d.inputs.items ≡ input_pins (interface_of cfg.now.frame)) }
     ensures outputs { IfOk result (λ d. map outer d.outputs.items ≡ output_pins (interface_of cfg.now.frame)) }
@@ -101,7 +104,8 @@ pub fn build(
     registers: &Registers,
     live: Live,
 ) -> Result<Design, AllocError>
-    requires { IsLiveness (flow_of cfg.now) live }
+    requires live { IsLiveness (flow_of cfg.now) live }
+    requires few { HasFewParts cfg.now }
     ensures name { IfOk result (λ d. d.name ≡ module_name cfg.now.frame.name) }
     ensures inputs { IfOk result (λ d. d.inputs.items ≡ input_pins (interface_of cfg.now.frame)) }
     ensures outputs { IfOk result (λ d. map outer d.outputs.items ≡ output_pins (interface_of cfg.now.frame)) }

@@ -7,6 +7,7 @@ ghost use Rattle.rtl_logic.specs.Making.{circuit};
 ghost use Rattle.datapath.specs.Plans.{Plan};
 ghost use Rattle.datapath.specs.Cycles.{Register};
 ghost use Rattle.circuit_wires.specs.Carrying.{IsBegun};
+ghost use Rattle.small_numbers.specs.Small.{HasFewParts};
 ghost use Rattle.circuit_log.specs.Roles.{named};
 ghost use Rattle.circuit_log.specs.Entries.{moves_of, all_entries, all_roles};
 ghost use Rattle.circuit_log.specs.Logs.{Logs};
@@ -53,7 +54,8 @@ pub fn context_of<'a>(
     registers: &'a Registers,
     live: Live,
 ) -> Result<Context<'a>, AllocError>
-    requires { IsLiveness (flow_of cfg.now) live }
+    requires live { IsLiveness (flow_of cfg.now) live }
+    requires few { HasFewParts cfg.now }
     ensures { IfOk result (λ of. HasContext of cfg.now live registers.now (circuit logic.old) (circuit logic.new)) }
 {
     numbers_are_small(cfg);

@@ -32,7 +32,7 @@ use report_rows::costs::formula_of;
 use report_rows::initial::initial_cycles;
 use report_rows::resources::{Resources, is_reportable, resources_of};
 use rtl_core::design::Design;
-use small_numbers::numbers::numbers_are_small;
+use small_numbers::numbers::{has_few_parts, numbers_are_small};
 use std::alloc::{AllocError, Global};
 
 /// A compiled program: its flat form, without times and with them, its circuit, and its report.
@@ -60,7 +60,7 @@ fn circuit_of(alloc: Global, timed: &Cfg<Timed>) -> Result<Design, AllocError>
     ensures { IfOk result (λ d. HasCircuit timed.now (netlist_of d)) }
 {
     numbers_are_small(timed);
-    if !has_small_times(timed) {
+    if !has_small_times(timed) || !has_few_parts(timed) {
         return Err(impossible());
     }
     let live = live_variables(alloc, timed)?;

@@ -1,9 +1,22 @@
-use Rattle.std.proofs.Common.{◌≡◌, ◌++◌, [], refl, sym, subst}
+use Rattle.std.proofs.Common.{◌≡◌, ◌<◌, ◌++◌, [], length, slice_index_or, refl, sym, subst, arith}
+use Rattle.std.specs.Prelude.{◌^◌}
 use Rattle.std.proofs.lemmas.List.{append-nil}
+use Rattle.ir_core.specs.declared.cfg.Node.{Node}
+use Rattle.ir_core.specs.declared.cfg.Node.TheVariants as node
+use Rattle.clock_ir.specs.declared.timed.Timed.{Timed}
+use Rattle.small_numbers.specs.Small as small
+use Rattle.access_ports.specs.Counting as ports
 use Rattle.register_bank.specs.Banks.{names_of, ArePortCounts}
 use Rattle.held_places.specs.Tables.{ArePlaces}
 use Rattle.circuit_build.specs.Making.{plan_in}
 use Rattle.circuit_build.proofs.parts.context_of.Goals as goal
+
+fewer : (n : Node Timed) → length (small.ops_in n) < 2 ^ 25 → length (ports.ops_in n) < 2 ^ 32
+fewer (node.Plain b) few = omega (arith, few)
+fewer (node.Looped r) few = omega (arith, few)
+
+pub ports_of-requires : goal.ports_of-requires
+ports_of-requires c = λ k d inside. fewer (slice_index_or c.args.cfg.now.nodes.items k d) (c.requires.few.operations k d inside)
 
 pub returns : goal.returns
 returns c =
@@ -20,9 +33,9 @@ returns c =
         more = [];
         names_ = sym (append-nil (names_of c.in_ok-bank.bank));
         small = c.numbers_are_small.ensures.small;
-        live_ = c.requires;
+        live_ = c.requires.live;
         places_ = subst (λ l. ArePlaces l c.in_ok-places.places) c.deref-2.ensures.value c.in_ok-places.ensures;
         ports_ = counted;
-        read_ = c.in_ok-read.ensures c.requires.sized (sym c.requires.count);
+        read_ = c.in_ok-read.ensures c.requires.live.sized (sym c.requires.live.count);
       };
     }
