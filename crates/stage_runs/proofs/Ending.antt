@@ -19,6 +19,7 @@ use Rattle.machine_laws.specs.Halts.{is_ended}
 use Rattle.machine_laws.specs.declared.machine.Halt.TheVariants as halt
 use Rattle.seq_machine.specs.Rest.{IsWhole, GoesOn, Passes, beginning, rest, EndsSo, FailsSo}
 use Rattle.seq_machine.specs.States.{words_of}
+use Rattle.seq_machine.specs.declared.machine.SeqMachine.{SeqMachine}
 use Rattle.seq_machine.specs.declared.state.State.{State}
 use Rattle.seq_machine.proofs.Going.{goes_passing, passes_no_points, passes_then}
 use Rattle.stage_runs.specs.declared.stage.PointCount.{PointCount}
@@ -46,17 +47,25 @@ passed_then m l most a b c x y z h p q = record {
   counts = q.counts ∙ (ap (count_all q.points) p.counts ∙ sym (count_all_then p.points q.points x));
 }
 
+-- one step more
+pub further : (steps : ℕ) (first here next last : SeqMachine) (x y z : Tally) → here.cfg.now ≡ first.cfg.now → last ≡ next → (IsWhole first.cfg.now → HasPassed steps (rest first.cfg.now first.state) (rest here.cfg.now here.state) x y)
+    → (IsWhole here.cfg.now → HasPassed 1 (rest here.cfg.now here.state) (rest next.cfg.now next.state) y z) → IsWhole first.cfg.now → HasPassed (steps + 1) (rest first.cfg.now first.state) (rest last.cfg.now last.state) x z
+further steps first here next last x y z same stays before step whole =
+    subst (λ (m : SeqMachine). HasPassed (steps + 1) (rest first.cfg.now first.state) (rest m.cfg.now m.state) x z) (sym stays)
+    (passed_then steps 1 (steps + 1) (rest first.cfg.now first.state) (rest here.cfg.now here.state) (rest next.cfg.now next.state) x y z (omega arith) (before whole) (step (subst IsWhole (sym same) whole)))
+
 -- the run from these inputs has come to this state, within so many points, and these are their counts
 abbrev pub HasCome : Cfg Untimed → Inputs → ℕ → Tally → Cfg Untimed → State → Type 0
 HasCome cfg inputs steps tally g s = IsWhole cfg → HasPassed steps (beginning cfg (first_words cfg.frame inputs)) (rest g s) [] tally
 
-pub has_come : (cfg : Cfg Untimed) (inputs : Inputs) (steps : ℕ) (g0 : Cfg Untimed) (s0 : State) (g : Cfg Untimed) (s : State) (none tally : Tally) → g0 ≡ cfg → none ≡ []
+pub has_come : (cfg : Cfg Untimed) (inputs : Inputs) (steps : ℕ) (g0 : Cfg Untimed) (s0 : State) (g : Cfg Untimed) (s : State) (none counts tally : Tally) → g0 ≡ cfg → none ≡ [] → tally ≡ counts
     → (IsWhole cfg → GoesOn 0 (beginning cfg (first_words cfg.frame inputs)) (rest g0 s0))
-    → (IsWhole g0 → HasPassed steps (rest g0 s0) (rest g s) none tally) → HasCome cfg inputs steps tally g s
-has_come cfg inputs steps g0 s0 g s none tally same no_counts begins goes whole =
+    → (IsWhole g0 → HasPassed steps (rest g0 s0) (rest g s) none counts) → HasCome cfg inputs steps tally g s
+has_come cfg inputs steps g0 s0 g s none counts tally same no_counts counted_so begins goes whole =
     let begin = beginning cfg (first_words cfg.frame inputs) in
     let first : HasPassed 0 begin (rest g0 s0) [] [] = record { points = []; few = omega arith; passes = passes_no_points begin (rest g0 s0) (begins whole); counts = refl } in
-    let later = subst (λ (counts : Tally). HasPassed steps (rest g0 s0) (rest g s) counts tally) no_counts (goes (subst IsWhole (sym same) whole)) in
+    let shown = subst (λ (old : Tally). HasPassed steps (rest g0 s0) (rest g s) old counts) no_counts (goes (subst IsWhole (sym same) whole)) in
+    let later = subst (λ (new : Tally). HasPassed steps (rest g0 s0) (rest g s) [] new) (sym counted_so) shown in
     passed_then 0 steps steps begin (rest g0 s0) (rest g s) [] [] tally (omega arith) first later
 
 -- ---- what is counted
@@ -77,8 +86,8 @@ counts_in_c tally in_c (it ∷ nodes) = ap (λ l. count_in in_c (point_of it) �
 
 -- ---- what is told
 
--- what the laws and the calls of a machine say of a state, and what is told of it
-pub record Shows (g : Cfg Untimed) (s : State) (tally in_c : Tally) (stage : Stage) : Type 0 where
+-- what the laws and the calls of a machine say of a state
+pub record Shows (g : Cfg Untimed) (s : State) (stage : Stage) : Type 0 where
   pub ended : (t : Words) (most n : ℕ) → GoesOn most (beginning g t) (rest g s) → s.halt ≡ halt.Ended → most ≤ n → EndsSo (flat_run g t n) s.returned (words_of s)
   pub undefined : (t : Words) (most n : ℕ) (rule : UbRule) (place : Place) → GoesOn most (beginning g t) (rest g s) → s.halt ≡ halt.Undefined rule place → most ≤ n → FailsSo (flat_run g t n) rule place
   pub passes : (t : Words) (points : List Point) (most n : ℕ) → Passes points most (beginning g t) (rest g s) → s.halt ≡ halt.Ended → most ≤ n → length points ≤ n → (flat_run g t n).trace ≡ points
@@ -87,10 +96,10 @@ pub record Shows (g : Cfg Untimed) (s : State) (tally in_c : Tally) (stage : Sta
   pub result : is_ended s.halt ≡ true → 0 < g.frame.ret → stage.ret ≡ s.returned
   pub void : g.frame.ret ≡ 0 → stage.ret ≡ None
   pub arrays : AreArrays g (words_of s) stage.arrays
-  pub points : stage.points.items ≡ map (counted tally in_c) g.nodes.items
 
-told : (cfg : Cfg Untimed) (inputs : Inputs) (s : State) (tally in_c : Tally) (stage : Stage) → HasCome cfg inputs stage.steps tally cfg s → Shows cfg s tally in_c stage → IsWhole cfg → IsToldOf cfg inputs stage
-told cfg inputs s tally in_c stage come shows whole =
+told : (cfg : Cfg Untimed) (inputs : Inputs) (s : State) (tally in_c : Tally) (stage : Stage) → HasCome cfg inputs stage.steps tally cfg s → Shows cfg s stage
+    → stage.points.items ≡ map (counted tally in_c) cfg.nodes.items → IsWhole cfg → IsToldOf cfg inputs stage
+told cfg inputs s tally in_c stage come shows points whole =
     let t = first_words cfg.frame inputs in
     let come_here = come whole in
     let goes : GoesOn stage.steps (beginning cfg t) (rest cfg s) = goes_passing come_here.points stage.steps (beginning cfg t) (rest cfg s) come_here.few come_here.passes in
@@ -108,12 +117,13 @@ told cfg inputs s tally in_c stage come shows whole =
       passed = λ is most within.
           let trace : (flat_run cfg t most).trace ≡ come_here.points = shows.passes t come_here.points stage.steps most come_here.passes (sym shows.halts ∙ is) within (omega (arith, come_here.few, within)) in
           let same : (p : Point) → count_in tally p ≡ times (flat_run cfg t most).trace p = λ p.
-              ap (λ (counts : Tally). count_in counts p) come_here.counts ∙ ((shows.tallies come_here.points).count p ∙ ap (λ (points : List Point). times points p) (sym trace)) in
-          ap (map (λ (p : PointCount). p.count)) shows.points ∙ counts_are tally in_c (flat_run cfg t most).trace cfg.nodes.items same;
+          ap (λ (counts : Tally). count_in counts p) come_here.counts ∙ ((shows.tallies come_here.points).count p ∙ ap (λ (passed : List Point). times passed p) (sym trace)) in
+          ap (map (λ (p : PointCount). p.count)) points ∙ counts_are tally in_c (flat_run cfg t most).trace cfg.nodes.items same;
       undefined = λ rule place is most within. shows.undefined t stage.steps most rule place goes (sym shows.halts ∙ is) within;
     }
 
 -- the same of a machine whose program is this one
-pub told_at : (cfg g : Cfg Untimed) (inputs : Inputs) (s : State) (tally in_c : Tally) (stage : Stage) → g ≡ cfg → HasCome cfg inputs stage.steps tally g s → Shows g s tally in_c stage → IsWhole cfg → IsToldOf cfg inputs stage
-told_at cfg g inputs s tally in_c stage same come shows =
-    told cfg inputs s tally in_c stage (subst (λ (x : Cfg Untimed). HasCome cfg inputs stage.steps tally x s) same come) (subst (λ (x : Cfg Untimed). Shows x s tally in_c stage) same shows)
+pub told_at : (cfg g : Cfg Untimed) (inputs : Inputs) (s : State) (tally in_c : Tally) (stage : Stage) → g ≡ cfg → HasCome cfg inputs stage.steps tally g s → Shows g s stage
+    → stage.points.items ≡ map (counted tally in_c) cfg.nodes.items → IsWhole cfg → IsToldOf cfg inputs stage
+told_at cfg g inputs s tally in_c stage same come shows points =
+    told cfg inputs s tally in_c stage (subst (λ (x : Cfg Untimed). HasCome cfg inputs stage.steps tally x s) same come) (subst (λ (x : Cfg Untimed). Shows x s stage) same shows) points

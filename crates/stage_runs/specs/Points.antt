@@ -1,5 +1,5 @@
 -- How often runs pass the points of the nodes of a program.
-use Rattle.std.specs.Prelude.{◌≡◌, ℕ, ◌≤◌, List, length, map}
+use Rattle.std.specs.Prelude.{◌≡◌, ℕ, ◌≤◌, List, length, map, Option}
 use Rattle.hls_base.specs.Tallies.{count_in}
 use Rattle.hls_base.specs.declared.point.Point.{Point}
 use Rattle.c_meaning.specs.Points.{count_all}

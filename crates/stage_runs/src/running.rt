@@ -51,11 +51,7 @@ fn halt_of(machine: &mut SeqMachine) -> Halt
 }
 
 /// Goes on to the end, and counts the steps and the points.
-fn run_to_end(
-    alloc: Global,
-    machine: &mut SeqMachine,
-    meter: &mut Meter,
-) -> Result<u64, AllocError>
+fn run_to_end(alloc: Global, machine: &mut SeqMachine, meter: &mut Meter) -> Result<u64, AllocError>
     requires { 18446744073709551615 ≤ meter.old.left }
     ensures passes { IfOk result (λ steps. IsWhole machine.old.cfg.now →
         HasPassed steps (rest machine.old.cfg.now machine.old.state) (rest machine.new.cfg.now machine.new.state) meter.old.counts meter.new.counts) }
