@@ -1,5 +1,6 @@
 #!/usr/bin/env python3
-"""Runs the stages of programs operation by operation, and prints where one differs from the run in C.
+"""Runs the stages of programs operation by operation, and prints where one differs from the run in C: in result, elements, steps,
+or in how often the point of a node is passed.
 
     tools/stages.py [FOLDER] [NAME..]   each NAME.c with NAME.run (its run file) and NAME.opts (the options of `synth`); the folder is
                                         corpus/programs, if none is named

@@ -17,10 +17,11 @@ use Rattle.block_meaning.specs.TreeRuns.{Turn, again, over, tested, goes_round, 
 use Rattle.block_meaning.specs.FlatRuns.{body_of}
 use Rattle.machine_memory.specs.Contents.{dims_in}
 use Rattle.seq_machine.specs.declared.effects.Broken.{Broken}
+use Rattle.seq_machine.specs.declared.state.Round.TheVariants as round
 use Rattle.seq_machine.specs.declared.state.State.{State}
 use Rattle.seq_machine.specs.Held.{IsThere, found, shapes}
 use Rattle.seq_machine.specs.States.{results_of, words_of, ranged_of, Keeps, Stays, ArraysThere, VariablesThere, IsThereIn, settled}
-use Rattle.seq_machine.specs.Steps.{behind, left_in, HasStepped, one_less, undefined_}
+use Rattle.seq_machine.specs.Steps.{behind, left_in, HasStepped, one_less, undefined_, turn_of}
 
 pub keeps_then : (a b c : State) → Keeps a b → Keeps b c → Keeps a c
 keeps_then a b c x y = record { variables = y.variables ∙ x.variables; results = y.results ∙ x.results; args = y.args ∙ x.args; fresh = y.fresh ∙ x.fresh; dims = y.dims ∙ x.dims }
@@ -101,6 +102,15 @@ pub round_goes : (sh : Shapes) (point : Point) (b : Body Untimed) (t : Words) (n
 round_goes sh point b t n r v e g rest =
     round_begun sh point b t (suc n) r true e g
     ∙ ap (behind (point ∷ [])) (iterated_is sh b r v r.words n rest)
+
+-- behind the point an iteration comes to what its other operations come to
+pub round_passes : (sh : Shapes) (point : Point) (b : Body Untimed) (t : Words) (n : ℕ) (r r1 : Ranged) (done : Result (Unit {0}) Broken) (last : Words)
+    → operations sh (map op_of b.ops.items) (map op_of (take (tested b.test) b.ops.items)) [] t ≡ is r → true ≡ goes_round b.test r.words r.results → Rest sh b r (found done r1) → OnOk done (last ≡ with_outs b.outs.items r1)
+    → iteration sh point (body_of b) t (1 + n) ≡ behind (point ∷ []) (turn_of (round.Passed done) last n)
+round_passes sh point b t n r r1 (Ok u) last e g rest same =
+    ap (iteration sh point (body_of b) t) (let k : 1 + n ≡ suc n = omega arith in k) ∙ round_goes sh point b t n r (is r1) e g rest ∙ ap (λ u1. behind (point ∷ []) (goes again u1 n)) (sym same)
+round_passes sh point b t n r r1 (Err broken) last e g rest same =
+    ap (iteration sh point (body_of b) t) (let k : 1 + n ≡ suc n = omega arith in k) ∙ round_goes sh point b t n r (faulty broken.rule broken.place) e g rest
 
 -- ---- the operations before the test, and those behind it
 

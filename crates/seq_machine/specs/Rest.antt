@@ -1,5 +1,5 @@
 -- What is left of the run of a flat program where a machine stands.
-use Rattle.std.specs.Prelude.{◌≡◌, ℕ, suc, ◌+◌, ◌≤◌, ◌==◌, List, length, map, slice_get, Option, Some, None, Result, Ok, Err, Bool, true, false, if◌then◌else◌}
+use Rattle.std.specs.Prelude.{◌≡◌, ℕ, suc, ◌+◌, ◌≤◌, ◌==◌, List, length, map, slice_get, Option, Some, None, Err, if◌then◌else◌}
 use Rattle.hls_base.specs.declared.number.NodeId.{NodeId}
 use Rattle.hls_base.specs.declared.place.Place.{Place}
 use Rattle.hls_base.specs.declared.point.Point.{Point}
@@ -17,10 +17,11 @@ use Rattle.run_steps.specs.Valued.{valued}
 use Rattle.block_meaning.specs.Bodies.{Words}
 use Rattle.block_meaning.specs.FlatRuns.{Going, body_of, shapes_of, block_left, node_run, going_on, from_node}
 use Rattle.machine_memory.specs.Contents.{dims_in}
-use Rattle.seq_machine.specs.declared.effects.Broken.{Broken}
+use Rattle.seq_machine.specs.declared.state.Round.{Round}
+use Rattle.seq_machine.specs.declared.state.Round.TheVariants as round
 use Rattle.seq_machine.specs.declared.state.State.{State}
 use Rattle.seq_machine.specs.Sizes.{body_in, KeptThere, ParametersThere}
-use Rattle.seq_machine.specs.States.{words_of, FitsBody, VariablesThere, ArraysThere}
+use Rattle.seq_machine.specs.States.{words_of, FitsBody, VariablesThere, ArraysThere, settled}
 use Rattle.seq_machine.specs.Steps.{behind, left_in}
 
 abbrev pub memory_dims : Cfg Untimed → List (List ℕ)
@@ -78,11 +79,17 @@ pub record GoesOn (most : ℕ) (before after : ℕ → ℕ → Ran Words (Option
   pub few_points : length points ≤ most
   pub same : (k n : ℕ) → before (nodes + k) (length points + n) ≡ behind points (after k n)
 
--- behind an iteration: at the next one, at the next node, or undefined
-abbrev pub moved : NodeId → Result Bool Broken → State → State
-moved next (Ok true) s = record s { position = 0 }
-moved next (Ok false) s = record s { node = next; position = 0 }
-moved next (Err broken) s = record s { halt = halt.Undefined broken.rule broken.place }
+-- One run is another one behind exactly these points, and at most so many nodes.
+pub record Passes (passed : List Point) (most : ℕ) (before after : ℕ → ℕ → Ran Words (Option ℕ)) : Type 0 where
+  pub nodes : ℕ
+  pub few_nodes : nodes ≤ most
+  pub same : (k n : ℕ) → before (nodes + k) (length passed + n) ≡ behind passed (after k n)
+
+-- behind an iteration: undefined, or at the next node, or at the next iteration
+abbrev pub moved : NodeId → Round → State → State
+moved next (round.Undefined broken) s = settled (Err broken) s
+moved next round.Over s = record s { node = next; position = 0 }
+moved next (round.Passed done) s = settled done (record s { position = 0 })
 
 -- ---- how a run ends
 

@@ -1,5 +1,5 @@
 -- What a step of a state does, as the definition of a run of blocks has it.
-use Rattle.std.specs.Prelude.{◌≡◌, ℕ, suc, ◌+◌, ◌≤◌, Bool, true, false, List, [], ◌∷◌, ◌++◌, length, map, drop, Result, Ok, Err}
+use Rattle.std.specs.Prelude.{◌≡◌, ℕ, ◌+◌, Bool, true, false, List, [], ◌∷◌, ◌++◌, length, map, drop, Option, Some, None, Ok, Err}
 use Rattle.hls_base.specs.declared.point.Point.{Point}
 use Rattle.ir_core.specs.declared.body.Body.{Body}
 use Rattle.ir_core.specs.declared.cfg.End.{End}
@@ -9,8 +9,10 @@ use Rattle.run_steps.specs.Steps.{Ran, ran, goes, fails}
 use Rattle.run_steps.specs.Valued.{Valued, is, faulty}
 use Rattle.block_meaning.specs.Bodies.{Words, Shapes, Ranged, op_of, operations, with_outs}
 use Rattle.block_meaning.specs.FlatRuns.{Going, to, ends, going, body_of}
-use Rattle.block_meaning.specs.TreeRuns.{again, over, iteration}
+use Rattle.block_meaning.specs.TreeRuns.{Turn, again, over, iteration}
 use Rattle.seq_machine.specs.declared.effects.Broken.{Broken}
+use Rattle.seq_machine.specs.declared.state.Round.{Round}
+use Rattle.seq_machine.specs.declared.state.Round.TheVariants as round
 use Rattle.seq_machine.specs.declared.state.State.{State}
 use Rattle.seq_machine.specs.States.{results_of, words_of, ranged_of}
 
@@ -33,9 +35,28 @@ pub data HasStepped (shapes : Shapes) (b : Body Untimed) (end : End) (old new : 
   undefined_ : (broken : Broken) (stopped : new.halt ≡ halt.Undefined broken.rule broken.place) (same : left_in shapes b old ≡ faulty broken.rule broken.place) → HasStepped shapes b end old new
   left_behind : (none : left_in shapes b old ≡ is (ranged_of old)) (gone : HasGone (going end (words_of old) (results_of old)) (with_outs b.outs.items (ranged_of old)) new) → HasStepped shapes b end old new
 
--- An iteration as the definition has it: behind its point it runs; or the test is 0; or an operation has no meaning, behind at most that point.
-abbrev pub HasIterated : Shapes → Point → Body Untimed → Result Bool Broken → State → State → Type 0
-HasIterated shapes point b (Ok true) old new = (n : ℕ) → iteration shapes point (body_of b) (words_of old) (suc n) ≡ behind (point ∷ []) (goes again (words_of new) n)
-HasIterated shapes point b (Ok false) old new = (n : ℕ) → iteration shapes point (body_of b) (words_of old) n ≡ goes over (words_of new) n
-HasIterated shapes point b (Err broken) old new =
-    (points : List Point) × (length points ≤ 1) × ((n : ℕ) → iteration shapes point (body_of b) (words_of old) (length points + n) ≡ behind points (fails broken.rule broken.place))
+-- this point, if it was passed
+abbrev pub point_if : Bool → Point → List Point
+point_if true point = point ∷ []
+point_if false point = []
+
+abbrev pub listed : Option Point → List Point
+listed (Some point) = point ∷ []
+listed None = []
+
+abbrev pub is_passed : Round → Bool
+is_passed (round.Undefined broken) = false
+is_passed round.Over = false
+is_passed (round.Passed done) = true
+
+-- what an iteration comes to
+abbrev pub turn_of : Round → Words → ℕ → Ran Words Turn
+turn_of (round.Undefined broken) t n = fails broken.rule broken.place
+turn_of round.Over t n = goes over t n
+turn_of (round.Passed (Ok _)) t n = goes again t n
+turn_of (round.Passed (Err broken)) t n = fails broken.rule broken.place
+
+-- An iteration as the definition has it, behind its point, if that was passed.
+abbrev pub HasIterated : Shapes → Point → Body Untimed → Round → State → State → Type 0
+HasIterated shapes point b r old new =
+    (n : ℕ) → iteration shapes point (body_of b) (words_of old) (length (point_if (is_passed r) point) + n) ≡ behind (point_if (is_passed r) point) (turn_of r (words_of new) n)

@@ -1,19 +1,22 @@
 //! The machine that runs a flat program, one operation after another.
-ghost use Rattle.std.specs.Prelude.{◌≡◌, ℕ, ◌≤◌, ◌<◌, ◌+◌, length, IfOk, false, true};
+ghost use Rattle.std.specs.Prelude.{◌≡◌, ℕ, ◌≤◌, ◌<◌, ◌+◌, List, length, IfOk, option_map, false, true};
 ghost use Rattle.hls_base.specs.ArrayAddress.{addresses};
 ghost use Rattle.block_meaning.specs.Bodies.{Words};
 ghost use Rattle.block_meaning.specs.FirstContents.{first_words};
 ghost use Rattle.block_meaning.specs.FlatRuns.{flat_run};
 ghost use Rattle.hls_base.specs.declared.place.Place.{Place};
+ghost use Rattle.hls_base.specs.declared.point.Point.{Point};
 ghost use Rattle.hls_base.specs.declared.refusal.UbRule.{UbRule};
 ghost use Rattle.machine_laws.specs.Halts.{HasHalted, is_ended};
 ghost use Rattle.machine_memory.specs.Contents.{dims_in, dims_at, element_in};
-ghost use Rattle.seq_machine.specs.Rest.{IsWhole, HasRoom, GoesOn, rest, beginning, EndsSo, FailsSo};
+ghost use Rattle.seq_machine.specs.Rest.{IsWhole, HasRoom, GoesOn, Passes, rest, beginning, EndsSo, FailsSo};
 ghost use Rattle.seq_machine.specs.States.{words_of};
+ghost use Rattle.seq_machine.specs.Steps.{listed};
 
 use crate::state::State;
 use hls_base::inputs::Inputs;
 use hls_base::number::ArrayId;
+use hls_base::point::Point;
 use ir_core::cfg::Cfg;
 use ir_core::stamp::Untimed;
 use machine_laws::machine::{Halt, Machine};
@@ -64,6 +67,29 @@ impl<'a> SeqMachine<'a> {
             FailsSo (flat_run self.now.cfg.now t n) rule place }
     {}
 
+    /// A law: where the run of the program from some contents passed these points to come to this machine, and this machine has ended, that run passes no others, however many more it may pass.
+    pub fn passes_as_the_run(&self)
+        ensures { (t : Words) (points : List Point) (most n : ℕ) →
+            Passes points most (beginning self.now.cfg.now t) (rest self.now.cfg.now self.now.state) →
+            self.now.state.halt ≡ Halt.Ended → most ≤ n → length points ≤ n →
+            (flat_run self.now.cfg.now t n).trace ≡ points }
+    {}
+
+    /// One step. Answers the point that it passes, if it passes one.
+    pub fn pass(&mut self) -> Option<&'a Point>
+        ensures stays { HasHalted self.old.state.halt → self.new ≡ self.old }
+        ensures passes { IsWhole self.old.cfg.now →
+            Passes (listed (option_map (λ point. point.now) result)) 1 (rest self.old.cfg.now self.old.state)
+            (rest self.new.cfg.now self.new.state) }
+        ensures program { self.new.cfg.now ≡ self.old.cfg.now }
+    {
+        if is_running(self.state.halt) {
+            self.state.advance(self.cfg)
+        } else {
+            None
+        }
+    }
+
     /// So many steps, or fewer where it halts.
     fn go_on(&mut self, steps: u64)
         ensures goes_on { IsWhole self.old.cfg.now →
@@ -89,9 +115,7 @@ impl<'a> Machine<Untimed> for SeqMachine<'a> {
             GoesOn 1 (rest self.old.cfg.now self.old.state) (rest self.new.cfg.now self.new.state) }
         ensures program { self.new.cfg.now ≡ self.old.cfg.now }
     {
-        if is_running(self.state.halt) {
-            self.state.advance(self.cfg);
-        }
+        self.pass();
         self.state.halt
     }
 

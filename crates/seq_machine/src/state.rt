@@ -1,5 +1,5 @@
 //! What changes as a program runs.
-ghost use Rattle.std.specs.Prelude.{◌≡◌, ◌≤◌, ◌<◌, ◌+◌, ◌++◌, ◌∷◌, [], ℕ, List, map, take, length, get_or, min, drop, slice_get, Some, OnOk, IfOk};
+ghost use Rattle.std.specs.Prelude.{◌≡◌, ◌≤◌, ◌<◌, ◌+◌, ◌++◌, ◌∷◌, [], ℕ, List, map, take, length, get_or, min, drop, slice_get, Some, option_map, OnOk, IfOk};
 ghost use Rattle.ir_core.specs.declared.body.Op.{Op};
 ghost use Rattle.ir_core.specs.declared.stamp.Untimed.{Untimed};
 ghost use Rattle.block_meaning.specs.Bodies as bodies;
@@ -10,8 +10,9 @@ ghost use Rattle.machine_memory.specs.Contents.{dims_in};
 ghost use Rattle.seq_machine.specs.Held.{shapes, IsThere, found};
 ghost use Rattle.seq_machine.specs.Sizes.{HasArgs};
 ghost use Rattle.seq_machine.specs.States.{results_of, words_of, ranged_of, Keeps, Stays, FitsBody, ArraysThere, VariablesThere, IsThereIn, settled};
-ghost use Rattle.seq_machine.specs.Rest.{IsWhole, HasRoom, GoesOn, rest, moved};
-ghost use Rattle.seq_machine.specs.Steps.{HasGone, HasStepped, HasIterated};
+ghost use Rattle.seq_machine.specs.Rest.{IsWhole, HasRoom, Passes, rest, moved};
+ghost use Rattle.seq_machine.specs.Steps as steps;
+ghost use Rattle.seq_machine.specs.Steps.{HasGone, HasStepped, HasIterated, listed};
 
 use crate::effects::{Broken, act, check, first_bits};
 use crate::operands::{Target, goes_round, going, is_allowed, read_all, read_outs, set_outs};
@@ -40,6 +41,14 @@ pub struct State {
     pub returned: Option<u64>,
 }
 
+/// What came of an iteration: an operation before its test has no meaning, or the test is 0, or its point was passed, and perhaps an operation behind that has no meaning.
+#[derive(Clone, Copy, Debug)]
+pub enum Round {
+    Undefined(Broken),
+    Over,
+    Passed(Result<(), Broken>),
+}
+
 /// How many operations come before the test is known.
 fn tested(test: Option<Operand>) -> usize
     ensures { result ≡ trees.tested test }
@@ -51,6 +60,19 @@ fn tested(test: Option<Operand>) -> usize
         },
         None => 0,
     }
+}
+
+fn is_passed(round: Round) -> bool
+    ensures { result ≡ steps.is_passed round }
+{
+    matches!(round, Round::Passed(_))
+}
+
+/// A point, if it was passed.
+fn point_if(passed: bool, point: &Point) -> Option<&Point>
+    ensures { listed (option_map (λ point. point.now) result) ≡ steps.point_if passed point.now }
+{
+    if passed { Some(point) } else { None }
 }
 
 impl State {
@@ -265,13 +287,8 @@ impl State {
         }
     }
 
-    /// Runs one iteration of a loop. Answers false where its test is 0.
-    fn iterate(
-        &mut self,
-        widths: &[u8],
-        point: &Point,
-        body: &Body<Untimed>,
-    ) -> Result<bool, Broken>
+    /// Runs one iteration of a loop.
+    fn iterate(&mut self, widths: &[u8], point: &Point, body: &Body<Untimed>) -> Round
         requires fits { FitsBody self.old body.now }
         ensures does { IsThereIn self.old body.now →
             HasIterated (shapes widths.now (dims_in self.old.memories)) point.now body.now result
@@ -283,52 +300,54 @@ impl State {
         match self.begin_round(widths, body) {
             Ok(goes) => {
                 if goes {
-                    match self.end_round(widths, body) {
-                        Ok(()) => Ok(true),
-                        Err(broken) => Err(broken),
-                    }
+                    Round::Passed(self.end_round(widths, body))
                 } else {
-                    Ok(false)
+                    Round::Over
                 }
             }
-            Err(broken) => Err(broken),
+            Err(broken) => Round::Undefined(broken),
         }
     }
 
     /// Goes to the next iteration of a loop, or to the node behind it.
-    fn turn(&mut self, next: NodeId, turned: Result<bool, Broken>)
-        ensures { self.new ≡ moved next turned self.old }
+    fn turn(&mut self, next: NodeId, round: Round)
+        ensures { self.new ≡ moved next round self.old }
     {
-        match turned {
-            Ok(goes) => {
-                if !goes {
-                    self.node = next;
-                }
+        match round {
+            Round::Undefined(broken) => self.settle(Err(broken)),
+            Round::Over => {
+                self.node = next;
                 self.position = 0;
             }
-            Err(broken) => {
-                self.halt = Halt::Undefined(broken.rule, broken.place);
+            Round::Passed(done) => {
+                self.position = 0;
+                self.settle(done);
             }
         }
     }
 
-    /// One step of a run that goes on.
-    pub fn advance(&mut self, cfg: &Cfg<Untimed>)
+    /// One step of a run that goes on. Answers the point that it passes, if it passes one.
+    pub fn advance<'c>(&mut self, cfg: &'c Cfg<Untimed>) -> Option<&'c Point>
         requires room { HasRoom cfg.now self.old }
         requires running { self.old.halt ≡ Halt.Running }
-        ensures goes_on { IsWhole cfg.now → GoesOn 1 (rest cfg.now self.old) (rest cfg.now self.new) }
+        ensures passes { IsWhole cfg.now →
+            Passes (listed (option_map (λ point. point.now) result)) 1 (rest cfg.now self.old) (rest cfg.now self.new) }
         ensures room { HasRoom cfg.now self.new }
     {
         let index = self.node.0 as usize;
-        if index < cfg.nodes.len() {
-            match &cfg.nodes[index] {
-                Node::Plain(block) => {
-                    self.block_step(&cfg.frame.variables, &block.body, &block.end);
-                }
-                Node::Looped(region) => {
-                    let turned = self.iterate(&cfg.frame.variables, &region.point, &region.body);
-                    self.turn(region.next, turned);
-                }
+        if index >= cfg.nodes.len() {
+            return None;
+        }
+        match &cfg.nodes[index] {
+            Node::Plain(block) => {
+                let entered = self.position == 0;
+                self.block_step(&cfg.frame.variables, &block.body, &block.end);
+                point_if(entered, &block.point)
+            }
+            Node::Looped(region) => {
+                let round = self.iterate(&cfg.frame.variables, &region.point, &region.body);
+                self.turn(region.next, round);
+                point_if(is_passed(round), &region.point)
             }
         }
     }

@@ -1,5 +1,7 @@
 -- What the runs of the stages of a source are, and when they agree with its run in C.
 use Rattle.std.specs.Prelude.{◌≡◌, ℕ, Bool, List, [], ◌∷◌, length, map, slice_get, Some, Result, Err}
+use Rattle.std.specs.List.{All}
+use Rattle.hls_base.specs.Tallies.{count_in}
 use Rattle.hls_base.specs.declared.inputs.Inputs.{Inputs}
 use Rattle.hls_base.specs.declared.refusal.Refusal.{Refusal}
 use Rattle.c_tree.specs.Tree as tree
@@ -25,17 +27,20 @@ use Rattle.stage_runs.specs.declared.stage.StageInputs.{StageInputs}
 use Rattle.stage_runs.specs.declared.stage.StageName.{StageName}
 use Rattle.stage_runs.specs.declared.stage.StageName.TheVariants as name
 use Rattle.stage_runs.specs.declared.stage.StageRuns.{StageRuns}
+use Rattle.stage_runs.specs.Points.{node_points}
 use Rattle.stage_runs.specs.Stages.{IsStageOf, IsToldOf, step_costs}
 
 -- ---- the runs
 
--- A stage of an expanded program is run with these inputs. As many elements are told as were given, and its points are weighed as the run in C passes them.
+-- A stage of an expanded program is run with these inputs. As many elements are told as were given, and the points of its nodes are counted and weighed as the run in C passes them.
 pub record IsStageRun (e : ExpandedTree) (plain : Bool) (given : Inputs) (ended : Final) (stage : Stage) : Type 0 where
   pub cfg : Cfg Untimed
   pub is : IsStageOf e plain stage.name cfg
   pub told : IsToldOf cfg given stage
   pub counts : map length stage.arrays ≡ map length given.arrays
   pub tallied : stage.tallied ≡ cycles 0 (step_costs cfg.nodes.items) ended.tally
+  pub points : map (λ p. p.point) stage.points.items ≡ node_points cfg.nodes.items
+  pub in_c : map (λ p. p.in_c) stage.points.items ≡ map (count_in ended.tally) (node_points cfg.nodes.items)
 
 abbrev pub AreStageRuns : ExpandedTree → Bool → Inputs → Final → List Stage → Type 0
 AreStageRuns e plain given ended [] = Unit {0}
@@ -74,9 +79,10 @@ pub data IsRefusedAs (source top : List ℕ) (refusal : Refusal) : Type 0 where
 
 -- ---- agreement
 
--- The stage ended with the result and the arrays of the run in C, in as many steps as the points of that run give.
+-- The stage ended with the result and the arrays of the run in C, in as many steps as the points of that run give, and passed the point of each node as often as that run.
 pub record Agrees (ended : Final) (stage : Stage) : Type 0 where
   pub halts : stage.halt ≡ halt.Ended
   pub result : stage.ret ≡ ended.ret
   pub arrays : stage.arrays ≡ ended.arrays
   pub steps : stage.steps ≡ stage.tallied
+  pub points : All (λ p. p.count ≡ p.in_c) stage.points.items

@@ -1,3 +1,4 @@
+pub mod Points
 pub mod Stages
 pub mod Agreement
 pub mod Asking

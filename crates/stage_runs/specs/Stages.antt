@@ -7,6 +7,7 @@ use Rattle.hls_base.specs.declared.place.Place.{Place}
 use Rattle.hls_base.specs.declared.point.Point.{Point}
 use Rattle.hls_base.specs.declared.point.PointKind.TheVariants as kind
 use Rattle.hls_base.specs.declared.refusal.UbRule.{UbRule}
+use Rattle.c_meaning.specs.Points.{times}
 use Rattle.cycle_report.specs.declared.report.Cost.{Cost}
 use Rattle.pieces.specs.Program.{ExpandedTree}
 use Rattle.ir_core.specs.declared.cfg.Cfg.{Cfg}
@@ -29,6 +30,7 @@ use Rattle.compile_steps.specs.Resets.{expanded_frame}
 use Rattle.stage_runs.specs.declared.stage.Stage.{Stage}
 use Rattle.stage_runs.specs.declared.stage.StageName.{StageName}
 use Rattle.stage_runs.specs.declared.stage.StageName.TheVariants as name
+use Rattle.stage_runs.specs.Points.{node_points}
 
 -- ---- the programs
 
@@ -78,9 +80,11 @@ pub record EndsAs (cfg : Cfg Untimed) (inputs : Inputs) (most : ℕ) (ret : Opti
   pub void : cfg.frame.ret ≡ 0 → ret ≡ None
   pub elements : AreArrays cfg last arrays
 
--- What is told of a stage is what the run of its flat program comes to: how it ends, or which rule it breaks, however many more points than steps it may pass.
+-- What is told of a stage is what the run of its flat program comes to: how it ends and how often it passes the point of each node, or which rule it breaks, however many more points than steps it may pass.
 pub record IsToldOf (cfg : Cfg Untimed) (inputs : Inputs) (stage : Stage) : Type 0 where
   pub ended : stage.halt ≡ halt.Ended → (most : ℕ) → stage.steps ≤ most → EndsAs cfg inputs most stage.ret stage.arrays
+  pub passed : stage.halt ≡ halt.Ended → (most : ℕ) → stage.steps ≤ most
+      → map (λ p. p.count) stage.points.items ≡ map (times (flat_run cfg (first_words cfg.frame inputs) most).trace) (node_points cfg.nodes.items)
   pub undefined : (rule : UbRule) (place : Place) → stage.halt ≡ halt.Undefined rule place → (most : ℕ) → stage.steps ≤ most → FailsSo (flat_run cfg (first_words cfg.frame inputs) most) rule place
 
 -- ---- the steps that points give

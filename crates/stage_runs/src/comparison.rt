@@ -3,7 +3,7 @@ ghost use Rattle.std.specs.Prelude.{◌≡◌, ◌↔◌, true, IsTrue, None};
 ghost use Rattle.std.specs.List.{All};
 ghost use Rattle.stage_runs.specs.Agreement.{Agrees};
 
-use crate::stage::{Stage, StageName, StageRuns};
+use crate::stage::{PointCount, Stage, StageName, StageRuns};
 use c_meaning::outcome::Final;
 use hls_base::words::Words;
 use machine_laws::machine::Halt;
@@ -29,6 +29,24 @@ fn are_same(arrays: &[Words], others: &[Words]) -> bool
     true
 }
 
+/// Whether a run passed a point as often as the run in C.
+pub fn is_counted_alike(point: &PointCount) -> bool
+    ensures { result ≡ true → point.now.count ≡ point.now.in_c }
+{
+    point.count == point.in_c
+}
+
+fn are_counted_alike(points: &[PointCount]) -> bool
+    ensures { result ≡ true → All (λ p. p.count ≡ p.in_c) points.now }
+{
+    for point in points {
+        if !is_counted_alike(point) {
+            return false;
+        }
+    }
+    true
+}
+
 /// Whether a stage ended as the run in C did.
 fn agrees(ended: &Final, stage: &Stage) -> bool
     ensures { result ≡ true → Agrees ended.now stage.now }
@@ -36,6 +54,7 @@ fn agrees(ended: &Final, stage: &Stage) -> bool
     stage.halt == Halt::Ended
         && stage.ret == ended.ret
         && u128::from(stage.steps) == stage.tallied
+        && are_counted_alike(stage.points.as_slice())
         && are_same(stage.arrays.items(), ended.arrays.items())
 }
 

@@ -4,6 +4,7 @@
 mod comparison;
 pub mod laws;
 mod lines;
+mod points;
 pub mod run;
 mod running;
 pub mod runs;

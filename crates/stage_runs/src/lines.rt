@@ -3,8 +3,10 @@ ghost use Rattle.std.specs.Prelude.{◌≡◌, IfOk};
 ghost use Rattle.std.specs.List.{All};
 ghost use Rattle.stage_runs.specs.Agreement.{Agrees};
 
-use crate::comparison::first_difference;
-use crate::stage::{Stage, StageFault, StageName, StageRuns};
+use crate::comparison::{first_difference, is_counted_alike};
+use crate::stage::{PointCount, Stage, StageFault, StageName, StageRuns};
+use cycle_report::print::kind_text;
+use hls_base::place::Place;
 use hls_base::words::Words;
 use std::alloc::{AllocError, Global};
 
@@ -45,7 +47,7 @@ fn result_word(alloc: Global, ret: Option<u64>) -> Result<String, AllocError> {
     }
 }
 
-/// Adds the line of a stage: its name, its steps, its result, and the first elements of its arrays.
+/// Adds the line of a stage: its name, its steps, its result, and the first elements of its arrays; and a line for each point that differs.
 fn push_stage(alloc: Global, lines: &mut Vec<u8>, stage: &Stage) -> Result<(), AllocError> {
     let name = stage_word(stage.name);
     let steps = stage.steps;
@@ -54,6 +56,45 @@ fn push_stage(alloc: Global, lines: &mut Vec<u8>, stage: &Stage) -> Result<(), A
     lines.extend_from_slice(line.as_bytes())?;
     push_arrays(alloc, lines, stage.arrays.items())?;
     lines.push(b'\n')?;
+    push_points(alloc, lines, stage.points.as_slice())
+}
+
+/// Adds the places of a path, or `-` where it has none.
+fn push_path(alloc: Global, lines: &mut Vec<u8>, path: &[Place]) -> Result<(), AllocError> {
+    if path.is_empty() {
+        lines.push(b'-')?;
+    }
+    for (index, place) in path.iter().enumerate() {
+        let comma = if index == 0 { "" } else { "," };
+        lines.extend_from_slice(format!(in alloc; "{comma}{place}")?.as_bytes())?;
+    }
+    Ok(())
+}
+
+/// Adds the line of a point: its kind, its place and path, and its two counts.
+fn push_point(alloc: Global, lines: &mut Vec<u8>, point: &PointCount) -> Result<(), AllocError> {
+    lines.extend_from_slice(b"point ")?;
+    lines.extend_from_slice(kind_text(point.point.kind))?;
+    let at = point.point.at;
+    lines.extend_from_slice(format!(in alloc; " {at} ")?.as_bytes())?;
+    push_path(alloc, lines, point.point.path.items())?;
+    let count = point.count;
+    let in_c = point.in_c;
+    lines.extend_from_slice(format!(in alloc; " passed {count} in c {in_c}\n")?.as_bytes())?;
+    Ok(())
+}
+
+/// Adds the lines of the points that were not passed as often as in C.
+fn push_points(
+    alloc: Global,
+    lines: &mut Vec<u8>,
+    points: &[PointCount],
+) -> Result<(), AllocError> {
+    for point in points {
+        if !is_counted_alike(point) {
+            push_point(alloc, lines, point)?;
+        }
+    }
     Ok(())
 }
 

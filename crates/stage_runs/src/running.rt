@@ -1,11 +1,19 @@
 //! A flat program is run to its end, and what the machine shows then.
-ghost use Rattle.std.specs.Prelude.{◌≡◌, ◌+◌, ◌≤◌, length, map, IfOk};
+ghost use Rattle.std.specs.Prelude.{◌≡◌, ◌+◌, ◌≤◌, ◌<◌, length, map, IfOk, OnOk};
+ghost use Rattle.hls_base.specs.Tallies.{count_in};
 ghost use Rattle.block_meaning.specs.FirstContents.{first_words};
-ghost use Rattle.seq_machine.specs.Rest.{IsWhole, GoesOn, rest};
+ghost use Rattle.cycle_report.specs.FormulaValue.{cycles};
+ghost use Rattle.seq_machine.specs.Rest.{IsWhole, rest};
 ghost use Rattle.seq_machine.specs.States.{words_of};
-ghost use Rattle.stage_runs.specs.Stages.{AreElements, AreArrays, IsToldOf};
+ghost use Rattle.stage_runs.specs.Points.{HasPassed, node_points};
+ghost use Rattle.stage_runs.specs.Stages.{AreElements, AreArrays, IsToldOf, step_costs};
 
+use crate::points::point_counts;
 use crate::stage::{Stage, StageName};
+use crate::steps::tallied_steps;
+use c_meaning::laws::tallies_count;
+use c_meaning::outcome::Final;
+use c_state::meter::Meter;
 use hls_base::inputs::Inputs;
 use hls_base::number::ArrayId;
 use hls_base::refusal::impossible;
@@ -16,18 +24,22 @@ use machine_laws::machine::{Halt, Machine};
 use seq_machine::machine::SeqMachine;
 use std::alloc::{AllocError, Global};
 
-/// Goes on to the end, and counts the steps.
-fn run_to_end(machine: &mut SeqMachine) -> u64
-    ensures goes_on { IsWhole machine.old.cfg.now →
-        GoesOn result (rest machine.old.cfg.now machine.old.state) (rest machine.new.cfg.now machine.new.state) }
+/// One step, whose point is counted.
+fn pass_counted(
+    alloc: Global,
+    machine: &mut SeqMachine,
+    meter: &mut Meter,
+) -> Result<(), AllocError>
+    requires { 0 < meter.old.left }
+    ensures passes { OnOk result (IsWhole machine.old.cfg.now →
+        HasPassed 1 (rest machine.old.cfg.now machine.old.state) (rest machine.new.cfg.now machine.new.state) meter.old.counts meter.new.counts) }
+    ensures left { OnOk result (meter.old.left ≤ meter.new.left + 1) }
     ensures program { machine.new.cfg.now ≡ machine.old.cfg.now }
 {
-    for steps in 0..u64::MAX {
-        if machine.step() != Halt::Running {
-            return steps + 1;
-        }
+    if let Some(point) = machine.pass() {
+        meter.count(alloc, point.path.items(), point.at, point.kind)?;
     }
-    u64::MAX
+    Ok(())
 }
 
 /// How a machine halted. Nothing is run.
@@ -36,6 +48,22 @@ fn halt_of(machine: &mut SeqMachine) -> Halt
     ensures same { machine.new ≡ machine.old }
 {
     machine.run(0)
+}
+
+/// Goes on to the end, and counts the steps and the points.
+fn run_to_end(alloc: Global, machine: &mut SeqMachine, meter: &mut Meter) -> Result<u64, AllocError>
+    requires { 18446744073709551615 ≤ meter.old.left }
+    ensures passes { IfOk result (λ steps. IsWhole machine.old.cfg.now →
+        HasPassed steps (rest machine.old.cfg.now machine.old.state) (rest machine.new.cfg.now machine.new.state) meter.old.counts meter.new.counts) }
+    ensures program { machine.new.cfg.now ≡ machine.old.cfg.now }
+{
+    for steps in 0..u64::MAX {
+        pass_counted(alloc, machine, meter)?;
+        if halt_of(machine) != Halt::Running {
+            return Ok(steps + 1);
+        }
+    }
+    Ok(u64::MAX)
 }
 
 fn narrow(number: usize) -> Result<u32, AllocError>
@@ -77,29 +105,38 @@ fn all_elements(alloc: Global, machine: &SeqMachine, given: &[Words]) -> Result<
     Ok(Arrays::new(arrays))
 }
 
-/// Runs a stage's flat program to its end, where the points of the run in C give so many steps.
+/// Runs a stage's flat program to its end, beside the end of the run in C.
 pub fn run_stage(
     alloc: Global,
     name: StageName,
     cfg: &Cfg<Untimed>,
     inputs: &Inputs,
-    tallied: u128,
+    ended: &Final,
 ) -> Result<Stage, AllocError>
     ensures told { IfOk result (λ s. IsWhole cfg.now → IsToldOf cfg.now inputs.now s) }
     ensures counts { IfOk result (λ s. map length s.arrays ≡ map length inputs.now.arrays) }
     ensures name { IfOk result (λ s. s.name ≡ name) }
-    ensures tallied { IfOk result (λ s. s.tallied ≡ tallied) }
+    ensures tallied { IfOk result (λ s. s.tallied ≡ cycles 0 (step_costs cfg.now.nodes.items) ended.now.tally) }
+    ensures points { IfOk result (λ s. map (λ p. p.point) s.points.items ≡ node_points cfg.now.nodes.items) }
+    ensures in_c { IfOk result (λ s.
+        map (λ p. p.in_c) s.points.items ≡ map (count_in ended.now.tally) (node_points cfg.now.nodes.items)) }
 {
     let mut machine = SeqMachine::new(alloc, cfg, inputs)?;
-    let steps = run_to_end(&mut machine);
+    let mut meter = Meter::new(alloc);
+    meter.allow(u64::MAX);
+    let steps = run_to_end(alloc, &mut machine, &mut meter)?;
     let halt = halt_of(&mut machine);
     machine.halts_as_the_run();
+    machine.passes_as_the_run();
+    tallies_count();
+    let tally = meter.tally(alloc)?;
     Ok(Stage {
         name,
         halt,
         ret: machine.ret(),
         arrays: all_elements(alloc, &machine, inputs.arrays.items())?,
         steps,
-        tallied,
+        tallied: tallied_steps(alloc, &cfg.nodes, &ended.tally)?,
+        points: point_counts(alloc, &cfg.nodes, &tally, &ended.tally)?,
     })
 }

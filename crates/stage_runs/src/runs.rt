@@ -18,7 +18,6 @@ ghost use Rattle.stage_runs.specs.Agreement.{IfRefusal, IsRefusedAs, IsStageRun,
 use crate::laws::sources_have_whole_stages;
 use crate::running::run_stage;
 use crate::stage::{Stage, StageFault, StageInputs, StageName, StageRuns};
-use crate::steps::tallied_steps;
 use crate::trees::flat_stage;
 use c_checked::checked::Checked;
 use c_meaning::outcome::Final;
@@ -54,8 +53,7 @@ fn stage_run(
     ensures name { IfOk result (λ s. s.name ≡ name) }
 {
     let cfg = flat_stage(alloc, expanded, given.plain, name)?;
-    let tallied = tallied_steps(alloc, &cfg.nodes, &given.ended.tally)?;
-    let stage = run_stage(alloc, name, &cfg, &given.inputs, tallied)?;
+    let stage = run_stage(alloc, name, &cfg, &given.inputs, &given.ended)?;
     Ok(stage)
 }
 

@@ -1,5 +1,6 @@
 //! The stages of a program, and what their runs tell.
 use c_meaning::outcome::Final;
+use hls_base::point::Point;
 use hls_base::refusal::Refusal;
 use hls_base::text::Text;
 use hls_base::words::Arrays;
@@ -24,7 +25,15 @@ pub struct StageInputs {
     pub points: u64,
 }
 
-/// What the run of a stage came to: its end, its result, the elements of the arrays of the host, and its steps. Those that the points of the run in C give are `tallied`.
+/// How often a run passed a point, and how often the run in C did.
+#[derive(Debug, Drop)]
+pub struct PointCount {
+    pub point: Point,
+    pub count: u128,
+    pub in_c: u128,
+}
+
+/// What the run of a stage came to: its end, its result, the elements of the arrays of the host, its steps, and how often it passed the point of each node. The steps that the points of the run in C give are `tallied`.
 #[derive(Debug, Drop)]
 pub struct Stage {
     pub name: StageName,
@@ -33,6 +42,7 @@ pub struct Stage {
     pub arrays: Arrays,
     pub steps: u64,
     pub tallied: u128,
+    pub points: Vec<PointCount>,
 }
 
 /// The run in C, and those of the stages in their order.

@@ -1,8 +1,10 @@
-use Rattle.std.proofs.Common.{◌≡◌}
-use Rattle.seq_machine.specs.Rest.{IsWhole, GoesOn, rest}
+use Rattle.std.proofs.Common.{◌≡◌, ◌≤◌, ◌+◌}
+use Rattle.seq_machine.specs.Rest.{IsWhole, rest}
+use Rattle.stage_runs.specs.Points.{HasPassed}
 use Rattle.stage_runs.proofs.running.run_to_end.Given as goal
 
 abbrev pub invariant-loop-steps : goal.invariant-loop-steps
 invariant-loop-steps l =
     (l.machine.cfg.now ≡ l.initial.machine.cfg.now)
-    × (IsWhole l.initial.machine.cfg.now → GoesOn l.steps (rest l.initial.machine.cfg.now l.initial.machine.state) (rest l.machine.cfg.now l.machine.state))
+    × (l.initial.meter.left ≤ l.meter.left + l.steps)
+    × (IsWhole l.initial.machine.cfg.now → HasPassed l.steps (rest l.initial.machine.cfg.now l.initial.machine.state) (rest l.machine.cfg.now l.machine.state) l.initial.meter.counts l.meter.counts)

@@ -1,8 +1,7 @@
-use Rattle.std.proofs.Common.{◌∙◌, ap, sym, subst}
+use Rattle.std.proofs.Common.{sym, subst}
 use Rattle.pieces.specs.Program.{expanded_of}
-use Rattle.cycle_report.specs.FormulaValue.{cycles}
 use Rattle.stage_runs.specs.declared.stage.StageName.{StageName}
-use Rattle.stage_runs.specs.Stages.{IsStageOf, step_costs}
+use Rattle.stage_runs.specs.Stages.{IsStageOf}
 use Rattle.stage_runs.proofs.runs.stage_run.Goals as goal
 
 pub returns-clause-run : goal.returns-clause-run
@@ -14,5 +13,7 @@ returns-clause-run c = λ whole.
       is = subst (λ (name : StageName). IsStageOf (expanded_of c.args.expanded.now) plain name cfg) (sym c.in_ok-stage.ensures.name) c.in_ok-cfg.ensures;
       told = c.in_ok-stage.ensures.told (whole plain c.args.name cfg c.in_ok-cfg.ensures);
       counts = c.in_ok-stage.ensures.counts;
-      tallied = c.in_ok-stage.ensures.tallied ∙ (c.in_ok-tallied.ensures ∙ ap (λ nodes. cycles 0 (step_costs nodes) c.args.given.now.ended.tally) c.deref.ensures.value);
+      tallied = c.in_ok-stage.ensures.tallied;
+      points = c.in_ok-stage.ensures.points;
+      in_c = c.in_ok-stage.ensures.in_c;
     }

@@ -1,6 +1,6 @@
 use Rattle.std.proofs.Common.{◌+◌, sym, subst, arith}
 use Rattle.seq_machine.specs.Rest.{IsWhole, rest}
-use Rattle.seq_machine.proofs.Going.{goes_further, stands}
+use Rattle.seq_machine.proofs.Going.{goes_further, stands, one_step}
 use Rattle.seq_machine.proofs.machine.SeqMachine.go_on.Goals as goal
 
 pub loop-preserved : goal.loop-preserved
@@ -9,7 +9,7 @@ loop-preserved c =
       c.loop.invariant.0,
       λ whole.
           goes_further c.loop.counter 1 (c.loop.counter + 1) (rest c.args.self.now.cfg.now c.args.self.now.state) (rest cfg c.loop.self.state) (rest cfg c.advance.new.self) (omega arith)
-          (c.loop.invariant.1 whole) (c.advance.ensures.goes_on (subst IsWhole (sym c.loop.invariant.0) whole)),
+          (c.loop.invariant.1 whole) (one_step _ _ _ (c.advance.ensures.passes (subst IsWhole (sym c.loop.invariant.0) whole))),
     )
 
 pub returns-then-not-is_running-clause-goes_on : goal.returns-then-not-is_running-clause-goes_on
