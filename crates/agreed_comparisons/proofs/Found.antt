@@ -1,31 +1,29 @@
 -- The verdict on files that agree with their source, of a run that ends in time.
-use Rattle.std.proofs.Common.{◌≡◌, ◌≢◌, ◌⊎◌, inl, inr, ℕ, ◌+◌, ◌<◌, ◌≤◌, List, [], ◌∷◌, ◌++◌, length, take, drop, Option, Some, None, refl, sym, ap, ◌∙◌, subst, arith}
+use Rattle.std.proofs.Common.{◌≡◌, inl, inr, ℕ, ◌+◌, ◌≤◌, List, [], length, drop, Option, None, sym, ap, ◌∙◌, subst, arith}
 use Rattle.std.proofs.lemmas.Bool.{cases_lt}
 use Rattle.std.proofs.lemmas.Option.{none-some, same_Some}
 use Rattle.std.proofs.lemmas.List.{take-append-drop}
 use Rattle.hls_base.specs.declared.point.Point.{Point}
 use Rattle.hls_base.specs.declared.refusal.Refusal.{Refusal}
-use Rattle.c_tree.specs.Tree.{FunctionTree, ProgramTree}
-use Rattle.c_checked.specs.Programs.{program_faults}
+use Rattle.c_tree.specs.Tree.{FunctionTree}
 use Rattle.c_meaning.specs.declared.outcome.Final.{Final}
 use Rattle.c_meaning.specs.Points.{tally_of}
 use Rattle.c_meaning.specs.Run as run
 use Rattle.c_meaning.specs.Run.{Answer, function_at}
-use Rattle.checked_source.specs.Sources.{IsTheProgramOf, IsTopFunction}
+use Rattle.checked_source.specs.Sources.{IsTopFunction}
 use Rattle.checked_source.proofs.BodyOnce.{one_top, one_top_function}
 use Rattle.checked_source.proofs.Once.{one_program}
 use Rattle.rtl_core.specs.Netlist.{Netlist}
 use Rattle.rtl_core.specs.Interface.{Interface, HasPins}
 use Rattle.verilog_read.proofs.NoText.{no_text}
 use Rattle.cycle_report.specs.PlainReport.{PlainReport}
-use Rattle.cycle_report.specs.ReportForm.{IsReport, IsRefusedAs, IsFirstBadByte, BeginsReport}
+use Rattle.cycle_report.specs.ReportForm.{IsReport, IsRefusedAs, IsFirstBadByte}
 use Rattle.cycle_report.specs.FormulaValue.{cycles}
 use Rattle.cycle_report.proofs.Whole.{one_report}
-use Rattle.cosim_pins.specs.declared.drive.Shown.{Shown}
 use Rattle.cosim_pins.specs.FunctionPins.{interface_of}
 use Rattle.cosim_levels.specs.declared.verdict.Difference.{Difference}
-use Rattle.cosim_levels.specs.Comparison.{result_number, array_parameters, shown_arrays, differ_or, first_difference, compared_with}
-use Rattle.cosim_levels.specs.Levels.{EndsWith, IsUnended, IsWaiting}
+use Rattle.cosim_levels.specs.Comparison.{result_number, array_parameters, shown_arrays, differ_or, first_difference}
+use Rattle.cosim_levels.specs.Levels.{EndsWith, IsUnended}
 use Rattle.cosim_levels.specs.Verdicts as told
 use Rattle.cosim_levels.specs.Verdicts.{PlainVerdict}
 use Rattle.run_file.specs.RunFile.{reading_of}
@@ -55,8 +53,11 @@ no_bad_byte bytes r k is bad =
     ]
 
 not_refused_as : (bytes : List ℕ) (r : PlainReport) (why : Refusal) → IsReport bytes r → length bytes ≤ 16777216 → IsRefusedAs bytes why → ⊥
-not_refused_as bytes r why is small (rule, inl (long, place)) = omega (arith, small, long)
-not_refused_as bytes r why is small (rule, inr (fits, (k, (bad, place)))) = no_bad_byte bytes r k is bad
+not_refused_as bytes r why is small refused =
+    elim refused.1 [
+      | inl long ↦ (let above = long.0 in omega (arith, small, above))
+      | inr bad ↦ no_bad_byte bytes r bad.1.0 is bad.1.1
+    ]
 
 report_stays : (given : CosimInputs) (r : PlainReport) (why : Refusal) → HasReport given r → RefusesReport given why → ⊥
 report_stays given r why has (on.no_report refused) = not_refused_as given.report r why has.is has.small refused

@@ -1,12 +1,11 @@
 -- Files that agree are found to agree.
 use Rattle.std.proofs.Common.{◌≡◌, ◌⊎◌, inl, inr, ℕ, List, Option, Some, None, refl, sym, ap, ◌∙◌, subst}
 use Rattle.std.specs.Prelude.{take, IsSomeAnd}
-use Rattle.hls_base.specs.declared.refusal.Refusal.{Refusal}
-use Rattle.hls_base.specs.Outside.{Files, IsAbsent, AreFirstBytes}
+use Rattle.hls_base.specs.Outside.{Files, IsAbsent}
 use Rattle.cosim_levels.specs.Verdicts as told
 use Rattle.cosim_levels.specs.Verdicts.{PlainVerdict}
 use Rattle.hls_flow.specs.declared.verdict.CosimInputs.{CosimInputs}
-use Rattle.hls_flow.specs.FirstFault.{IsAccepted, IsFirstFault}
+use Rattle.hls_flow.specs.FirstFault.{IsAccepted}
 use Rattle.hls_flow.specs.Agreeing.{AgreesInTime}
 use Rattle.hls_flow.proofs.Faults.{accepted_has_no_fault}
 use Rattle.agreed_comparisons.specs.Laws.{SaysAgree}

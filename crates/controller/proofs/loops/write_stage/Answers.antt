@@ -1,10 +1,13 @@
-use Rattle.std.proofs.Common.{◌+◌, refl}
-use Rattle.std.specs.Prelude.{◌&&◌, ◌||◌, ◌-◌, not}
+use Rattle.std.proofs.Common.{[], ◌∷◌, ◌+◌, ap, refl}
+use Rattle.std.specs.Prelude.{ℕ, ◌&&◌, ◌||◌, ◌-◌, not}
 use Rattle.std.proofs.lemmas.Result.{on_ok_weaker}
+use Rattle.rtl_logic.specs.Choosing.{where_}
 use Rattle.rtl_logic.specs.Making.{circuit}
 use Rattle.datapath.specs.Cycles.{Cycle, bit}
 use Rattle.datapath.specs.Reading.{has_passed}
 use Rattle.datapath.specs.Control.{is_loading, ends_interval}
+use Rattle.circuit_log.specs.declared.role.Role.TheVariants as role
+use Rattle.circuit_log.specs.Entries.{register_entry}
 use Rattle.circuit_log.proofs.Joining.{logs_behind}
 use Rattle.controller.proofs.Telling.{tells_later, tells_as}
 use Rattle.controller.proofs.Pieces.{logs_as, stage_takes}
