@@ -32,7 +32,12 @@ pub record NamesThreeFiles (s : spec.Synth) : Type 0 where
   pub source_report : s.source ≢ s.report
   pub module_report : s.module_file ≢ s.report
 
+-- the limits that were asked for are no greater than the greatest
+pub record HasLimits (c : spec.Cosim) : Type 0 where
+  pub points : c.points ≤ spec.greatest_limit
+  pub cycles : c.cycles ≤ spec.greatest_limit
+
 abbrev pub IsInRange : Command → Type 0
 IsInRange (command.Synth s) = HasRange (synth_view s) × NamesThreeFiles (synth_view s)
-IsInRange (command.Cosim c) = Unit {0}
+IsInRange (command.Cosim c) = HasLimits (cosim_view c)
 IsInRange (command.Soak n) = Unit {0}

@@ -6,7 +6,7 @@ ghost use Rattle.clap.specs.Words.{first_of, found_of, rows_of, subcommand_rows_
 ghost use Rattle.command_words.specs.OptionViews.{options_view};
 ghost use Rattle.command_words.specs.Commands as command;
 ghost use Rattle.command_words.specs.ClapMatches as spec;
-ghost use Rattle.command_words.specs.CommandViews.{view, synth_view, cosim_view, HasRange, NamesThreeFiles, IsInRange};
+ghost use Rattle.command_words.specs.CommandViews.{view, synth_view, cosim_view, HasRange, HasLimits, NamesThreeFiles, IsInRange};
 
 use crate::clap_command::hls_app;
 use crate::command::{Command, Cosim, Synth, are_different, cosim_with, is_other, synth_with};
@@ -62,7 +62,8 @@ fn synth_in<'a>(matches: &ArgMatches<'a>) -> Option<Synth<'a>>
 }
 
 fn cosim_in<'a>(matches: &ArgMatches<'a>) -> Option<Cosim<'a>>
-    ensures { option_map command.cosim (option_map cosim_view result) ≡ spec.cosim_in (rows_of (found_of matches.now)) }
+    ensures value { option_map command.cosim (option_map cosim_view result) ≡ spec.cosim_in (rows_of (found_of matches.now)) }
+    ensures limits { IfSome result (λ c. HasLimits (cosim_view c)) }
 {
     let source = value_of(matches, "source")?;
     let module_file = value_of(matches, "module")?;

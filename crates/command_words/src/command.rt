@@ -4,7 +4,7 @@ ghost use Rattle.std.specs.Option.{option_map};
 ghost use Rattle.command_words.specs.Words.{number_or};
 ghost use Rattle.command_words.specs.OptionViews.{options_view};
 ghost use Rattle.command_words.specs.Commands as spec;
-ghost use Rattle.command_words.specs.CommandViews.{synth_view, cosim_view, HasRange};
+ghost use Rattle.command_words.specs.CommandViews.{synth_view, cosim_view, HasRange, HasLimits};
 
 use crate::number::number_or;
 use crate::options::Options;
@@ -101,6 +101,7 @@ fn synth_numbers<'a>(command: Synth<'a>, options: &Options<'a>) -> Option<Synth<
 /// The command with the limits that the options give.
 fn cosim_numbers<'a>(command: Cosim<'a>, options: &Options<'a>) -> Option<Cosim<'a>>
     ensures value { option_map cosim_view result ≡ spec.cosim_numbers (cosim_view command.entry) (options_view options.now) }
+    ensures limits { IfSome result (λ c. HasLimits (cosim_view c)) }
 {
     let points = limit(options.points)?;
     let cycles = limit(options.cycles)?;
@@ -146,7 +147,8 @@ pub(crate) fn cosim_with<'a>(
     run: &'a str,
     options: &Options<'a>,
 ) -> Option<Cosim<'a>>
-    ensures { option_map spec.cosim (option_map cosim_view result) ≡ spec.cosim_with source.now module_file.now report.now run.now (options_view options.now) }
+    ensures value { option_map spec.cosim (option_map cosim_view result) ≡ spec.cosim_with source.now module_file.now report.now run.now (options_view options.now) }
+    ensures limits { IfSome result (λ c. HasLimits (cosim_view c)) }
 {
     if options.mul.is_some() || options.div.is_some() || options.ports.is_some() || options.plain {
         return None;

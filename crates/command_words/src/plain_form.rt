@@ -3,7 +3,7 @@ ghost use Rattle.std.specs.Prelude.{◌≡◌, map, ◌∷◌, IfSome};
 ghost use Rattle.std.specs.Option.{option_map};
 ghost use Rattle.std.specs.String.{string_bytes};
 ghost use Rattle.command_words.specs.Commands as spec;
-ghost use Rattle.command_words.specs.CommandViews.{view, synth_view, cosim_view, HasRange, NamesThreeFiles, IsInRange};
+ghost use Rattle.command_words.specs.CommandViews.{view, synth_view, cosim_view, HasRange, HasLimits, NamesThreeFiles, IsInRange};
 
 use crate::command::{Command, Cosim, Synth, are_different, cosim_with, is_other, synth_with};
 use crate::number::number_in;
@@ -36,7 +36,8 @@ fn synth_of<'a>(words: &'a [String]) -> Option<Synth<'a>>
 }
 
 fn cosim_of<'a>(words: &'a [String]) -> Option<Cosim<'a>>
-    ensures { option_map spec.cosim (option_map cosim_view result) ≡ spec.cosim_of (map string_bytes words.now) }
+    ensures value { option_map spec.cosim (option_map cosim_view result) ≡ spec.cosim_of (map string_bytes words.now) }
+    ensures limits { IfSome result (λ c. HasLimits (cosim_view c)) }
 {
     if words.len() < 4 {
         return None;

@@ -1,3 +1,4 @@
 pub mod Elements
 pub mod ArrayParameters
 pub mod RunInC
+pub mod FewCycles

@@ -1,5 +1,6 @@
 //! Where the run of a module differs from the run in C.
-ghost use Rattle.std.specs.Prelude.{◌≡◌, map, filter, pos, IfOk};
+ghost use Rattle.std.specs.Prelude.{◌≡◌, ◌<◌, ◌≤◌, ◌^◌, length, map, filter, pos, IfOk};
+ghost use Rattle.std.specs.List.{All};
 ghost use Rattle.c_tree.specs.View.{object_of, param_of, function_of};
 ghost use Rattle.c_value.specs.Values as value;
 ghost use Rattle.c_meaning.specs.Run.{is_array_parameter};
@@ -13,7 +14,6 @@ use c_tree::function::{Function, Param};
 use c_tree::object::Object;
 use c_value::convert::number_of;
 use cosim_pins::drive::Shown as ShownByModule;
-use hls_base::refusal::impossible;
 use hls_base::words::Words;
 use std::alloc::{AllocError, Global};
 
@@ -33,15 +33,13 @@ fn in_result(expected: Option<i128>, found: Option<i128>) -> Option<Difference>
 
 /// An element of an array.
 fn element(alloc: Global, object: &Object, number: usize) -> Result<Item, AllocError>
+    requires { number < 2 ^ 32 }
     ensures { IfOk result (λ i. i ≡ item.Element object.now.name number) }
 {
-    match u32::try_from(number) {
-        Ok(index) => Ok(Item::Element {
-            name: object.name.copy(alloc)?,
-            index,
-        }),
-        Err(_) => Err(impossible()),
-    }
+    Ok(Item::Element {
+        name: object.name.copy(alloc)?,
+        index: number as u32,
+    })
 }
 
 /// Where an element of an array differs.
@@ -52,6 +50,7 @@ fn in_element(
     expected: u64,
     found: u64,
 ) -> Result<Option<Difference>, AllocError>
+    requires { number < 2 ^ 32 }
     ensures { IfOk result (λ d. d ≡ compare.difference_at (item.Element object.now.name number) (value.number_of object.now.kind expected) (value.number_of object.now.kind found)) }
 {
     let expected = number_of(object.kind, expected);
@@ -74,6 +73,7 @@ fn in_elements(
     expected: &[u64],
     found: &[u64],
 ) -> Result<Option<Difference>, AllocError>
+    requires { length found.now ≤ 2 ^ 32 }
     ensures { IfOk result (λ d. d ≡ compare.in_elements (object_of object.now) 0 expected.now found.now) }
 {
     for k in 0..expected.len().min(found.len()) {
@@ -92,6 +92,7 @@ fn in_arrays(
     expected: &[Words],
     found: &[Words],
 ) -> Result<Option<Difference>, AllocError>
+    requires { All (λ words. length words ≤ 2 ^ 32) found.now }
     ensures { IfOk result (λ d. d ≡ compare.in_arrays (filter is_array_parameter (map param_of params.now)) expected.now found.now) }
 {
     let mut array: usize = 0;
@@ -117,17 +118,20 @@ fn in_arrays(
 }
 
 /// Where the numbers of cycles differ.
-fn in_cycles(expected: u128, found: u64) -> Result<Option<Difference>, AllocError>
-    ensures { IfOk result (λ d. d ≡ compare.difference_at item.Cycles (pos expected) (pos found)) }
+fn in_cycles(expected: u128, found: u64) -> Option<Difference>
+    requires { expected < 2 ^ 127 }
+    ensures { result ≡ compare.difference_at item.Cycles (pos expected) (pos found) }
 {
-    match i128::try_from(expected) {
-        Ok(expected) if expected == i128::from(found) => Ok(None),
-        Ok(expected) => Ok(Some(Difference {
+    let expected = expected as i128;
+    let found = i128::from(found);
+    if expected == found {
+        None
+    } else {
+        Some(Difference {
             item: Item::Cycles,
             expected,
-            found: i128::from(found),
-        })),
-        Err(_) => Err(impossible()),
+            found,
+        })
     }
 }
 
@@ -139,6 +143,8 @@ pub fn first_difference(
     cycles: u128,
     shown: &ShownByModule,
 ) -> Result<Option<Difference>, AllocError>
+    requires elements { All (λ words. length words ≤ 2 ^ 32) shown.now.arrays }
+    requires cycles { cycles < 2 ^ 127 }
     ensures { IfOk result (λ d. d ≡ compare.first_difference (function_of function.now) ended.now.ret ended.now.arrays cycles shown.now) }
 {
     let expected = result_number(function.result, ended.ret);
@@ -156,5 +162,5 @@ pub fn first_difference(
     if arrays.is_some() {
         return Ok(arrays);
     }
-    in_cycles(cycles, shown.cycles)
+    Ok(in_cycles(cycles, shown.cycles))
 }

@@ -1,5 +1,5 @@
 //! The levels of a program: its run in C, and that of its module.
-ghost use Rattle.std.specs.Prelude.{◌≡◌, length, Some, IfOk};
+ghost use Rattle.std.specs.Prelude.{◌≡◌, ◌<◌, ◌^◌, length, Some, IfOk};
 ghost use Rattle.c_tree.specs.View.{program_of};
 ghost use Rattle.c_meaning.specs.Run.{c_run, first_contents};
 ghost use Rattle.c_execution.specs.Progress.{outcome_of};
@@ -78,6 +78,17 @@ pub fn module_level(
             level: Level::Verilog,
             limit: cycles,
         })),
+    }
+}
+
+/// The cycles that a formula gives for a run, where they have 128 bits.
+pub fn short_cycles(formula: &Formula, tally: &Tally) -> u128
+    requires { cycles formula.now.base formula.now.rows.items tally.now < 2 ^ 128 }
+    ensures { result ≡ cycles formula.now.base formula.now.rows.items tally.now }
+{
+    match formula.cycles(tally) {
+        Some(cycles) => cycles,
+        None => unreachable!(),
     }
 }
 

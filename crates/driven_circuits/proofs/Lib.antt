@@ -8,4 +8,5 @@ pub mod Showing
 pub mod Functions
 pub mod Ends
 pub mod Differences
+pub mod ShortArrays
 pub mod Whole

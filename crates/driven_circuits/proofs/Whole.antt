@@ -1,5 +1,5 @@
 -- Circuits that agree with the box show its answers.
-use Rattle.std.proofs.Common.{◌≡◌, ◌<◌, ◌≤◌, ℕ, List, Option, None, sym, ap, ◌∙◌, subst, inl, inr}
+use Rattle.std.proofs.Common.{◌≡◌, ◌<◌, ◌≤◌, ℕ, List, Option, Some, None, sym, ap, ◌∙◌, subst, inl, inr}
 use Rattle.std.proofs.lemmas.Bool.{and_parts, cases_lt}
 use Rattle.std.proofs.lemmas.Option.{none-some, same_Some}
 use Rattle.c_tree.specs.Tree.{FunctionTree, ProgramTree}
@@ -10,6 +10,7 @@ use Rattle.rtl_core.specs.Netlist.{Netlist}
 use Rattle.rtl_core.specs.ClockStep.{Fit}
 use Rattle.rtl_core.specs.Box.{Ended}
 use Rattle.c_box.specs.CAnswers.{c_answers, ends}
+use Rattle.cosim_pins.specs.declared.drive.Shown.{Shown}
 use Rattle.cosim_pins.specs.ModuleRun.{module_run}
 use Rattle.cosim_pins.specs.FunctionPins.{scalar_bits, array_shapes, interface_of}
 use Rattle.cosim_levels.specs.Comparison.{first_difference}
@@ -64,5 +65,18 @@ never_different p top f report d with_c scalars arrays count result elements e l
         | inr enough ↦ (
             let r = agrees_at_end p top f report d with_c scalars arrays count result elements e limit some enough ready in
             subst (λ x. first_difference f result elements count x ≡ None) (same_Some r.shown shown (sym r.ends ∙ run)) r.same)
+      ]
+    ]
+
+-- a run of the module that ends takes no more cycles than are waited for
+pub ends_in_limit : (p : ProgramTree) (top : ℕ) (f : FunctionTree) (report : PlainReport) (d : Netlist) → AgreesWithC p top f report d
+    → (scalars : List ℕ) (arrays : List (List ℕ)) (count : ℕ) (result : Option ℕ) (elements : List (List ℕ)) → EndsInC p top f report scalars arrays count result elements
+    → (limit : ℕ) → 2 ≤ count → (shown : Shown) → module_run d (interface_of f) scalars arrays limit ≡ Some shown → count ≤ limit
+ends_in_limit p top f report d with_c scalars arrays count result elements e limit some shown run =
+    elim (cases_lt report.init limit) [
+      | inr late ↦ absurd (none-some shown (sym (sequence_waits d (interface_of f) report.init (first_contents p) (c_answers p top report) with_c.agrees scalars arrays limit late) ∙ run))
+      | inl ready ↦ elim (cases_lt limit count) [
+        | inl fewer ↦ absurd (none-some shown (sym (waits_before_end p top f report d with_c scalars arrays count result elements e limit some fewer ready) ∙ run))
+        | inr enough ↦ enough
       ]
     ]

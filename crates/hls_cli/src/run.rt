@@ -2,7 +2,7 @@
 ghost use Rattle.std.specs.Prelude.{◌≡◌, ◌≤◌, ◌⊎◌, List, ℕ, Option, map};
 ghost use Rattle.std.specs.String.{string_bytes};
 ghost use Rattle.hls_base.specs.Outside.{Files, HasRisen, NeverFalls, WhereTold, PutsPrefix};
-ghost use Rattle.command_words.specs.CommandViews.{synth_view, cosim_view, HasRange, NamesThreeFiles};
+ghost use Rattle.command_words.specs.CommandViews.{synth_view, cosim_view, HasRange, HasLimits, NamesThreeFiles};
 ghost use Rattle.hls_cli.specs.Ends.{seen, Ends, IsFinish};
 ghost use Rattle.hls_cli.specs.Lines.{fault_line, memory_line};
 ghost use Rattle.hls_cli.specs.Words.{IsSynth, IsCosim, IsSoak};
@@ -63,6 +63,7 @@ fn run_synth<F: Shelf, K: Sink>(alloc: Global, command: &Synth, shelf: &mut F, o
 }
 
 fn run_cosim<F: Shelf, K: Sink>(alloc: Global, command: &Cosim, shelf: &mut F, out: &mut K) -> u8
+    requires { HasLimits (cosim_view command.now) }
     ensures { (words : List (List ℕ)) → IsCosim words (cosim_view command.now) →
         Ends words (seen (F.files shelf.old) (F.faults shelf.old) (K.written out.old) (K.faults out.old)) (seen (F.files shelf.new) (F.faults shelf.new) (K.written out.new) (K.faults out.new)) result }
 {

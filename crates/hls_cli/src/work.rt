@@ -1,10 +1,11 @@
 //! The work of a command: it reads, compiles and writes, and puts nothing.
-ghost use Rattle.std.specs.Prelude.{◌≡◌, ◌⊎◌, IfOk, OnOk, OnErr, IsErrOf};
+ghost use Rattle.std.specs.Prelude.{◌≡◌, ◌≤◌, ◌⊎◌, IfOk, OnOk, OnErr, IsErrOf};
 ghost use Rattle.hls_base.specs.Outside.{HasRisen, NeverFalls, WhereTold, IsAbsent};
 ghost use Rattle.hls_base.specs.Refusals.{IfRefused};
 ghost use Rattle.hls_flow.specs.FirstFault.{IsFirstFault};
 ghost use Rattle.hls_flow.specs.Synthesis.{IsSynthesis};
-ghost use Rattle.command_words.specs.CommandViews.{synth_view, cosim_view, HasRange, NamesThreeFiles};
+ghost use Rattle.hls_flow.specs.Verdicts.{greatest_points};
+ghost use Rattle.command_words.specs.CommandViews.{synth_view, cosim_view, HasRange, HasLimits, NamesThreeFiles};
 ghost use Rattle.hls_cli.specs.Words.{settings_of};
 ghost use Rattle.hls_cli.specs.Comparisons.{IsGiven, IsCosimAnswer, IsCosimWork, IsSoakWork};
 ghost use Rattle.hls_cli.specs.Lines as line;
@@ -139,6 +140,7 @@ fn read_files<F: Shelf>(
 
 /// What a comparison says of what was read.
 fn compared(alloc: Global, given: &CosimInputs) -> Result<Answer, ShelfError>
+    requires { given.now.points ≤ greatest_points }
     ensures answer { IfOk result (λ a. IsCosimAnswer given.now a.status a.lines) }
     ensures status { IfOk result (λ a. IsVerdictStatus a.status) }
     ensures memory { IsErrOf result ShelfError.Failed → ⊥ }
@@ -159,6 +161,7 @@ pub fn work_cosim<F: Shelf>(
     command: &Cosim,
     shelf: &mut F,
 ) -> Result<Answer, ShelfError>
+    requires { HasLimits (cosim_view command.now) }
     ensures answer { IfOk result (λ a. IsCosimWork (cosim_view command.now) (F.files shelf.old) a.status a.lines) }
     ensures files { F.files shelf.new ≡ F.files shelf.old }
     ensures status { IfOk result (λ a. IsVerdictStatus a.status) }

@@ -1,5 +1,7 @@
 pub mod Faults
 mod TopPlace
+pub mod PinNames
+pub mod ShortCycles
 mod Made
 pub mod Stopped
 pub mod ScalarCount

@@ -1,11 +1,14 @@
 -- What the texts that were made say of the source.
-use Rattle.std.proofs.Common.{◌≡◌, ℕ, ◌≤◌, List, [], Some, ap, subst}
+use Rattle.std.proofs.Common.{◌≡◌, ℕ, ◌≤◌, List, [], Some, sym, ap, subst}
 use Rattle.std.specs.Prelude.{slice_get}
 use Rattle.hls_base.specs.declared.settings.Settings.{Settings}
 use Rattle.c_tree.specs.Tree.{FunctionTree, ProgramTree}
 use Rattle.c_checked.specs.Programs.{program_faults, top_name}
 use Rattle.rtl_core.specs.Netlist.{Netlist}
+use Rattle.verilog_print.specs.PrintableNames.{HasPrintableNames}
 use Rattle.cycle_report.specs.PlainReport.{PlainReport}
+use Rattle.cycle_report.specs.ReportForm.{IsName, IsSettings}
+use Rattle.cosim_pins.specs.FunctionPins.{interface_of}
 use Rattle.checked_source.specs.Sources.{IsTheProgramOf, end_of}
 use Rattle.checked_source.proofs.BodyOnce.{top_of}
 use Rattle.c_elaborate.specs.Programs.{program_elaborated}
@@ -21,8 +24,9 @@ use Rattle.c_meaning.specs.Run.{function_at}
 use Rattle.design_promise.specs.Promise.{KeepsPromise}
 use Rattle.design_promise.proofs.Whole.{promise_kept}
 use Rattle.hls_flow.specs.FirstFault.{IsAccepted}
-use Rattle.hls_flow.specs.Synthesis.{IsScheduledReport, IsSynthesis}
+use Rattle.hls_flow.specs.Synthesis.{AreInRange, IsScheduledReport, IsSynthesis}
 use Rattle.hls_flow.specs.Made.{HasScheduledCircuit, HasScheduledTexts}
+use Rattle.hls_flow.proofs.PinNames.{printable}
 use Rattle.hls_flow.proofs.Faults.{accepted_has_no_fault}
 
 abbrev pub accepted_of : (source top : List ℕ) (p : ProgramTree) (index : ℕ) → IsTheProgramOf source p → program_faults p top ≡ [] → top_name p index ≡ Some top
@@ -52,6 +56,30 @@ promise_of source settings p index the faultless named report d made f is =
     let s = made.scheduled in
     promise_kept source p index settings.top (faultless_source source settings.top p index the faultless named) f is settings.plain s.untimed s.flat (allowed_units settings) s.timed report.loops s.is_timed s.frame
     report settings d s.reported made.circuit
+
+-- the pins of such a circuit are those of its function
+pub names_printable : (source : List ℕ) (settings : Settings) (p : ProgramTree) (index : ℕ) → IsTheProgramOf source p → program_faults p settings.top ≡ [] → top_name p index ≡ Some settings.top
+    → (e : ExpandedTree) → e ≡ expansion (program_elaborated p index) → (report : PlainReport) (d : Netlist) → HasScheduledCircuit settings e report d → HasPrintableNames d
+names_printable source settings p index the faultless named e same report d made =
+    let top = top_of p index settings.top named in
+    let all = subst (λ x. HasScheduledCircuit settings x report d) same made in
+    let promise : KeepsPromise p index settings.top top.0 report d = promise_of source settings p index the faultless named report d all top.0 (ap function_at top.1.item) in
+    printable d (interface_of top.0) promise.agrees.pins
+
+-- the settings of a report are those of its text where the name of the top function is one
+pub settings_fit : (s : Settings) → AreInRange s → (t : Settings) → t ≡ s → IsName t.top → IsSettings t
+settings_fit s range t same name =
+    let own : IsName s.top → IsSettings s = λ top. record {
+      top = top;
+      mul_low = range.mul_low;
+      mul_high = range.mul_high;
+      div_low = range.div_low;
+      div_high = range.div_high;
+      ports_low = range.ports_low;
+      ports_high = range.ports_high;
+      period_high = range.period_high;
+    } in
+    subst (λ (x : Settings). IsName x.top → IsSettings x) (sym same) own name
 
 answers_always : (source : List ℕ) (settings : Settings) (p : ProgramTree) (index : ℕ) → IsTheProgramOf source p → program_faults p settings.top ≡ [] → top_name p index ≡ Some settings.top
     → (report : PlainReport) (d : Netlist) (s : IsScheduledReport settings (expansion (program_elaborated p index)) report d) → AnswersAlways p index s.timed report.rows

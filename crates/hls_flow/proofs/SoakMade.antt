@@ -1,5 +1,5 @@
 -- The run of a made program, put together from what the steps give.
-use Rattle.std.proofs.Common.{◌≡◌, ℕ, true, [], ◌∷◌, Result, Ok, Err, IfOk, Option, Some, None, codes, refl, sym, ap, subst, ◌∙◌}
+use Rattle.std.proofs.Common.{◌≡◌, ℕ, true, [], ◌∷◌, List, Option, Some, None, IfSome, codes, sym, ap, subst, ◌∙◌}
 use Rattle.std.specs.Prelude.{is_some, slice_get}
 use Rattle.c_tree.specs.Tree as tree
 use Rattle.c_tree.specs.Tree.{FunctionTree, ProgramTree}
@@ -7,6 +7,7 @@ use Rattle.c_meaning.specs.declared.outcome.Final.{Final}
 use Rattle.c_meaning.specs.Run.{function_at}
 use Rattle.rtl_core.specs.Netlist.{Netlist}
 use Rattle.cycle_report.specs.PlainReport.{PlainReport}
+use Rattle.driven_circuits.specs.Driven.{AgreesWithC}
 use Rattle.soak_text.specs.SoakProgram.{program_text, elements, argument, count_products}
 use Rattle.hls_flow.specs.declared.soak.Summary.{Summary}
 use Rattle.hls_flow.specs.SoakRun.{soak_settings, IsCompiled, IsAgreedRun, IsSoakRun}
@@ -30,11 +31,17 @@ soak_run number program index f report circuit final count muls made item body a
   result = returned;
 }
 
--- what is not there
-pub none_left : {A : Type 0} (o : Option A) → ((x : A) → o ≡ Some x → ⊥) → o ≡ None
-none_left (Some x) none = absurd (none x refl)
-none_left None none = refl
+-- what the circuit of such a program promises
+pub agrees_with_c : (source : List ℕ) (program : ProgramTree) (index : ℕ) (f : FunctionTree) (report : PlainReport) (circuit : Netlist) → IsCompiled source program index report circuit
+    → slice_get program.items index ≡ Some (tree.function f) → AgreesWithC program index f report circuit
+agrees_with_c source program index f report circuit made item = record {
+  name = codes "f";
+  faultless = made.faultless;
+  function = ap function_at item;
+  valid = made.valid;
+  agrees = (made.promise f (ap function_at item)).agrees;
+}
 
-pub both : {A E : Type 0} (r : Result A E) (P Q R : A → Type 0) → IfOk r P → IfOk r Q → ((x : A) → P x → Q x → R x) → IfOk r R
-both (Ok x) P Q R p q f = f x p q
-both (Err e) P Q R p q f = tt
+pub both_some : {A : Type 0} (o : Option A) (P Q R : A → Type 0) → IfSome o P → IfSome o Q → ((x : A) → P x → Q x → R x) → IfSome o R
+both_some (Some x) P Q R p q f = f x p q
+both_some None P Q R p q f = tt

@@ -90,6 +90,10 @@ pub data IsStoppedAtFiles (given : CosimInputs) (f : FunctionTree) (verdict : Pl
 
 -- ---- the runs
 
+-- how many points a run may pass at most, so that the cycles that a report gives for it have 127 bits
+abbrev pub greatest_points : ℕ
+greatest_points = 1000000000
+
 -- the run in C, from the contents that the initialisers of file scope give
 abbrev pub run_in_c : CosimInputs → ProgramTree → ℕ → Files → Answer
 run_in_c given program index files = c_run program index (first_contents program) files.scalars files.arrays given.points

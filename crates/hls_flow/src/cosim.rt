@@ -1,15 +1,16 @@
-ghost use Rattle.std.specs.Prelude.{◌≡◌, length, IfOk};
+ghost use Rattle.std.specs.Prelude.{◌≡◌, ◌<◌, ◌≤◌, ◌^◌, length, IfOk};
 ghost use Rattle.hls_base.specs.Refusals.{IfRefused};
 ghost use Rattle.hls_base.specs.declared.refusal.Refusal.{Refusal};
 ghost use Rattle.c_tree.specs.View.{program_of, function_of};
 ghost use Rattle.c_elaborate.specs.Programs.{program_elaborated};
 ghost use Rattle.c_expand.specs.Expansion.{expansion};
 ghost use Rattle.pieces.specs.Program.{expanded_of};
+ghost use Rattle.cycle_report.specs.FormulaValue.{cycles};
 ghost use Rattle.cosim_pins.specs.FunctionPins.{interface_of, plain};
 ghost use Rattle.cosim_levels.specs.Verdicts.{verdict_of, IfStopped};
 ghost use Rattle.cosim_levels.specs.Levels.{IsWaiting};
 ghost use Rattle.hls_flow.specs.FirstFault.{IsFirstFault};
-ghost use Rattle.hls_flow.specs.Verdicts.{AreFiles, IsVerdictOn, IsVerdict, inputs_of};
+ghost use Rattle.hls_flow.specs.Verdicts.{greatest_points, AreFiles, IsVerdictOn, IsVerdict, inputs_of};
 ghost use Rattle.hls_flow.specs.Comparing.{files_of, AreCompared, IsAgreement};
 
 use crate::files::{Read, read_files};
@@ -24,7 +25,7 @@ use compile_flow::compile::compile_expanded;
 use compile_steps::steps::expanded;
 use cosim_levels::compared::{agreeing, differing};
 use cosim_levels::difference::first_difference;
-use cosim_levels::levels::{c_level, cycles_of, module_level};
+use cosim_levels::levels::{c_level, module_level, short_cycles};
 use cosim_levels::verdict::{Difference, Stop, Verdict};
 use hls_base::inputs::Inputs;
 use hls_base::refusal::Fail;
@@ -58,6 +59,7 @@ fn compare_module(
     requires interface { plain read.interface ≡ interface_of (function_of function.now) }
     requires files { AreFiles given.now (function_of function.now) (files_of read) }
     requires scalars { length read.inputs.scalars ≡ length read.interface.scalars.items }
+    requires cycles { cycles (files_of read).report.base (files_of read).report.rows ended.now.tally < 2 ^ 127 }
     ensures settings { IfOk result (λ c. c.counted.settings ≡ (files_of read).report.settings) }
     ensures inputs { IfOk result (λ c. c.counted.inputs ≡ inputs_of (files_of read)) }
     ensures compared { IfOk result (λ c. AreCompared given.now (function_of function.now) (files_of read) ended.now c.counted.cycles c.difference) }
@@ -70,7 +72,7 @@ fn compare_module(
         inputs,
     } = read;
     let shown = module_level(alloc, design, &interface, &inputs, given.cycles)?;
-    let cycles = cycles_of(&report.formula, &ended.tally)?;
+    let cycles = short_cycles(&report.formula, &ended.tally);
     let difference = first_difference(alloc, function, ended, cycles, &shown)?;
     Ok(Compared {
         counted: Counted {
@@ -111,6 +113,7 @@ fn compare(
     function: &Function,
     expanded: &Expanded,
 ) -> Result<Verdict, Stop>
+    requires points { given.now.points ≤ greatest_points }
     requires expanded { expanded_of expanded.now ≡ expansion (program_elaborated (program_of checked.now.program) checked.now.top) }
     ensures ran { IfOk result (λ v. IsVerdictOn given.now (program_of checked.now.program) checked.now.top (function_of function.now) (verdict_of v)) }
     ensures stopped { IfStopped result (IsVerdictOn given.now (program_of checked.now.program) checked.now.top (function_of function.now)) }
@@ -129,6 +132,7 @@ fn compare(
 
 /// Compares the levels of a program: its run in C, its module driven through its pins, with the cycles that the formula of its report gives, and its clocked blocks. It is refused where the source is.
 pub fn cosim(alloc: Global, given: &CosimInputs) -> Result<Verdict, Fail>
+    requires { given.now.points ≤ greatest_points }
     ensures verdict { IfOk result (λ v. IsVerdict given.now (verdict_of v)) }
     ensures refused { IfRefused result (IsFirstFault given.now.source given.now.top) }
     ensures once { IfRefused result (λ r. (q : Refusal) → IsFirstFault given.now.source given.now.top q → q ≡ r) }

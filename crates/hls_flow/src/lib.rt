@@ -5,6 +5,7 @@ pub mod cosim;
 mod files;
 pub mod laws;
 mod machines;
+mod scheduled;
 pub mod soak;
 pub mod synth;
 mod top;

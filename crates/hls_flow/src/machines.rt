@@ -1,5 +1,5 @@
 //! The machines that run a compiled program: operation by operation, and cycle by cycle.
-ghost use Rattle.std.specs.Prelude.{IfOk};
+ghost use Rattle.std.specs.Prelude.{IfOk, IfSome};
 ghost use Rattle.hls_flow.specs.Clocked.{TakesEdges};
 
 use c_meaning::outcome::Final;
@@ -43,34 +43,30 @@ fn ended_so<S: Stamp, M: Machine<S>>(machine: &M, ended: &Final) -> bool {
     true
 }
 
-/// Runs the program operation by operation to its end, which is that of the run in C.
-fn run_sequential(
+/// Whether the program, run operation by operation, ends as the run in C did.
+fn ends_in_sequence(
     alloc: Global,
     cfg: &Cfg<Untimed>,
     inputs: &Inputs,
     ended: &Final,
-) -> Result<(), AllocError> {
+) -> Result<bool, AllocError> {
     let mut machine = SeqMachine::new(alloc, cfg, inputs)?;
-    if machine.run(u64::MAX) == Halt::Ended && ended_so(&machine, ended) {
-        Ok(())
-    } else {
-        Err(impossible())
-    }
+    Ok(machine.run(u64::MAX) == Halt::Ended && ended_so(&machine, ended))
 }
 
-/// Runs the program cycle by cycle to its end, which is that of the run in C, and counts the cycles.
-fn run_clocked(
+/// How many cycles the program takes to its end, where that is the end of the run in C.
+fn clocked_run(
     alloc: Global,
     cfg: &Cfg<Timed>,
     inputs: &Inputs,
     ended: &Final,
-) -> Result<u64, AllocError>
-    ensures { IfOk result (TakesEdges cfg.now inputs.now) }
+) -> Result<Option<u64>, AllocError>
+    ensures { IfOk result (λ o. IfSome o (TakesEdges cfg.now inputs.now)) }
 {
     let mut machine = ClockMachine::new(alloc, cfg, inputs)?;
     match machine.steps_to_end(u64::MAX) {
-        Some(steps) if ended_so(&machine, ended) => Ok(steps),
-        _ => Err(impossible()),
+        Some(steps) if ended_so(&machine, ended) => Ok(Some(steps)),
+        _ => Ok(None),
     }
 }
 
@@ -84,6 +80,9 @@ pub fn clocked_steps(
 ) -> Result<u64, AllocError>
     ensures { IfOk result (TakesEdges timed.now inputs.now) }
 {
-    run_sequential(alloc, untimed, inputs, ended)?;
-    run_clocked(alloc, timed, inputs, ended)
+    let in_sequence = ends_in_sequence(alloc, untimed, inputs, ended)?;
+    match clocked_run(alloc, timed, inputs, ended)? {
+        Some(steps) if in_sequence => Ok(steps),
+        _ => Err(impossible()),
+    }
 }

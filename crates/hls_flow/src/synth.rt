@@ -1,18 +1,22 @@
 ghost use Rattle.std.specs.Prelude.{◌≡◌, IfOk};
 ghost use Rattle.hls_base.specs.Refusals.{IfRefused};
 ghost use Rattle.hls_base.specs.declared.refusal.Refusal.{Refusal};
-ghost use Rattle.pieces.specs.Program.{expanded_of};
+ghost use Rattle.rtl_core.specs.Netlist.{netlist_of};
+ghost use Rattle.rtl_core.specs.Valid.{IsValid};
+ghost use Rattle.rtl_core.specs.ModuleText.{IsModuleText};
+ghost use Rattle.verilog_print.specs.PrintableNames.{HasPrintableNames};
+ghost use Rattle.cycle_report.specs.PlainReport.{plain_of};
+ghost use Rattle.cycle_report.specs.ReportForm.{IsName, IsSettings, IsReport};
 ghost use Rattle.hls_flow.specs.FirstFault.{IsFirstFault};
 ghost use Rattle.hls_flow.specs.Synthesis.{AreInRange, IsSynthesis};
-ghost use Rattle.hls_flow.specs.Made.{HasScheduledTexts};
 
+use crate::scheduled::scheduled;
 use checked_source::read::read_checked;
-use compile_flow::compile::compile_expanded;
+use compile_flow::compile::Compiled;
 use compile_steps::steps::expanded;
 use hls_base::refusal::Fail;
 use hls_base::settings::Settings;
 use hls_base::text::Text;
-use pieces::expanded::Expanded;
 use std::alloc::{AllocError, Global};
 use synth_texts::circuit_text::circuit_text;
 use synth_texts::report_text::report_text;
@@ -33,19 +37,19 @@ pub fn synth(alloc: Global, source: &[u8], settings: &Settings) -> Result<Made, 
 {
     let checked = read_checked(alloc, source, &settings.top)?;
     let expanded = expanded(alloc, &checked)?;
-    let made = made_of_expanded(alloc, &expanded, settings)?;
+    let compiled = scheduled(alloc, &expanded, settings)?;
+    let made = texts_of(alloc, &compiled)?;
     Ok(made)
 }
 
-/// The texts of what an expanded program is compiled to.
-fn made_of_expanded(
-    alloc: Global,
-    expanded: &Expanded,
-    settings: &Settings,
-) -> Result<Made, AllocError>
-    ensures { IfOk result (λ m. HasScheduledTexts settings.now (expanded_of expanded.now) m.module m.report) }
+/// The texts of what a program is compiled to.
+fn texts_of(alloc: Global, compiled: &Compiled) -> Result<Made, AllocError>
+    requires valid { IsValid (netlist_of compiled.now.design) }
+    requires names { HasPrintableNames (netlist_of compiled.now.design) }
+    requires settings { IsName compiled.now.report.settings.top → IsSettings compiled.now.report.settings }
+    ensures circuit { IfOk result (λ m. IsModuleText m.module (netlist_of compiled.now.design)) }
+    ensures report { IfOk result (λ m. IsReport m.report (plain_of compiled.now.report)) }
 {
-    let compiled = compile_expanded(alloc, expanded, settings)?;
     let module = circuit_text(alloc, &compiled.design)?;
     let report = report_text(alloc, &compiled.report)?;
     Ok(Made { module, report })

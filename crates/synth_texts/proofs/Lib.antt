@@ -1,2 +1,1 @@
-mod Free
 mod Forms

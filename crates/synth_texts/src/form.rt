@@ -6,11 +6,10 @@ ghost use Rattle.hls_base.specs.Tallies.{same_kind};
 ghost use Rattle.cycle_report.specs.declared.report.LoopRow.{LoopRow};
 ghost use Rattle.cycle_report.specs.declared.report.MemoryRow.{MemoryRow};
 ghost use Rattle.cycle_report.specs.PlainReport.{plain_of};
-ghost use Rattle.cycle_report.specs.ReportForm.{is_digit, is_letter, is_word_byte, is_name, IsSettings, HasForm};
+ghost use Rattle.cycle_report.specs.ReportForm.{is_digit, is_letter, is_word_byte, is_name, IsName, IsSettings, HasForm};
 
 use cycle_report::report::{LoopRow, MemoryRow, Report};
 use hls_base::point::PointKind;
-use hls_base::settings::Settings;
 
 fn is_digit(byte: u8) -> bool
     ensures { result ≡ is_digit byte }
@@ -50,19 +49,6 @@ fn is_name(name: &[u8]) -> bool
     }
 }
 
-fn fit_settings(settings: &Settings) -> bool
-    ensures { IsTrue result → IsSettings settings.now }
-{
-    is_name(settings.top.items())
-        && 1 <= settings.mul
-        && settings.mul <= 8
-        && 1 <= settings.div
-        && settings.div <= 4
-        && 1 <= settings.ports
-        && settings.ports <= 2
-        && settings.period <= 1000
-}
-
 fn is_body(kind: PointKind) -> bool
     ensures { result ≡ same_kind kind Body }
 {
@@ -91,10 +77,11 @@ fn have_names(memories: &[MemoryRow]) -> bool
     true
 }
 
-/// Whether the names, settings and loop points of a report are those of a text.
+/// Whether the names and loop points of a report are those of a text.
 pub fn has_form(report: &Report) -> bool
+    requires { IsName report.now.settings.top → IsSettings report.now.settings }
     ensures { IsTrue result → HasForm (plain_of report.now) }
 {
-    fit_settings(&report.settings)
+    is_name(report.settings.top.items())
         && (stand_at_bodies(&report.loops) && have_names(&report.memories))
 }

@@ -1,7 +1,6 @@
-//! The texts of circuits and of reports. That they can be printed is tested first.
+//! The texts of circuits and of reports.
 #![tactic(auto)]
 
 pub mod circuit_text;
 mod form;
-mod names;
 pub mod report_text;

@@ -10,6 +10,9 @@ run_synth-requires-clause-range g c = (rw (c.in-Ok-Some-Synth.field-0-is, c.in-O
 pub run_synth-requires-clause-files : goal.run_synth-requires-clause-files
 run_synth-requires-clause-files g c = (rw (c.in-Ok-Some-Synth.field-0-is, c.in-Ok-Some-Synth.field-0-0-is) at c.in-Ok-Some-Synth.ensures.range).1
 
+pub run_cosim-requires : goal.run_cosim-requires
+run_cosim-requires g c = rw (c.in-Ok-Some-Cosim.field-0-is, c.in-Ok-Some-Cosim.field-0-0-is) at c.in-Ok-Some-Cosim.ensures.range
+
 pub returns-in-Ok-Some-Synth : goal.returns-in-Ok-Some-Synth
 returns-in-Ok-Some-Synth g c =
     c.run_synth.ensures (map string_bytes c.args.words.now) (sym (rw (c.in-Ok-Some-Synth.field-0-is, c.in-Ok-Some-Synth.field-0-0-is) at c.in-Ok-Some-Synth.ensures.value))

@@ -1,5 +1,7 @@
 use Rattle.std.proofs.Common.{◌≡◌, sym, subst, Some, None}
 use Rattle.c_tree.specs.View.{program_of, function_of}
+use Rattle.c_meaning.specs.Run.{first_contents}
+use Rattle.cosim_levels.proofs.FewCycles.{passed_low, cycles_low}
 use Rattle.c_meaning.specs.declared.outcome.Final.{Final}
 use Rattle.cosim_pins.specs.FunctionPins.{interface_of}
 use Rattle.cosim_levels.specs.Verdicts.{verdict_of}
@@ -67,3 +69,12 @@ returns-clause-ran c =
     (subst (λ x. IsAgreement x counted.settings counted.inputs f final counted.cycles verdict) c.requires.expanded c.in_ok-agreement-in-None.ensures)) in
     compared files c.in_ok-ended.ended c.in_ok-read.ensures.files c.in_ok-ended.ensures.ended
     (agrees c.args.given.now program index f files c.in_ok-ended.ended c.in_ok-counted.field-0.counted.cycles c.in_ok-counted.field-0.difference c.in_ok-counted.ensures.compared verdict same agreement)
+
+pub compare_module-requires-clause-cycles : goal.compare_module-requires-clause-cycles
+compare_module-requires-clause-cycles c =
+    let given = c.args.given.now in
+    let program = program_of c.args.checked.now.program in
+    let files = files_of c.in_ok-read.read in
+    let report = c.in_ok-read.ensures.files.report in
+    cycles_low given.report files.report c.in_ok-ended.ended.tally given.points report.is report.small c.requires.points
+    (passed_low program c.args.checked.now.top (first_contents program) files.scalars files.arrays given.points c.in_ok-ended.ended c.in_ok-ended.ensures.ended)

@@ -22,7 +22,7 @@ returns c =
     let named = subst (λ (s : Settings). top_name program index ≡ Some s.top) c.in_ok-settings.ensures c.in_ok-checked.ensures.top in
     let made : HasScheduledCircuit soak_settings (expansion (program_elaborated program index)) report circuit =
     subst (λ e. HasScheduledCircuit soak_settings e report circuit) c.in_ok-expanded.ensures.made
-    (subst (λ s. HasScheduledCircuit s (expanded_of c.in_ok-expanded.expanded) report circuit) c.in_ok-settings.ensures c.in_ok-compiled.ensures) in
+    (subst (λ s. HasScheduledCircuit s (expanded_of c.in_ok-expanded.expanded) report circuit) c.in_ok-settings.ensures c.in_ok-compiled.ensures.made) in
     record {
       is = c.in_ok-checked.ensures.found;
       faultless = faultless;

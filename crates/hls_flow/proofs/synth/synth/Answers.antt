@@ -8,10 +8,12 @@ use Rattle.checked_source.proofs.Outcomes.{passed_on}
 use Rattle.c_elaborate.specs.Programs.{program_elaborated}
 use Rattle.pieces.specs.declared.expanded.Expanded.{Expanded}
 use Rattle.pieces.specs.Program.{expanded_of}
+use Rattle.rtl_core.specs.Netlist.{netlist_of}
+use Rattle.cycle_report.specs.PlainReport.{plain_of}
 use Rattle.c_expand.specs.Expansion.{IsOverweight}
 use Rattle.hls_flow.specs.FirstFault as f
 use Rattle.hls_flow.specs.FirstFault.{IsFirstFault}
-use Rattle.hls_flow.proofs.Made.{synthesis}
+use Rattle.hls_flow.proofs.Made.{names_printable, settings_fit, synthesis}
 use Rattle.hls_flow.proofs.Faults.{first_fault_once}
 use Rattle.hls_flow.proofs.TopPlace.{too_large}
 use Rattle.hls_flow.proofs.synth.synth.Goals as goal
@@ -52,5 +54,28 @@ returns-in_err-expanded-clause-once c =
 
 pub returns-clause-made : goal.returns-clause-made
 returns-clause-made c =
+    let compiled = c.in_ok-compiled.compiled in
+    let made = c.in_ok-compiled.ensures.made in
     synthesis c.args.source.now c.args.settings.now (program_of c.in_ok-checked.checked.program) c.in_ok-checked.checked.top (expanded_of c.in_ok-expanded.expanded) c.in_ok-made.made.module c.in_ok-made.made.report
-    c.in_ok-checked.ensures.found c.in_ok-checked.ensures.faultless c.in_ok-checked.ensures.top c.in_ok-expanded.ensures.within c.in_ok-expanded.ensures.made c.in_ok-made.ensures
+    c.in_ok-checked.ensures.found c.in_ok-checked.ensures.faultless c.in_ok-checked.ensures.top c.in_ok-expanded.ensures.within c.in_ok-expanded.ensures.made (record {
+      texts = record {
+        report = plain_of compiled.report;
+        report_is = c.in_ok-made.ensures.report;
+        design = netlist_of compiled.design;
+        module_is = c.in_ok-made.ensures.circuit;
+        resources = record { base = made.scheduled.reported.base; built = made.scheduled.reported.built; kept = c.in_ok-compiled.ensures.kept };
+      };
+      made = made;
+    })
+
+pub texts_of-requires-clause-valid : goal.texts_of-requires-clause-valid
+texts_of-requires-clause-valid c = c.in_ok-compiled.ensures.made.circuit.valid
+
+pub texts_of-requires-clause-names : goal.texts_of-requires-clause-names
+texts_of-requires-clause-names c =
+    let compiled = c.in_ok-compiled.compiled in
+    names_printable c.args.source.now c.args.settings.now (program_of c.in_ok-checked.checked.program) c.in_ok-checked.checked.top c.in_ok-checked.ensures.found c.in_ok-checked.ensures.faultless c.in_ok-checked.ensures.top
+    (expanded_of c.in_ok-expanded.expanded) c.in_ok-expanded.ensures.made (plain_of compiled.report) (netlist_of compiled.design) c.in_ok-compiled.ensures.made
+
+pub texts_of-requires-clause-settings : goal.texts_of-requires-clause-settings
+texts_of-requires-clause-settings c = settings_fit c.args.settings.now c.requires c.in_ok-compiled.compiled.report.settings c.in_ok-compiled.ensures.made.scheduled.reported.built.settings_are

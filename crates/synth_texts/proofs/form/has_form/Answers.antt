@@ -12,8 +12,9 @@ pub returns-then-stand_at_bodies : goal.returns-then-stand_at_bodies
 returns-then-stand_at_bodies c = λ t.
     let loops : list_all (λ (l : LoopRow). same_kind l.point.kind Body) c.args.report.now.loops.items ≡ true = search rules in
     let memories : list_all (λ (m : MemoryRow). is_name m.name) c.args.report.now.memories.items ≡ true = search rules in
+    let named : is_name c.args.report.now.settings.top ≡ true = search rules in
     record {
-      settings = c.fit_settings.ensures c.if-fit_settings.true;
+      settings = c.requires named;
       loops = all_bodies c.args.report.now.loops.items loops;
       memories = all_names c.args.report.now.memories.items memories;
     }

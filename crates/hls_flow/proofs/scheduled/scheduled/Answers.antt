@@ -1,7 +1,7 @@
-use Rattle.hls_flow.proofs.soak.scheduled.Goals as goal
+use Rattle.hls_flow.proofs.scheduled.scheduled.Goals as goal
 
-pub returns : goal.returns
-returns c = record {
+pub returns-clause-made : goal.returns-clause-made
+returns-clause-made c = record {
   scheduled = record {
     untimed = c.in_ok-compiled.compiled.untimed;
     timed = c.in_ok-compiled.compiled.timed;
