@@ -22,7 +22,7 @@ free [] e = λ h. h
 free (c ∷ []) e = λ h. let some : 0 < 0 = h.1.0 in omega arith
 free (c ∷ d ∷ ds) e = λ h. let digit : (48 ≤ d) × (d ≤ 57) = h.1.1 0 0 (omega arith) in grind (arith, nat_tests)
 
-are_free : List Pin → Bool
+abbrev are_free : List Pin → Bool
 are_free [] = true
 are_free (p ∷ pins) = is_free p.name && are_free pins
 

@@ -1,5 +1,5 @@
 -- The run of a made program, put together from what the steps give.
-use Rattle.std.proofs.Common.{◌≡◌, ℕ, true, [], ◌∷◌, List, Option, Some, None, IfSome, codes, sym, ap, subst, ◌∙◌}
+use Rattle.std.proofs.Common.{◌≡◌, ℕ, true, false, [], ◌∷◌, refl, List, Option, Some, None, IfSome, codes, sym, ap, subst, ◌∙◌}
 use Rattle.std.specs.Prelude.{is_some, slice_get}
 use Rattle.c_tree.specs.Tree as tree
 use Rattle.c_tree.specs.Tree.{FunctionTree, ProgramTree}
@@ -45,3 +45,11 @@ agrees_with_c source program index f report circuit made item = record {
 pub both_some : {A : Type 0} (o : Option A) (P Q R : A → Type 0) → IfSome o P → IfSome o Q → ((x : A) → P x → Q x → R x) → IfSome o R
 both_some (Some x) P Q R p q f = f x p q
 both_some None P Q R p q f = tt
+
+pub some_at : {A B : Type 0} (o : Option (A × B)) (a : A) (b : B) (R : A → B → Type 0) → IfSome o (λ x. (x.0 ≡ a) × (x.1 ≡ b)) → R a b → IfSome o (λ x. R x.0 x.1)
+some_at (Some x) a b R same r = subst (λ y. R x.0 y) (sym same.1) (subst (λ y. R y b) (sym same.0) r)
+some_at None a b R same r = tt
+
+pub none_left : {A : Type 0} (o : Option A) → is_some o ≡ false → o ≡ None
+none_left (Some x) e = absurd cc
+none_left None e = refl

@@ -63,6 +63,17 @@ fn compiled(alloc: Global, source: &[u8]) -> Result<(Checked, Compiled), Fail>
     Ok((checked, compiled))
 }
 
+/// The end of a run and its cycles, where the clocked machine takes as many.
+fn counted(ended: Final, cycles: u128, clock: u64) -> Option<(Final, u128)>
+    ensures { IfSome result (λ run. (run.0 ≡ ended) × (run.1 ≡ cycles)) }
+{
+    if u128::from(clock) == cycles {
+        Some((ended, cycles))
+    } else {
+        None
+    }
+}
+
 /// Runs all levels. Where they agree, what the run in C ends with and its cycles are those of each.
 fn run_levels(
     alloc: Global,
@@ -86,15 +97,12 @@ fn run_levels(
     let ended = c_level(alloc, checked, inputs, LIMIT)?;
     let shown = module_level(alloc, design, &interface, inputs, LIMIT)?;
     let cycles = short_cycles(&report.formula, &ended.tally);
-    if first_difference(alloc, function, &ended, cycles, &shown)?.is_some() {
+    let difference = first_difference(alloc, function, &ended, cycles, &shown)?;
+    if difference.is_some() {
         return Ok(None);
     }
     let clock = clocked_steps(alloc, &untimed, &timed, inputs, &ended)?;
-    if u128::from(clock) == cycles {
-        Ok(Some((ended, cycles)))
-    } else {
-        Ok(None)
-    }
+    Ok(counted(ended, cycles, clock))
 }
 
 /// What is told of a run with this result, which has 32 bits.
@@ -117,21 +125,18 @@ fn summary_of(alloc: Global, number: u64) -> Result<Option<Summary>, AllocError>
     ensures { IfOk result (λ o. IfSome o (IsSoakRun number)) }
 {
     let program = soak_program(alloc, number)?;
-    let (checked, compiled) = match compiled(alloc, program.text.items()) {
-        Ok(made) => made,
-        Err(Fail::Refused(_)) => return Ok(None),
-        Err(Fail::Memory) => return Err(AllocError),
+    let Ok((checked, compiled)) = compiled(alloc, program.text.items()) else {
+        return Ok(None);
     };
     let function = top_of(&checked);
     if !inputs_fit(alloc, &function.params, &program.inputs)? {
         return Ok(None);
     }
-    match run_levels(alloc, &checked, function, compiled, &program.inputs) {
-        Ok(Some((ended, cycles))) => Ok(told(program.muls, cycles, ended.ret)),
-        Ok(None) => Ok(None),
-        Err(Stop::Answer(_)) => Ok(None),
-        Err(Stop::Memory) => Err(AllocError),
-    }
+    let Ok(Some((ended, cycles))) = run_levels(alloc, &checked, function, compiled, &program.inputs)
+    else {
+        return Ok(None);
+    };
+    Ok(told(program.muls, cycles, ended.ret))
 }
 
 /// Makes a program from a number, compiles it, and compares its levels. Such a program is never refused, and its levels agree.

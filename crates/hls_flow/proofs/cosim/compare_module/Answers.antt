@@ -26,4 +26,4 @@ first_difference-requires-clause-elements c =
     shown_short d f c.args.read.inputs.scalars c.args.read.inputs.arrays c.args.given.now.cycles c.in_ok-shown.shown run
 
 pub first_difference-requires-clause-cycles : goal.first_difference-requires-clause-cycles
-first_difference-requires-clause-cycles c = ?
+first_difference-requires-clause-cycles c = let few = c.requires.cycles in let same = c.short_cycles-cycles.ensures in omega (arith, few, same)

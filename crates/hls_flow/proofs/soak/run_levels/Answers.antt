@@ -1,28 +1,71 @@
-use Rattle.std.proofs.Common.{◌≡◌, Some, sym, ◌∙◌, subst}
-use Rattle.std.proofs.lemmas.Result.{IfOk-from_err}
+use Rattle.std.proofs.Common.{rules, ◌≡◌, ◌≤◌, false, Some, None, length, sym, ap, ◌∙◌, subst, arith}
+use Rattle.std.specs.Prelude.{is_some}
+use Rattle.c_tree.specs.View.{program_of, function_of}
+use Rattle.c_meaning.specs.Run.{first_contents}
 use Rattle.rtl_core.specs.Netlist.{netlist_of}
-use Rattle.rtl_core.specs.Interface.{HasPins}
+use Rattle.rtl_core.specs.Interface.{Interface, HasPins}
+use Rattle.cycle_report.specs.PlainReport.{plain_of}
+use Rattle.cycle_report.specs.FormulaValue.{cycles}
 use Rattle.cosim_pins.specs.ModuleRun.{module_run}
-use Rattle.hls_flow.specs.SoakRun.{most}
-use Rattle.hls_flow.proofs.SoakMade.{none_left}
+use Rattle.driven_circuits.proofs.ShortArrays.{shown_short}
+use Rattle.hls_flow.specs.SoakRun.{most, IsAgreedRun}
+use Rattle.hls_flow.proofs.ScalarCount.{scalar_count}
+use Rattle.hls_flow.proofs.ShortCycles.{agreed_cycles}
+use Rattle.hls_flow.proofs.SoakMade.{some_at, none_left}
 use Rattle.hls_flow.proofs.soak.run_levels.Goals as goal
 
+pub module_level-requires-clause-valid : goal.module_level-requires-clause-valid
+module_level-requires-clause-valid c = c.requires.agrees.valid
+
+pub module_level-requires-clause-pins : goal.module_level-requires-clause-pins
+module_level-requires-clause-pins c = subst (HasPins (netlist_of c.args.compiled.design)) (sym c.in_ok-interface.ensures) c.requires.agrees.agrees.pins
+
+pub module_level-requires-clause-scalars : goal.module_level-requires-clause-scalars
+module_level-requires-clause-scalars c =
+    scalar_count (function_of c.args.function.now).params c.args.inputs.now.scalars c.args.inputs.now.arrays c.requires.fit
+    ∙ sym (ap (λ (i : Interface). length i.scalars) c.in_ok-interface.ensures)
+
+pub short_cycles-cycles-requires : goal.short_cycles-cycles-requires
+short_cycles-cycles-requires c =
+    let f = function_of c.args.function.now in
+    let d = netlist_of c.args.compiled.design in
+    let shown = c.in_ok-shown.shown in
+    let run = subst (λ i. module_run d i c.args.inputs.now.scalars c.args.inputs.now.arrays most ≡ Some shown) c.in_ok-interface.ensures c.in_ok-shown.ensures.shown in
+    let few = agreed_cycles (program_of c.args.checked.now.program) c.args.checked.now.top f (plain_of c.args.compiled.report) d c.requires.agrees c.requires.long
+    c.args.inputs.now.scalars c.args.inputs.now.arrays c.requires.fit most most c.in_ok-ended.ended c.in_ok-ended.ensures.ended shown run in
+    omega (arith, few)
+
+pub first_difference-requires-clause-elements : goal.first_difference-requires-clause-elements
+first_difference-requires-clause-elements c =
+    let f = function_of c.args.function.now in
+    let d = netlist_of c.args.compiled.design in
+    let shown = c.in_ok-shown.shown in
+    let run = subst (λ i. module_run d i c.args.inputs.now.scalars c.args.inputs.now.arrays most ≡ Some shown) c.in_ok-interface.ensures c.in_ok-shown.ensures.shown in
+    shown_short d f c.args.inputs.now.scalars c.args.inputs.now.arrays most shown run
+
+pub first_difference-requires-clause-cycles : goal.first_difference-requires-clause-cycles
+first_difference-requires-clause-cycles c =
+    let f = function_of c.args.function.now in
+    let d = netlist_of c.args.compiled.design in
+    let shown = c.in_ok-shown.shown in
+    let run = subst (λ i. module_run d i c.args.inputs.now.scalars c.args.inputs.now.arrays most ≡ Some shown) c.in_ok-interface.ensures c.in_ok-shown.ensures.shown in
+    let few = agreed_cycles (program_of c.args.checked.now.program) c.args.checked.now.top f (plain_of c.args.compiled.report) d c.requires.agrees c.requires.long
+    c.args.inputs.now.scalars c.args.inputs.now.arrays c.requires.fit most most c.in_ok-ended.ended c.in_ok-ended.ensures.ended shown run in
+    let same = c.short_cycles-cycles.ensures in
+    omega (arith, few, same)
+
 pub returns : goal.returns
-returns c = record {
-  ends = c.in_ok-ended.ensures.ended;
-  counted = c.in_ok-cycles.ensures;
-  shown = c.in_ok-shown.shown;
-  run =
-      subst (λ i. module_run (netlist_of c.args.compiled.design) i c.args.inputs.now.scalars c.args.inputs.now.arrays most ≡ Some c.in_ok-shown.shown)
-      c.in_ok-interface.ensures c.in_ok-shown.ensures;
-  same = sym c.in_ok-difference.ensures ∙ none_left c.in_ok-difference.field-0 c.in_default.not-Some;
-}
-
-pub returns-in_err-cycles : goal.returns-in_err-cycles
-returns-in_err-cycles c = IfOk-from_err _ _ c.from_residual-in_err-cycles.ensures.0
-
-pub returns-in_err-difference : goal.returns-in_err-difference
-returns-in_err-difference c = IfOk-from_err _ _ c.from_residual-in_err-difference.ensures.0
-
-pub shown_by-requires-clause-pins : goal.shown_by-requires-clause-pins
-shown_by-requires-clause-pins c = subst (HasPins (netlist_of c.args.compiled.design)) (sym c.in_ok-interface.ensures) c.requires.pins
+returns c =
+    let program = program_of c.args.checked.now.program in
+    let index = c.args.checked.now.top in
+    let f = function_of c.args.function.now in
+    let d = netlist_of c.args.compiled.design in
+    let shown = c.in_ok-shown.shown in
+    let none : is_some c.in_ok-difference.difference ≡ false = search rules in
+    some_at c.counted.result c.in_ok-ended.ended c.short_cycles-cycles.result (λ final count. IsAgreedRun program index f c.args.inputs.now.scalars c.args.inputs.now.arrays (plain_of c.args.compiled.report) d final count) c.counted.ensures (record {
+      ends = c.in_ok-ended.ensures.ended;
+      counted = c.short_cycles-cycles.ensures;
+      shown = shown;
+      run = subst (λ i. module_run d i c.args.inputs.now.scalars c.args.inputs.now.arrays most ≡ Some shown) c.in_ok-interface.ensures c.in_ok-shown.ensures.shown;
+      same = sym c.in_ok-difference.ensures ∙ none_left c.in_ok-difference.difference none;
+    })
