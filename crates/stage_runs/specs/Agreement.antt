@@ -1,5 +1,5 @@
 -- What the runs of the stages of a source are, and when they agree with its run in C.
-use Rattle.std.specs.Prelude.{◌≡◌, ℕ, Bool, List, [], ◌∷◌, length, map, slice_get, Some, Result, Err}
+use Rattle.std.specs.Prelude.{◌≡◌, ℕ, Bool, List, [], ◌∷◌, length, map, slice_get, Some, true, Result, Err}
 use Rattle.std.specs.List.{All}
 use Rattle.hls_base.specs.Tallies.{count_in}
 use Rattle.hls_base.specs.declared.inputs.Inputs.{Inputs}
@@ -17,6 +17,7 @@ use Rattle.pieces.specs.Program.{ExpandedTree}
 use Rattle.ir_core.specs.declared.cfg.Cfg.{Cfg}
 use Rattle.ir_core.specs.declared.stamp.Untimed.{Untimed}
 use Rattle.machine_laws.specs.declared.machine.Halt.TheVariants as halt
+use Rattle.program_validity.specs.Programs.{is_valid}
 use Rattle.cycle_report.specs.FormulaValue.{cycles}
 use Rattle.run_file.specs.RunFile.{reading_of, inputs}
 use Rattle.cosim_levels.specs.Levels.{EndsWith}
@@ -36,6 +37,7 @@ use Rattle.stage_runs.specs.Stages.{IsStageOf, IsToldOf, step_costs}
 pub record IsStageRun (e : ExpandedTree) (plain : Bool) (given : Inputs) (ended : Final) (stage : Stage) : Type 0 where
   pub cfg : Cfg Untimed
   pub is : IsStageOf e plain stage.name cfg
+  pub valid : stage.valid ≡ is_valid cfg
   pub told : IsToldOf cfg given stage
   pub counts : map length stage.arrays ≡ map length given.arrays
   pub tallied : stage.tallied ≡ cycles 0 (step_costs cfg.nodes.items) ended.tally
@@ -79,8 +81,9 @@ pub data IsRefusedAs (source top : List ℕ) (refusal : Refusal) : Type 0 where
 
 -- ---- agreement
 
--- The stage ended with the result and the arrays of the run in C, in as many steps as the points of that run give, and passed the point of each node as often as that run.
+-- The program of the stage is valid; it ended with the result and the arrays of the run in C, in as many steps as the points of that run give, and passed the point of each node as often as that run.
 pub record Agrees (ended : Final) (stage : Stage) : Type 0 where
+  pub valid : stage.valid ≡ true
   pub halts : stage.halt ≡ halt.Ended
   pub result : stage.ret ≡ ended.ret
   pub arrays : stage.arrays ≡ ended.arrays

@@ -47,11 +47,12 @@ fn are_counted_alike(points: &[PointCount]) -> bool
     true
 }
 
-/// Whether a stage ended as the run in C did.
+/// Whether the program of a stage is valid and ended as the run in C did.
 fn agrees(ended: &Final, stage: &Stage) -> bool
     ensures { result ≡ true → Agrees ended.now stage.now }
 {
-    stage.halt == Halt::Ended
+    stage.valid
+        && stage.halt == Halt::Ended
         && stage.ret == ended.ret
         && u128::from(stage.steps) == stage.tallied
         && are_counted_alike(stage.points.as_slice())

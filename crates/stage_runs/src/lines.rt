@@ -55,6 +55,9 @@ fn push_stage(alloc: Global, lines: &mut Vec<u8>, stage: &Stage) -> Result<(), A
     let line = format!(in alloc; "{name} steps {steps} ret {ret}")?;
     lines.extend_from_slice(line.as_bytes())?;
     push_arrays(alloc, lines, stage.arrays.items())?;
+    if !stage.valid {
+        lines.extend_from_slice(b" not valid")?;
+    }
     lines.push(b'\n')?;
     push_points(alloc, lines, stage.points.as_slice())
 }

@@ -3,6 +3,7 @@ ghost use Rattle.std.specs.Prelude.{◌≡◌, ◌+◌, ◌≤◌, ◌<◌, leng
 ghost use Rattle.hls_base.specs.Tallies.{count_in};
 ghost use Rattle.block_meaning.specs.FirstContents.{first_words};
 ghost use Rattle.cycle_report.specs.FormulaValue.{cycles};
+ghost use Rattle.program_validity.specs.Programs.{is_valid};
 ghost use Rattle.seq_machine.specs.Rest.{IsWhole, rest};
 ghost use Rattle.seq_machine.specs.States.{words_of};
 ghost use Rattle.stage_runs.specs.Points.{HasPassed, node_points};
@@ -21,6 +22,7 @@ use hls_base::words::{Arrays, Words};
 use ir_core::cfg::Cfg;
 use ir_core::stamp::Untimed;
 use machine_laws::machine::{Halt, Machine};
+use program_validity::program::valid;
 use seq_machine::machine::SeqMachine;
 use std::alloc::{AllocError, Global};
 
@@ -116,6 +118,7 @@ pub fn run_stage(
     ensures told { IfOk result (λ s. IsWhole cfg.now → IsToldOf cfg.now inputs.now s) }
     ensures counts { IfOk result (λ s. map length s.arrays ≡ map length inputs.now.arrays) }
     ensures name { IfOk result (λ s. s.name ≡ name) }
+    ensures valid { IfOk result (λ s. s.valid ≡ is_valid cfg.now) }
     ensures tallied { IfOk result (λ s. s.tallied ≡ cycles 0 (step_costs cfg.now.nodes.items) ended.now.tally) }
     ensures points { IfOk result (λ s. map (λ p. p.point) s.points.items ≡ node_points cfg.now.nodes.items) }
     ensures in_c { IfOk result (λ s.
@@ -132,6 +135,7 @@ pub fn run_stage(
     let tally = meter.tally(alloc)?;
     Ok(Stage {
         name,
+        valid: valid(cfg),
         halt,
         ret: machine.ret(),
         arrays: all_elements(alloc, &machine, inputs.arrays.items())?,

@@ -33,10 +33,11 @@ pub struct PointCount {
     pub in_c: u128,
 }
 
-/// What the run of a stage came to: its end, its result, the elements of the arrays of the host, its steps, and how often it passed the point of each node. The steps that the points of the run in C give are `tallied`.
+/// Whether the program of a stage is valid, and what its run came to: its end, its result, the elements of the arrays of the host, its steps, and how often it passed the point of each node. The steps that the points of the run in C give are `tallied`.
 #[derive(Debug, Drop)]
 pub struct Stage {
     pub name: StageName,
+    pub valid: bool,
     pub halt: Halt,
     pub ret: Option<u64>,
     pub arrays: Arrays,

@@ -12,6 +12,7 @@ returns-clause-run c = λ whole.
       cfg = cfg;
       is = subst (λ (name : StageName). IsStageOf (expanded_of c.args.expanded.now) plain name cfg) (sym c.in_ok-stage.ensures.name) c.in_ok-cfg.ensures;
       told = c.in_ok-stage.ensures.told (whole plain c.args.name cfg c.in_ok-cfg.ensures);
+      valid = c.in_ok-stage.ensures.valid;
       counts = c.in_ok-stage.ensures.counts;
       tallied = c.in_ok-stage.ensures.tallied;
       points = c.in_ok-stage.ensures.points;
