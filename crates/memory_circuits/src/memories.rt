@@ -152,7 +152,7 @@ pub fn add_memories(
     let count = of.cfg.frame.memories.len();
     let mut ports = Vec::with_capacity(of.alloc, count)?;
     for place in 0..count {
-        let array = number_of(place)?;
+        let array = number_of(place);
         ports.push(add_array(of, logic, groups, array)?)?;
     }
     Ok(PortTable { ports })
