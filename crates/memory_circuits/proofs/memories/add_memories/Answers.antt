@@ -19,6 +19,9 @@ loop-place-init c = record {
 pub number_of-array-requires : goal.number_of-array-requires
 number_of-array-requires c = omega (arith, c.loop-place-test.true, c.len-count.ensures, c.args.of.now.few.arrays)
 
+pub add_array-requires : goal.add_array-requires
+add_array-requires c = omega (arith, c.number_of-array.ensures, c.loop-place-test.true, c.len-count.ensures)
+
 pub loop-place-preserved : goal.loop-place-preserved
 loop-place-preserved c = record {
   added = λ p names ready empty.
