@@ -1,5 +1,5 @@
 -- The ports of operations in order.
-use Rattle.std.proofs.Common.{◌≡◌, ◌<◌, ℕ, zero, suc, ◌+◌, Bool, true, List, [], ◌∷◌, ◌++◌, length, take, get_or, slice_get, Some, sym, ap, ap₂, ◌∙◌, append_assoc}
+use Rattle.std.proofs.Common.{◌≡◌, ◌<◌, ℕ, zero, suc, ◌+◌, Bool, true, List, [], ◌∷◌, ◌++◌, length, take, get_or, slice_get, Some, refl, sym, ap, ap₂, ◌∙◌, append_assoc}
 use Rattle.std.specs.Prelude.{◌==◌}
 use Rattle.std.proofs.lemmas.Bool.Decides.{Decides-eqb}
 use Rattle.std.proofs.lemmas.List.{append-nil, take_more}
@@ -24,6 +24,10 @@ ports_get tables span before [] k op at = absurd (none-some op at)
 ports_get tables span before (x ∷ ops) zero op at = ap₂ (λ l y. Some (port_if tables span l y)) (sym (append-nil before)) (same_Some x op at)
 ports_get tables span before (x ∷ ops) (suc k) op at =
     ports_get tables span (before ++ x ∷ []) ops k op at ∙ ap (λ l. Some (port_if tables span l op)) (append_assoc before (x ∷ []) (take k ops))
+
+pub ports_length : (tables : ℕ → Bool) (span : ℕ) (before ops : List (Op Timed)) → length (ports_from tables span before ops) ≡ length ops
+ports_length tables span before [] = refl
+ports_length tables span before (op ∷ ops) = ap suc (ports_length tables span (before ++ op ∷ []) ops)
 
 -- ---- one operation more
 

@@ -1,5 +1,5 @@
 -- The ports of a plan's accesses.
-use Rattle.std.proofs.Common.{◌≡◌, ◌⊎◌, inl, inr, ℕ, zero, suc, ◌+◌, ◌%◌, Bool, true, false, ◌&&◌, ◌||◌, List, [], ◌∷◌, length, map, take, get_or, slice_get, cond, filter, Option, Some, None, is_some, refl, sym, ap, ap₂, ◌∙◌, subst, arith}
+use Rattle.std.proofs.Common.{◌≡◌, ◌<◌, ◌⊎◌, inl, inr, ℕ, zero, suc, ◌+◌, ◌%◌, Bool, true, false, ◌&&◌, ◌||◌, List, [], ◌∷◌, length, map, take, get_or, slice_get, cond, filter, Option, Some, None, is_some, refl, sym, ap, ap₂, ◌∙◌, subst, arith}
 use Rattle.std.specs.Prelude.{count_by, max, fold, if◌then◌else◌}
 use Rattle.std.specs.List.{enumerate_from, flat_map, range_with_len}
 use Rattle.std.specs.Option.{option_map}
@@ -27,8 +27,8 @@ use Rattle.plan_sizes.proofs.Programs.{node_body}
 use Rattle.register_bank.specs.Banks.{IsPlanOf}
 use Rattle.access_ports.specs.declared.ports.PortNumbers.{PortNumbers}
 use Rattle.access_ports.specs.Counting.{loads_at, tables_in, array_if, accessed_by, port_for, port_if, reached, reached_in, reached_by, ops_in, span_of, row_in, AreNumbered}
-use Rattle.access_ports.specs.Numbers.{ArePorts}
-use Rattle.access_ports.proofs.Loading.{ports_get, number_same}
+use Rattle.access_ports.specs.Numbers.{ArePorts, HasPlaces}
+use Rattle.access_ports.proofs.Loading.{ports_get, ports_length, number_same}
 
 -- ---- lists
 
@@ -36,6 +36,16 @@ pub map_get : {X Y : Type 0} (f : X → Y) (xs : List X) (k : ℕ) (y : Y) → s
 map_get f [] k y at = absurd (none-some y at)
 map_get f (x ∷ xs) zero y at = (x, refl, sym (same_Some (f x) y at))
 map_get f (x ∷ xs) (suc k) y at = map_get f xs k y at
+
+pub at_within : {X : Type 0} (f : X → ℕ) (xs : List X) (i k : ℕ) → k < get_or (map f xs) i 0 → i < length xs
+at_within f [] i k h = absurd (omega (arith, h))
+at_within f (x ∷ xs) zero k h = omega arith
+at_within f (x ∷ xs) (suc i) k h = omega (arith, at_within f xs i k h)
+
+pub at_own : {X : Type 0} (f : X → ℕ) (xs : List X) (i k : ℕ) (x : X) → k < get_or (map f xs) i 0 → slice_get xs i ≡ Some x → k < f x
+at_own f [] i k x h at = absurd (omega (arith, h))
+at_own f (y ∷ xs) zero k x h at = subst (λ z. k < f z) (same_Some y x at) h
+at_own f (y ∷ xs) (suc i) k x h at = at_own f xs i k x h at
 
 -- ---- a plan and its program
 
@@ -197,4 +207,20 @@ ports_are p memories nodes ports h g = record {
       ap (λ l. slice_get l k) of_node.2 ∙ ports_get (tables_in memories) (span_of n) [] (ops_in n) k op of_op.1 in
       same_Some port _ (sym number ∙ listed)
       ∙ (sym (port_is p memories nodes i k n op array h of_node.1 of_op.1 by_) ∙ ap (λ (t : TimedOp). port_of p array.0 (record { node = i; number = k; op = t })) (sym of_op.2));
+}
+
+-- ---- places
+
+lengths_of : {X : Type 0} (f : X → List ℕ) (xs : List X) → map (λ x. length (f x)) xs ≡ map length (map f xs)
+lengths_of f [] = refl
+lengths_of f (x ∷ xs) = ap (λ l. length (f x) ∷ l) (lengths_of f xs)
+
+rows_long : (tables : ℕ → Bool) (nodes : List (Node Timed)) → map length (map (row_in tables) nodes) ≡ map (λ n. length (ops_in n)) nodes
+rows_long tables [] = refl
+rows_long tables (n ∷ nodes) = ap₂ (λ k l. k ∷ l) (ports_length tables (span_of n) [] (ops_in n)) (rows_long tables nodes)
+
+pub places_are : (memories : List Memory) (nodes : List (Node Timed)) (ports : PortNumbers) → AreNumbered memories nodes ports → HasPlaces nodes memories ports
+places_are memories nodes ports g = record {
+  rows = λ i. ap (λ l. get_or l i 0) (lengths_of (λ r. r.items) ports.numbers.items ∙ (ap (map length) g.numbers ∙ rows_long (tables_in memories) nodes));
+  counts = g.count;
 }

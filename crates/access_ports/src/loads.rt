@@ -7,7 +7,6 @@ ghost use Rattle.access_ports.specs.Counting.{accessed_by, count_at, moment_eq, 
 
 use clock_ir::timed::Timed;
 use hls_base::number::ArrayId;
-use hls_base::refusal::impossible;
 use indexmap::IndexMap;
 use ir_core::body::{Op, OpKind};
 use ir_core::cfg::Memory;
@@ -76,23 +75,22 @@ fn note_if(loads: &mut Loads, moment: Moment, kind: OpKind) -> Result<(), AllocE
     Ok(())
 }
 
-/// The port of an access: tables have one for each load at this moment.
-fn port_at(
-    memories: &[Memory],
-    loads: &Loads,
-    moment: Moment,
-    bound: u32,
-) -> Result<u32, AllocError>
-    ensures { IfOk result (λ n. n ≡ (if tables_in memories.now moment.array.0 then count_at loads.now moment else bound)) }
+/// Whether an array is a table.
+fn is_table(memories: &[Memory], array: ArrayId) -> bool
+    ensures { result ≡ tables_in memories.now array.0 }
 {
-    let number = moment.array.0 as usize;
-    if number >= memories.len() {
-        return Err(impossible());
-    }
-    if memories[number].table.is_some() {
-        Ok(counted(loads, moment))
+    let number = array.0 as usize;
+    number < memories.len() && memories[number].table.is_some()
+}
+
+/// The port of an access: tables have one for each load at this moment.
+fn port_at(memories: &[Memory], loads: &Loads, moment: Moment, bound: u32) -> u32
+    ensures { result ≡ (if tables_in memories.now moment.array.0 then count_at loads.now moment else bound) }
+{
+    if is_table(memories, moment.array) {
+        counted(loads, moment)
     } else {
-        Ok(bound)
+        bound
     }
 }
 
@@ -113,7 +111,7 @@ pub fn port_of(
     };
     let time = op.stamp.start % span;
     let moment = Moment { array, time };
-    let port = port_at(memories, loads, moment, op.stamp.bound)?;
+    let port = port_at(memories, loads, moment, op.stamp.bound);
     note_if(loads, moment, op.kind)?;
     Ok(port)
 }

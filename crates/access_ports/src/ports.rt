@@ -7,7 +7,7 @@ ghost use Rattle.reg_binding.specs.declared.registers.Registers.{Registers};
 ghost use Rattle.datapath.specs.Plans.{Plan, body_at};
 ghost use Rattle.datapath.specs.Ports.{port_of as plan_port};
 ghost use Rattle.register_bank.specs.Banks.{IsPlanOf};
-ghost use Rattle.access_ports.specs.Numbers.{ArePorts, IsAccess};
+ghost use Rattle.access_ports.specs.Numbers.{ArePorts, HasPlaces, IsAccess, places_of};
 ghost use Rattle.access_ports.specs.Counting.{ops_in, ports_from, reached, reached_in, reached_by, row_in, span_of, tables_in, AreNumbered, Reaches};
 
 use crate::loads::{accessed, port_of};
@@ -73,12 +73,10 @@ fn reach(counts: &mut Vec<u32>, op: &Op<Timed>, port: u32) -> Result<(), AllocEr
 }
 
 fn reach_all(counts: &mut Vec<u32>, ops: &[Op<Timed>], row: &[u32]) -> Result<(), AllocError>
+    requires { length row.now ≡ length ops.now }
     ensures { OnOk result (Reaches counts.old.items counts.new.items (λ a n. reached_in a n ops.now row.now)) }
 {
     for (number, op) in ops.iter().enumerate() {
-        if number >= row.len() {
-            return Err(impossible());
-        }
         reach(counts, op, row[number])?;
     }
     Ok(())
@@ -105,25 +103,20 @@ fn ports_in(
 /// The ports of a program's accesses.
 pub fn ports_of(alloc: Global, cfg: &Cfg<Timed>) -> Result<PortNumbers, AllocError>
     requires { All (λ n. length (ops_in n) < 2 ^ 32) cfg.now.nodes.items }
-    ensures { (p : Plan) (registers : Registers) → IsPlanOf p cfg.now registers → IfOk result (λ ports. ArePorts p ports) }
+    ensures ports { (p : Plan) (registers : Registers) → IsPlanOf p cfg.now registers → IfOk result (λ ports. ArePorts p ports) }
+    ensures places { IfOk result (HasPlaces cfg.now.nodes.items cfg.now.frame.memories.items) }
 {
     ports_in(alloc, &cfg.frame.memories, &cfg.nodes)
 }
 
 impl PortNumbers {
     /// The port of an operation.
-    pub fn port(&self, node: NodeId, number: usize) -> Result<u32, AllocError>
+    pub fn port(&self, node: NodeId, number: usize) -> u32
+        requires { number < places_of self.now node.0 }
         ensures { (p : Plan) (it : TimedOp) (array : ArrayId) → ArePorts p self.now → slice_get (body_at p node.0).ops number ≡ Some it → IsAccess it.op.kind → it.op.array ≡ Some array
-            → IfOk result (λ n. n ≡ plan_port p array.0 (record { node = node.0; number = number; op = it })) }
+            → result ≡ plan_port p array.0 (record { node = node.0; number = number; op = it }) }
     {
-        let place = node.0 as usize;
-        if place >= self.numbers.len() {
-            return Err(impossible());
-        }
-        let row = &self.numbers[place];
-        if number >= row.len() {
-            return Err(impossible());
-        }
-        Ok(row[number])
+        let ports = &self.numbers[node.0 as usize];
+        ports[number]
     }
 }

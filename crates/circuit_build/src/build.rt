@@ -9,6 +9,7 @@ ghost use Rattle.datapath.specs.Plans.{Plan};
 ghost use Rattle.datapath.specs.Cycles.{Register};
 ghost use Rattle.circuit_wires.specs.Carrying.{IsBegun};
 ghost use Rattle.small_numbers.specs.Small.{HasFewParts};
+ghost use Rattle.register_bank.specs.Banks.{HasShortStart};
 ghost use Rattle.circuit_context.specs.Contexts.{IsContext};
 ghost use Rattle.circuit_build.specs.Making.{begun_with, HasOutputs, IsWhole, IsBuilt};
 
@@ -66,6 +67,7 @@ fn wired(
 ) -> Result<Design, AllocError>
     requires live { IsLiveness (flow_of cfg.now) live }
     requires few { HasFewParts cfg.now }
+    requires start { HasShortStart cfg.now }
     ensures { IfOk result (λ d. IsWhole cfg.now live registers.now (netlist_of d)) }
 {
     let mut logic = begun(alloc, cfg)?;
@@ -85,6 +87,7 @@ fn pruned(
 ) -> Result<Design, AllocError>
     requires live { IsLiveness (flow_of cfg.now) live }
     requires few { HasFewParts cfg.now }
+    requires start { HasShortStart cfg.now }
     ensures built { IfOk result (λ d. IsBuilt cfg.now live registers.now (netlist_of d)) }
     ensures inputs { IfOk result (λ d. d.inputs.items ≡ input_pins (interface_of cfg.now.frame)) }
     ensures outputs { IfOk result (λ d. map outer d.outputs.items ≡ output_pins (interface_of cfg.now.frame)) }
@@ -106,6 +109,7 @@ pub fn build(
 ) -> Result<Design, AllocError>
     requires live { IsLiveness (flow_of cfg.now) live }
     requires few { HasFewParts cfg.now }
+    requires start { HasShortStart cfg.now }
     ensures name { IfOk result (λ d. d.name ≡ module_name cfg.now.frame.name) }
     ensures inputs { IfOk result (λ d. d.inputs.items ≡ input_pins (interface_of cfg.now.frame)) }
     ensures outputs { IfOk result (λ d. map outer d.outputs.items ≡ output_pins (interface_of cfg.now.frame)) }

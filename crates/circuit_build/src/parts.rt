@@ -11,7 +11,7 @@ ghost use Rattle.small_numbers.specs.Small.{HasFewParts};
 ghost use Rattle.circuit_log.specs.Roles.{named};
 ghost use Rattle.circuit_log.specs.Entries.{moves_of, all_entries, all_roles};
 ghost use Rattle.circuit_log.specs.Logs.{Logs};
-ghost use Rattle.register_bank.specs.Banks.{names_of};
+ghost use Rattle.register_bank.specs.Banks.{names_of, HasShortStart};
 ghost use Rattle.circuit_context.specs.Contexts.{IsContext};
 ghost use Rattle.unit_demands.specs.Computed.{AreComputed};
 ghost use Rattle.unit_circuits.specs.Units.{HasAnswers};
@@ -56,6 +56,7 @@ pub fn context_of<'a>(
 ) -> Result<Context<'a>, AllocError>
     requires live { IsLiveness (flow_of cfg.now) live }
     requires few { HasFewParts cfg.now }
+    requires start { HasShortStart cfg.now }
     ensures { IfOk result (λ of. HasContext of cfg.now live registers.now (circuit logic.old) (circuit logic.new)) }
 {
     numbers_are_small(cfg);

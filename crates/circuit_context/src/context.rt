@@ -1,5 +1,7 @@
 //! A program with times, and what was found for its circuit.
 ghost use Rattle.small_numbers.specs.Small.{HasFewParts};
+ghost use Rattle.register_bank.specs.Banks.{HasShortStart};
+ghost use Rattle.access_ports.specs.Numbers.{HasPlaces};
 
 use access_ports::ports::PortNumbers;
 use circuit_log::role::Role;
@@ -26,6 +28,8 @@ pub struct Context<'a> {
     pub read: Vec<bool>,
     pub live: Live,
     ghost few: { HasFewParts cfg.now },
+    ghost start: { HasShortStart cfg.now },
+    ghost numbered: { HasPlaces cfg.now.nodes.items cfg.now.frame.memories.items ports },
 }
 
 /// A node, and the time in its block or iteration.

@@ -40,26 +40,21 @@ pub fn with_width(logic: &Logic, atom: Atom, bits: u8) -> Result<Atom, AllocErro
 }
 
 /// The interval of a loop, the length of a block.
-fn interval_of(node: &Node<Timed>) -> u64
+fn interval_of(node: &Node<Timed>) -> u32
     ensures { result ≡ (plans.body_of (timed_node node.now)).interval }
 {
     match node {
-        Node::Plain(block) => block.length as u64,
-        Node::Looped(region) => region.ii as u64,
+        Node::Plain(block) => block.length,
+        Node::Looped(region) => region.ii,
     }
 }
 
 /// The time at which a result is read, counted from the beginning of the iteration that makes it.
-fn time_read(interval: u64, time: u64, distance: u32) -> Result<u64, AllocError>
-    ensures { IfOk result (λ t. t ≡ time + distance * interval) }
+fn time_read(interval: u32, time: u64, distance: u32) -> u128
+    ensures { result ≡ time + distance * interval }
 {
-    match interval.checked_mul(distance as u64) {
-        Some(between) => match time.checked_add(between) {
-            Some(time) => Ok(time),
-            None => Err(impossible()),
-        },
-        None => Err(impossible()),
-    }
+    let between = distance as u64 * interval as u64;
+    time as u128 + between as u128
 }
 
 /// The first time at which a result is there.
@@ -79,11 +74,11 @@ fn place_read(node: &Node<Timed>, op: OpId, time: u64, distance: u32) -> Result<
 {
     let interval = interval_of(node);
     let first = first_time(node, op)?;
-    let time = time_read(interval, time, distance)?;
+    let time = time_read(interval, time, distance);
     if interval == 0 {
         return Err(impossible());
     }
-    match u32::try_from(time.saturating_sub(first) / interval) {
+    match u32::try_from(time.saturating_sub(first as u128) / interval as u128) {
         Ok(place) => Ok(place),
         Err(_) => Err(impossible()),
     }
@@ -134,7 +129,7 @@ impl<'a> Context<'a> {
         match source {
             Source::Constant(value) => number(bits, value),
             Source::Variable(variable) => self.register(Role::Variable(variable)),
-            Source::Result(_) => Err(impossible()),
+            Source::Result(_) => number(bits, 0),
         }
     }
 

@@ -5,6 +5,7 @@ ghost use Rattle.datapath.specs.Plans.{Plan};
 ghost use Rattle.datapath.specs.Cycles.{Register, Cycle, Time, Active};
 ghost use Rattle.datapath.specs.Control as control;
 ghost use Rattle.datapath.specs.Reading as reading;
+ghost use Rattle.register_bank.specs.Banks.{HasShortStart};
 ghost use Rattle.circuit_wires.specs.Carrying.{IsRegister, IsBegun, MakesTelling};
 ghost use Rattle.circuit_context.specs.Contexts.{IsContext, IsProgramOf};
 
@@ -13,21 +14,18 @@ use crate::numbers::{constant_bit, holds_number};
 use circuit_log::role::Role;
 use clock_ir::timed::Timed;
 use hls_base::number::NodeId;
-use hls_base::refusal::impossible;
 use ir_core::cfg::Cfg;
-use plan_sizes::sizes::{greatest_time, initial_cycles, span};
+use plan_sizes::sizes::{greatest_time, span};
 use rtl_core::design::Atom;
 use rtl_logic::logic::Logic;
 use std::alloc::AllocError;
 
 /// Whether some time of the program is above 0.
-fn counts_times(cfg: &Cfg<Timed>) -> Result<bool, AllocError>
-    ensures { (p : Plan) → IsProgramOf p cfg.now → IfOk result (λ b. b ≡ nat_lt 0 (control.greatest_time p)) }
+fn counts_times(cfg: &Cfg<Timed>) -> bool
+    requires { HasShortStart cfg.now }
+    ensures { (p : Plan) → IsProgramOf p cfg.now → result ≡ nat_lt 0 (control.greatest_time p) }
 {
-    if initial_cycles(cfg) == u64::MAX {
-        return Err(impossible());
-    }
-    Ok(greatest_time(cfg) > 0)
+    greatest_time(cfg) > 0
 }
 
 impl<'a> Context<'a> {
@@ -36,7 +34,7 @@ impl<'a> Context<'a> {
         ensures { (p : Plan) (names : List Register) → IsContext p names self.now → IsBegun p names (circuit logic.old)
             → IfOk result (λ a. MakesTelling p names (circuit logic.old) (circuit logic.new) a (λ (c : Cycle). c.regs Time == time)) }
     {
-        if counts_times(self.cfg)? {
+        if counts_times(self.cfg) {
             let register = self.register(Role::Time)?;
             holds_number(logic, register, time)
         } else {

@@ -6,7 +6,6 @@ ghost use Rattle.circuit_log.specs.Roles.{given, choices_of, same_target, ArePai
 ghost use Rattle.circuit_log.specs.declared.log.Push.{Push};
 
 use crate::role::Target;
-use hls_base::refusal::impossible;
 use indexmap::IndexSet;
 use rtl_core::design::Atom;
 use rtl_logic::select::Choice;
@@ -89,9 +88,6 @@ impl Groups {
         ensures given { OnOk result ((t : Target) → given self.new t ≡ given self.old t ++ (if same_target t push.target then push.choice ∷ [] else [])) }
     {
         let index = self.place(alloc, push.target)?;
-        if index >= self.choices.len() {
-            return Err(impossible());
-        }
         self.choices[index].push(push.choice)?;
         Ok(())
     }

@@ -28,6 +28,7 @@ use live_variables::live::live_variables;
 use pieces::expanded::Expanded;
 use reg_binding::assign::assign;
 use reg_binding::small_times::has_small_times;
+use register_bank::bank::has_short_start;
 use report_rows::costs::formula_of;
 use report_rows::initial::initial_cycles;
 use report_rows::resources::{Resources, is_reportable, resources_of};
@@ -60,7 +61,7 @@ fn circuit_of(alloc: Global, timed: &Cfg<Timed>) -> Result<Design, AllocError>
     ensures { IfOk result (λ d. HasCircuit timed.now (netlist_of d)) }
 {
     numbers_are_small(timed);
-    if !has_small_times(timed) || !has_few_parts(timed) {
+    if !has_small_times(timed) || !has_few_parts(timed) || !has_short_start(timed) {
         return Err(impossible());
     }
     let live = live_variables(alloc, timed)?;

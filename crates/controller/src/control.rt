@@ -159,7 +159,7 @@ fn next_ready(of: &Context<'_>, logic: &mut Logic, ended: Atom) -> Result<Atom, 
     ensures { (p : Plan) (names : List Register) → IsContext p names of.now → IsBegun p names (circuit logic.old) → Tells p names (circuit logic.old) ended (control.is_ending p)
         → IfOk result (λ a. MakesTelling p names (circuit logic.old) (circuit logic.new) a (control.next_ready p)) }
 {
-    let cycles = initial_length(of)?;
+    let cycles = initial_length(of);
     let ready = register_bit(of, Role::Ready)?;
     let still = except(logic, ready, START)?;
     if cycles == 0 {
@@ -187,7 +187,7 @@ fn write_initial(of: &Context<'_>, logic: &mut Logic, log: &mut Log) -> Result<(
     ensures { (p : Plan) (names : List Register) → IsContext p names of.now → IsBegun p names (circuit logic.old)
         → OnOk result (Logs p names (circuit logic.old) (circuit logic.new) log.old.pushes.items log.new.pushes.items (initial_entries p)) }
 {
-    let cycles = initial_length(of)?;
+    let cycles = initial_length(of);
     if cycles == 0 {
         return Ok(());
     }

@@ -23,7 +23,6 @@ use crate::bits::{
 use circuit_context::context::Context;
 use circuit_log::log::Log;
 use circuit_log::role::Role;
-use hls_base::refusal::impossible;
 use loop_conditions::tests::leaves;
 use plan_sizes::pins::RESET;
 use plan_sizes::sizes::{bits_of, greatest_time, initial_cycles, span};
@@ -48,22 +47,17 @@ struct SpanGroup {
 }
 
 /// The cycles of the initial sequence.
-pub fn initial_length(of: &Context<'_>) -> Result<u64, AllocError>
-    ensures { (p : Plan) (names : List Register) → IsContext p names of.now → IfOk result (λ n. (n ≡ plans.initial_cycles p) × (plans.initial_cycles p < 2 ^ 64)) }
+pub fn initial_length(of: &Context<'_>) -> u64
+    ensures { (p : Plan) (names : List Register) → IsContext p names of.now → result ≡ plans.initial_cycles p }
 {
-    let cycles = initial_cycles(of.cfg);
-    if cycles == u64::MAX {
-        return Err(impossible());
-    }
-    Ok(cycles)
+    initial_cycles(of.cfg)
 }
 
 /// The bits of the time.
-fn time_bits(of: &Context<'_>) -> Result<u8, AllocError>
-    ensures { (p : Plan) (names : List Register) → IsContext p names of.now → IfOk result (λ n. (n ≡ control.time_bits p) × (n ≤ 64)) }
+fn time_bits(of: &Context<'_>) -> u8
+    ensures { (p : Plan) (names : List Register) → IsContext p names of.now → (result ≡ control.time_bits p) × (result ≤ 64) }
 {
-    let _cycles = initial_length(of)?;
-    Ok(bits_of(greatest_time(of.cfg)))
+    bits_of(greatest_time(of.cfg))
 }
 
 /// The time is counted while a node, or the initial sequence, goes on.
@@ -71,7 +65,7 @@ pub fn write_time(of: &Context<'_>, logic: &mut Logic, log: &mut Log) -> Result<
     ensures { (p : Plan) (names : List Register) → IsContext p names of.now → IsBegun p names (circuit logic.old)
         → OnOk result (Logs p names (circuit logic.old) (circuit logic.new) log.old.pushes.items log.new.pushes.items (time_entries p)) }
 {
-    let bits = time_bits(of)?;
+    let bits = time_bits(of);
     if bits == 0 {
         return Ok(());
     }
@@ -120,7 +114,7 @@ fn initial_span(of: &Context<'_>) -> Result<Vec<Spanned>, AllocError>
         → IfOk result (λ all. MakesSpans p names d d all.items (initial_goes p)) }
 {
     let mut all = Vec::new(of.alloc);
-    let span = initial_length(of)?;
+    let span = initial_length(of);
     if span == 0 {
         return Ok(all);
     }

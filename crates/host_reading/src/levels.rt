@@ -7,7 +7,6 @@ ghost use Rattle.rtl_core.specs.declared.design.Atom.{Atom};
 ghost use Rattle.rtl_logic.specs.Making.{circuit, IsSound, Makes};
 ghost use Rattle.host_reading.specs.Levels.{AreWords, IsWord, IsPicked, HalvesTo};
 
-use hls_base::refusal::impossible;
 use rtl_core::design::Atom;
 use rtl_logic::logic::Logic;
 use rtl_logic::select::constant;
@@ -35,15 +34,12 @@ pub(crate) fn first_word(level: &[Atom]) -> Atom
 fn picked(
     logic: &mut Logic,
     test: Atom,
-    first: Option<Atom>,
+    first: Atom,
     second: Option<Atom>,
 ) -> Result<Atom, AllocError>
-    ensures { IsSound (circuit logic.old) → HasBits (widths (circuit logic.old)) 1 test → IsWord (circuit logic.old) first → IsWord (circuit logic.old) second
-        → IfOk result (λ a. Makes (circuit logic.old) (circuit logic.new) 64 a (IsPicked test first second)) }
+    ensures { IsSound (circuit logic.old) → HasBits (widths (circuit logic.old)) 1 test → IsWord (circuit logic.old) (Some first) → IsWord (circuit logic.old) second
+        → IfOk result (λ a. Makes (circuit logic.old) (circuit logic.new) 64 a (IsPicked test (Some first) second)) }
 {
-    let Some(first) = first else {
-        return Err(impossible());
-    };
     match second {
         Some(second) => logic.pick(test, second, first),
         None => Ok(first),
@@ -63,7 +59,7 @@ pub(crate) fn halved(
     let mut half = Vec::new(alloc);
     for k in 0..level.len() / 2 + level.len() % 2 {
         let second = word_at(level, 2 * k + 1);
-        half.push(picked(logic, test, word_at(level, 2 * k), second)?)?;
+        half.push(picked(logic, test, level[2 * k], second)?)?;
     }
     Ok(half)
 }

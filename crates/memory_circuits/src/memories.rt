@@ -1,5 +1,5 @@
 //! The memories and tables.
-ghost use Rattle.std.specs.Prelude.{◌≡◌, ◌∷◌, [], List, IfOk, OnOk, None, Some, length, map, slice_get};
+ghost use Rattle.std.specs.Prelude.{◌≡◌, ◌<◌, ◌∷◌, [], List, IfOk, OnOk, None, Some, length, map, slice_get};
 ghost use Rattle.rtl_units.specs.Fragments.{grown, memory_with, port_wires, wires_from};
 ghost use Rattle.rtl_logic.specs.Making.{circuit};
 ghost use Rattle.datapath.specs.Plans.{Plan, array_at, array_of};
@@ -26,7 +26,6 @@ use circuit_log::log::Groups;
 use hls_base::number::ArrayId;
 use hls_base::refusal::impossible;
 use ir_core::cfg::Memory;
-use plan_sizes::sizes::memory_at;
 use rtl_core::design::{Atom, Port};
 use rtl_logic::logic::Logic;
 use rtl_units::builder::{Fragment, Pins};
@@ -85,6 +84,7 @@ fn add_memory(
     memory: &Memory,
     first: Place,
 ) -> Result<Vec<PortWires>, AllocError>
+    requires { first.array.0 < length of.now.cfg.now.frame.memories.items }
     ensures { (p : Plan) (names : List Register) → IsReady p names of.now groups.now (circuit logic.old) → IsPlace p first
         → slice_get p.arrays first.array.0 ≡ Some (array_of memory.now) → (array_at p first.array.0).table ≡ None → length (circuit logic.old).mems ≡ memory_of p first.array.0
         → IfOk result (λ wires. AddsArray p names (circuit logic.old) (circuit logic.new) first.array.0 wires.items) }
@@ -105,6 +105,7 @@ fn add_table(
     memory: &Memory,
     first: Place,
 ) -> Result<Vec<PortWires>, AllocError>
+    requires { first.array.0 < length of.now.cfg.now.frame.memories.items }
     ensures { (p : Plan) (names : List Register) → IsReady p names of.now groups.now (circuit logic.old) → IsPlace p first
         → slice_get p.arrays first.array.0 ≡ Some (array_of memory.now) → length (circuit logic.old).mems ≡ memory_of p first.array.0
         → IfOk result (λ wires. AddsArray p names (circuit logic.old) (circuit logic.new) first.array.0 wires.items) }
@@ -126,12 +127,11 @@ fn add_array(
     groups: &Groups,
     array: ArrayId,
 ) -> Result<Vec<PortWires>, AllocError>
+    requires { array.0 < length of.now.cfg.now.frame.memories.items }
     ensures { (p : Plan) (names : List Register) → IsReady p names of.now groups.now (circuit logic.old) → length (circuit logic.old).mems ≡ memory_of p array.0
         → IfOk result (λ wires. AddsArray p names (circuit logic.old) (circuit logic.new) array.0 wires.items) }
 {
-    let Some(memory) = memory_at(of.cfg, array) else {
-        return Err(impossible());
-    };
+    let memory = &of.cfg.frame.memories[array.0 as usize];
     let first = place_of(memory, array)?;
     match &memory.table {
         Some(_) => add_table(of, logic, groups, memory, first),
@@ -152,7 +152,7 @@ pub fn add_memories(
     let count = of.cfg.frame.memories.len();
     let mut ports = Vec::with_capacity(of.alloc, count)?;
     for place in 0..count {
-        let array = number_of(place)?;
+        let array = number_of(place);
         ports.push(add_array(of, logic, groups, array)?)?;
     }
     Ok(PortTable { ports })

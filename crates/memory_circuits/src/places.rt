@@ -1,5 +1,5 @@
 //! The ports of arrays.
-ghost use Rattle.std.specs.Prelude.{◌≡◌, ℕ, List, IfOk, Some, slice_get};
+ghost use Rattle.std.specs.Prelude.{◌<◌, ◌^◌, ◌≡◌, ℕ, List, IfOk, Some, length, slice_get};
 ghost use Rattle.datapath.specs.Plans.{Plan, array_of};
 ghost use Rattle.datapath.specs.Cycles.{Register};
 ghost use Rattle.datapath.specs.Ports.{port_count};
@@ -33,13 +33,11 @@ pub struct Outside {
 }
 
 /// The number of an array.
-pub fn number_of(place: usize) -> Result<ArrayId, AllocError>
-    ensures { IfOk result (λ a. a.0 ≡ place) }
+pub fn number_of(place: usize) -> ArrayId
+    requires { place < 2 ^ 32 }
+    ensures { result.0 ≡ place }
 {
-    match u32::try_from(place) {
-        Ok(number) => Ok(ArrayId(number)),
-        Err(_) => Err(impossible()),
-    }
+    ArrayId(place as u32)
 }
 
 /// The first port of an array.
@@ -61,11 +59,9 @@ pub fn place_of(memory: &Memory, array: ArrayId) -> Result<Place, AllocError>
 }
 
 /// How many ports an array has.
-pub fn ports_of(of: &Context<'_>, array: ArrayId) -> Result<u32, AllocError>
-    ensures { (p : Plan) (names : List Register) → IsContext p names of.now → IfOk result (λ n. n ≡ port_count p array.0) }
+pub fn ports_of(of: &Context<'_>, array: ArrayId) -> u32
+    requires { array.0 < length of.now.cfg.now.frame.memories.items }
+    ensures { (p : Plan) (names : List Register) → IsContext p names of.now → result ≡ port_count p array.0 }
 {
-    match of.ports.counts.get(array.0 as usize) {
-        Some(count) => Ok(*count),
-        None => Err(impossible()),
-    }
+    of.ports.counts[array.0 as usize]
 }

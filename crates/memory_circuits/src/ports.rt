@@ -1,5 +1,5 @@
 //! The ports of memories.
-ghost use Rattle.std.specs.Prelude.{◌≡◌, ◌&&◌, ◌||◌, ℕ, Bool, IfOk, List, Option, length, map, not};
+ghost use Rattle.std.specs.Prelude.{◌≡◌, ◌<◌, ◌^◌, ◌&&◌, ◌||◌, ℕ, Bool, IfOk, List, Option, length, map, not};
 ghost use Rattle.rtl_core.specs.Netlist.{Netlist};
 ghost use Rattle.rtl_core.specs.Valid.{IsBetween};
 ghost use Rattle.rtl_logic.specs.declared.select.Choice.{Choice};
@@ -143,13 +143,15 @@ pub fn make_ports(
     first: Place,
     outside: Option<Outside>,
 ) -> Result<Vec<Port>, AllocError>
+    requires { first.array.0 < length of.now.cfg.now.frame.memories.items }
     ensures ports { (p : Plan) (names : List Register) → IsReady p names of.now groups.now (circuit logic.old) → IsPlace p first → IsAccess p names (circuit logic.old) first.array.0 0 outside
         → IfOk result (λ ports. MakesPorts p names (circuit logic.old) (circuit logic.new) first.array.0 ports.items) }
     ensures count { (p : Plan) (names : List Register) → IsReady p names of.now groups.now (circuit logic.old)
         → IfOk result (λ ports. length ports.items ≡ port_count p first.array.0) }
+    ensures numbered { IfOk result (λ ports. length ports.items < 2 ^ 32) }
 {
     let mut ports = Vec::new(of.alloc);
-    for port in 0..ports_of(of, first.array)? {
+    for port in 0..ports_of(of, first.array) {
         let place = Place { port, ..first };
         ports.push(make_port(of, logic, groups, place, access_at(outside, port))?)?;
     }

@@ -1,5 +1,5 @@
 //! Tables of constants, and the first contents of memories.
-ghost use Rattle.std.specs.Prelude.{◌≡◌, ℕ, IfOk, List, None, Some, length, slice_get, is_some};
+ghost use Rattle.std.specs.Prelude.{◌≡◌, ◌<◌, ℕ, IfOk, List, None, Some, length, slice_get, is_some};
 ghost use Rattle.block_meaning.specs.FirstContents.{elements_or_none};
 ghost use Rattle.rtl_logic.specs.Making.{circuit};
 ghost use Rattle.datapath.specs.Plans.{Plan, array_at, array_of};
@@ -73,6 +73,7 @@ pub fn table_ports(
     first: Place,
     words: &[u64],
 ) -> Result<Vec<PortWires>, AllocError>
+    requires { first.array.0 < length of.now.cfg.now.frame.memories.items }
     ensures ports { (p : Plan) (names : List Register) (elements : List ℕ) → IsReady p names of.now groups.now (circuit logic.old) → IsPlace p first → ((n : ℕ) → IsInside p first.array.0 n)
         → (array_at p first.array.0).table ≡ Some elements → AreWordsOf p first.array.0 elements words.now
         → IfOk result (λ wires. MakesTablePorts p names (circuit logic.old) (circuit logic.new) first.array.0 wires.items) }
@@ -80,7 +81,7 @@ pub fn table_ports(
         → IfOk result (λ wires. length wires.items ≡ port_count p first.array.0) }
 {
     let mut wires = Vec::new(of.alloc);
-    for port in 0..ports_of(of, first.array)? {
+    for port in 0..ports_of(of, first.array) {
         let place = Place { port, ..first };
         wires.push(table_port(of, logic, groups, place, words)?)?;
     }

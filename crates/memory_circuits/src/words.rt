@@ -1,5 +1,5 @@
 //! The registers of the words that are read.
-ghost use Rattle.std.specs.Prelude.{◌≡◌, ℕ, IfOk, OnOk, List, length};
+ghost use Rattle.std.specs.Prelude.{◌≡◌, ◌<◌, ◌^◌, ℕ, IfOk, OnOk, List, length};
 ghost use Rattle.rtl_core.specs.declared.design.Atom.{Atom};
 ghost use Rattle.rtl_logic.specs.Making.{circuit};
 ghost use Rattle.datapath.specs.Plans.{Plan};
@@ -11,7 +11,6 @@ use crate::ports::bits_of;
 use circuit_context::context::Context;
 use circuit_log::log::Groups;
 use circuit_log::role::{Role, Target};
-use hls_base::refusal::impossible;
 use rtl_core::design::Atom;
 use rtl_logic::logic::Logic;
 use rtl_logic::select::constant;
@@ -38,6 +37,14 @@ pub fn set_word(
     Ok(())
 }
 
+/// How many words there are, where they can be numbered.
+fn counted(words: &[Atom]) -> u32
+    requires { length words.now < 2 ^ 32 }
+    ensures { result ≡ length words.now }
+{
+    words.len() as u32
+}
+
 /// The registers of all ports of a memory.
 pub fn set_words(
     of: &Context<'_>,
@@ -46,14 +53,12 @@ pub fn set_words(
     first: Place,
     words: &[Atom],
 ) -> Result<(), AllocError>
+    requires { length words.now < 2 ^ 32 }
     ensures { (p : Plan) (names : List Register) (addresses : List Atom) → IsReady p names of.now groups.now (circuit logic.old) → IsPlace p first
         → ReadWords p names (circuit logic.old) first.array.0 addresses words.now → length addresses ≡ length words.now
         → OnOk result (SetsWords p names (circuit logic.old) (circuit logic.new) first.array.0 addresses) }
 {
-    let Ok(count) = u32::try_from(words.len()) else {
-        return Err(impossible());
-    };
-    for port in 0..count {
+    for port in 0..counted(words) {
         let place = Place { port, ..first };
         set_word(of, logic, groups, place, words[port as usize])?;
     }

@@ -1,11 +1,11 @@
 //! The registers of a circuit, each for one thing.
-ghost use Rattle.std.specs.Prelude.{◌≡◌, ◌<◌, ◌^◌, ◌∷◌, ◌++◌, [], length, map, IfOk, OnOk};
+ghost use Rattle.std.specs.Prelude.{◌≡◌, ◌<◌, ◌^◌, ◌∷◌, ◌++◌, [], length, map, IfOk, OnOk, IsTrue};
 ghost use Rattle.datapath.specs.Plans.{Plan};
 ghost use Rattle.rtl_logic.specs.Making.{circuit};
 ghost use Rattle.circuit_wires.specs.Carrying.{IsBegun, IsRegister};
 ghost use Rattle.circuit_log.specs.Roles.{named};
 ghost use Rattle.circuit_log.specs.Driving.{AreDistinct};
-ghost use Rattle.register_bank.specs.Banks.{names_of, IsPlanOf, ArePortCounts, IsAllotted};
+ghost use Rattle.register_bank.specs.Banks.{names_of, HasShortStart, IsPlanOf, ArePortCounts, IsAllotted};
 ghost use Rattle.register_bank.specs.Slots.{AreRegistered};
 
 use crate::lines::lines_for;
@@ -70,6 +70,13 @@ fn register_all(
     Ok(roles)
 }
 
+/// Whether the cycles of the initial sequence can be counted in 64 bits.
+pub fn has_short_start(cfg: &Cfg<Timed>) -> bool
+    ensures { IsTrue result → HasShortStart cfg.now }
+{
+    initial_cycles(cfg) < u64::MAX
+}
+
 /// Appends the registers of a program, but for those of shared units. Each keeps what it has.
 pub fn allot(
     alloc: Global,
@@ -81,12 +88,11 @@ pub fn allot(
     requires nodes { length cfg.now.nodes.items < 2 ^ 32 }
     requires variables { length cfg.now.frame.variables.items < 2 ^ 32 }
     requires arrays { length cfg.now.frame.memories.items < 2 ^ 32 }
+    requires ports { length ports.now ≡ length cfg.now.frame.memories.items }
+    requires start { HasShortStart cfg.now }
     ensures { (p : Plan) → IsPlanOf p cfg.now registers.now → ArePortCounts p ports.now → IsBegun p [] (circuit logic.old)
         → IfOk result (λ bank. IsAllotted p (circuit logic.old) (circuit logic.new) bank) }
 {
-    if initial_cycles(cfg) == u64::MAX {
-        return Err(impossible());
-    }
     let lines = lines_for(cfg, registers);
     let slots = slots_of(alloc, cfg, registers, ports, lines)?;
     let roles = register_all(alloc, logic, &slots)?;

@@ -16,7 +16,6 @@ use crate::lines::Lines;
 use circuit_log::role::Role;
 use clock_ir::timed::Timed;
 use hls_base::number::{ArrayId, NodeId, VarId};
-use hls_base::refusal::impossible;
 use ir_core::cfg::{Cfg, Memory, Node};
 use plan_sizes::sizes::{bits_of, greatest_time, greatest_wait, host_memories, initial_cycles};
 use reg_binding::registers::Registers;
@@ -170,13 +169,11 @@ fn push_words(slots: &mut Vec<Slot>, array: ArrayId, ports: u32, bits: u8) -> Re
 }
 
 fn push_arrays(slots: &mut Vec<Slot>, memories: &[Memory], ports: &[u32]) -> Result<(), AllocError>
-    requires { length memories.now < 2 ^ 32 }
+    requires few { length memories.now < 2 ^ 32 }
+    requires ports { length ports.now ≡ length memories.now }
     ensures { (p : Plan) → map array_of memories.now ≡ p.arrays → ArePortCounts p ports.now → OnOk result (Adds p slots.old.items slots.new.items (flat_map (word_roles p) (range_with_len 0 (length p.arrays)))) }
 {
     for (number, memory) in memories.iter().enumerate() {
-        if number >= ports.len() {
-            return Err(impossible());
-        }
         let array = ArrayId(number_of(number));
         push_words(slots, array, ports[number], memory.bits)?;
     }
@@ -184,7 +181,8 @@ fn push_arrays(slots: &mut Vec<Slot>, memories: &[Memory], ports: &[u32]) -> Res
 }
 
 fn push_ports(slots: &mut Vec<Slot>, cfg: &Cfg<Timed>, ports: &[u32]) -> Result<(), AllocError>
-    requires { length cfg.now.frame.memories.items < 2 ^ 32 }
+    requires few { length cfg.now.frame.memories.items < 2 ^ 32 }
+    requires ports { length ports.now ≡ length cfg.now.frame.memories.items }
     ensures { (p : Plan) (registers : Registers) → IsPlanOf p cfg.now registers → ArePortCounts p ports.now → OnOk result (Adds p slots.old.items slots.new.items (port_roles p)) }
 {
     push_arrays(slots, &cfg.frame.memories, ports)?;
@@ -210,6 +208,7 @@ pub fn slots_of(
     requires nodes { length cfg.now.nodes.items < 2 ^ 32 }
     requires variables { length cfg.now.frame.variables.items < 2 ^ 32 }
     requires arrays { length cfg.now.frame.memories.items < 2 ^ 32 }
+    requires ports { length ports.now ≡ length cfg.now.frame.memories.items }
     ensures { (p : Plan) → IsPlanOf p cfg.now registers.now → ArePortCounts p ports.now → initial_cycles p < 2 ^ 64
         → IfOk result (λ slots. slots.items ≡ map (slot p) (all_roles p lines.gates lines.stages)) }
 {

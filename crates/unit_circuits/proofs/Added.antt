@@ -61,6 +61,9 @@ divider_adds p names d e unit x start first second begun is between inputs start
     (subst (λ (y : SharedUnit). Adds p names d f (wires_with y x q r ∷ [])) (sym is) added)))
 
 -- the first and the second of two pins
+pub only_pin : (items : List Atom) (a q : Atom) → a ≡ get_or items 0 a → items ≡ q ∷ [] → a ≡ q
+only_pin items a q at is = at ∙ ap (λ l. get_or l 0 a) is
+
 pub first_pin : (items : List Atom) (a q r : Atom) → a ≡ get_or items 0 a → items ≡ q ∷ r ∷ [] → a ≡ q
 first_pin items a q r at is = at ∙ ap (λ l. get_or l 0 a) is
 

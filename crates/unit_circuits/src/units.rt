@@ -131,10 +131,7 @@ fn add_multiplier(
     let pins = logic
         .builder
         .add(alloc, Fragment::Multiplier { bits, left, right })?;
-    let Some(register) = pins.atoms.first().copied() else {
-        return Err(impossible());
-    };
-    let product = logic.next_of(register);
+    let product = logic.next_of(pins.atoms[0]);
     Ok(UnitWires {
         unit,
         left,
@@ -180,9 +177,6 @@ fn add_divider(
         right,
     };
     let pins = logic.builder.add(alloc, fragment)?;
-    if pins.atoms.len() < 2 {
-        return Err(impossible());
-    }
     Ok(UnitWires {
         unit,
         left,

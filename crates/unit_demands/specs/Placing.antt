@@ -1,5 +1,5 @@
 -- Operations where they stand, and their arguments as wires.
-use Rattle.std.specs.Prelude.{◌≡◌, ℕ, List, map, get_or, slice_get, Some, if◌then◌else◌}
+use Rattle.std.specs.Prelude.{◌≡◌, ◌<◌, ℕ, List, map, get_or, slice_get, Some, if◌then◌else◌}
 use Rattle.hls_base.specs.declared.number.ArrayId.{ArrayId}
 use Rattle.ir_core.specs.declared.body.Op.{Op}
 use Rattle.ir_core.specs.declared.body.OpKind.{OpKind}
@@ -20,6 +20,8 @@ use Rattle.circuit_wires.specs.Carrying.{Carries}
 use Rattle.circuit_log.specs.declared.role.Target.TheVariants as t
 use Rattle.circuit_log.specs.Entries.{Entry, entry}
 use Rattle.circuit_log.specs.Logs.{CarriesSome}
+use Rattle.access_ports.specs.Numbers.{operations_of}
+use Rattle.circuit_context.specs.declared.context.Context.{Context}
 use Rattle.operation_wires.specs.Arguments.{missing, constant_bits, IsTakenFrom}
 use Rattle.operation_wires.specs.declared.operations.Arguments.{Arguments}
 use Rattle.unit_demands.specs.declared.started.Started.{Started}
@@ -34,6 +36,10 @@ pub record IsStarted (p : Plan) (it : Started) : Type 0 where
   pub stands : slice_get it.ops.now it.number ≡ Some it.op.now
   pub time : it.at.time ≡ it.op.now.stamp.start
   pub unit : unit_of p (placed_as it) ≡ it.op.now.stamp.bound
+
+-- the program has an operation of this number in this node
+abbrev pub IsOfProgram : Context → Started → Type 0
+IsOfProgram of it = it.number < operations_of of.cfg.now.nodes.items it.at.node.0
 
 -- ---- arguments
 

@@ -11,7 +11,7 @@ ghost use Rattle.access_ports.specs.Numbers.{IsAccess};
 ghost use Rattle.circuit_log.specs.Entries.{address_entry, refusal_entries, entries_as};
 ghost use Rattle.circuit_log.specs.Logs.{Logs};
 ghost use Rattle.circuit_context.specs.Contexts.{IsContext};
-ghost use Rattle.unit_demands.specs.Placing.{placed_as, IsStarted, IsPortOf, subscripts_as, stored_entry};
+ghost use Rattle.unit_demands.specs.Placing.{placed_as, IsOfProgram, IsStarted, IsPortOf, subscripts_as, stored_entry};
 
 use crate::started::Started;
 use circuit_context::context::Context;
@@ -71,12 +71,13 @@ fn word_bits(of: &Context<'_>, array: ArrayId) -> Result<u8, AllocError>
 }
 
 /// The port of an access to an array.
-fn port_used(of: &Context<'_>, it: &Started<'_>, array: ArrayId) -> Result<Port, AllocError>
+fn port_used(of: &Context<'_>, it: &Started<'_>, array: ArrayId) -> Port
+    requires { IsOfProgram of.now it.now }
     ensures { (p : Plan) (names : List Register) → IsContext p names of.now → IsStarted p it.now → IsAccess it.now.op.now.kind → it.now.op.now.array ≡ Some array
-        → IfOk result (IsPortOf p it.now) }
+        → IsPortOf p it.now result }
 {
-    let number = of.ports.port(it.at.node, it.number)?;
-    Ok(Port { array, number })
+    let number = of.ports.port(it.at.node, it.number);
+    Port { array, number }
 }
 
 /// A port is given the address as the access starts.
@@ -158,13 +159,14 @@ pub fn give_load(
     log: &mut Log,
     it: &Started<'_>,
 ) -> Result<(), AllocError>
+    requires { IsOfProgram of.now it.now }
     ensures { (p : Plan) (names : List Register) → IsContext p names of.now → IsBegun p names (circuit logic.old) → IsStarted p it.now → it.now.op.now.kind ≡ o.Load
         → OnOk result (Logs p names (circuit logic.old) (circuit logic.new) log.old.pushes.items log.new.pushes.items (entries_as p o.Load it.now.op.now.array (placed_as it.now))) }
 {
     let Some(array) = it.op.array else {
         return Err(impossible());
     };
-    let port = port_used(of, it, array)?;
+    let port = port_used(of, it, array);
     give_address(of, logic, log, it, port)?;
     give_refusal(of, logic, log, it, port)
 }
@@ -176,13 +178,14 @@ pub fn give_store(
     log: &mut Log,
     it: &Started<'_>,
 ) -> Result<(), AllocError>
+    requires { IsOfProgram of.now it.now }
     ensures { (p : Plan) (names : List Register) → IsContext p names of.now → IsBegun p names (circuit logic.old) → IsStarted p it.now → it.now.op.now.kind ≡ o.Store
         → OnOk result (Logs p names (circuit logic.old) (circuit logic.new) log.old.pushes.items log.new.pushes.items (entries_as p o.Store it.now.op.now.array (placed_as it.now))) }
 {
     let Some(array) = it.op.array else {
         return Ok(());
     };
-    let port = port_used(of, it, array)?;
+    let port = port_used(of, it, array);
     give_address(of, logic, log, it, port)?;
     give_word(of, logic, log, it, port)
 }

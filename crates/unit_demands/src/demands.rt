@@ -1,5 +1,5 @@
 //! The operations of all nodes, in order.
-ghost use Rattle.std.specs.Prelude.{◌<◌, ◌^◌, ◌≡◌, List, IfOk, OnOk, map};
+ghost use Rattle.std.specs.Prelude.{◌<◌, ◌^◌, ◌≡◌, List, IfOk, OnOk, length, map};
 ghost use Rattle.ir_core.specs.declared.body.Op.{Op};
 ghost use Rattle.clock_ir.specs.declared.timed.Timed.{Timed};
 ghost use Rattle.rtl_logic.specs.Making.{circuit};
@@ -9,11 +9,13 @@ ghost use Rattle.datapath.specs.Plans as plans;
 ghost use Rattle.datapath.specs.Plans.{Plan};
 ghost use Rattle.datapath.specs.Cycles.{Register};
 ghost use Rattle.circuit_wires.specs.Carrying.{IsBegun};
+ghost use Rattle.access_ports.specs.Counting.{ops_in};
+ghost use Rattle.access_ports.specs.Numbers.{operations_of};
 ghost use Rattle.circuit_log.specs.Entries.{demands_of, all_demands};
 ghost use Rattle.circuit_log.specs.Logs.{Logs};
 ghost use Rattle.circuit_context.specs.Contexts.{IsContext};
 ghost use Rattle.unit_demands.specs.Computed.{AreComputed};
-ghost use Rattle.unit_demands.specs.Placing.{placed_as, IsStarted};
+ghost use Rattle.unit_demands.specs.Placing.{placed_as, IsOfProgram, IsStarted};
 ghost use Rattle.unit_demands.specs.Collected.{AreOpsOf, Collects, CollectsOps, CollectsNodes};
 
 use crate::accesses::{give_load, give_store};
@@ -44,6 +46,7 @@ fn give(
     log: &mut Log,
     it: &Started<'_>,
 ) -> Result<(), AllocError>
+    requires { IsOfProgram of.now it.now }
     ensures { (p : Plan) (names : List Register) → IsContext p names of.now → IsBegun p names (circuit logic.old) → IsStarted p it.now
         → OnOk result (Logs p names (circuit logic.old) (circuit logic.new) log.old.pushes.items log.new.pushes.items (demands_of p (placed_as it.now))) }
 {
@@ -63,6 +66,7 @@ fn collect_operation(
     log: &mut Log,
     it: &Started<'_>,
 ) -> Result<Option<Atom>, AllocError>
+    requires { IsOfProgram of.now it.now }
     ensures { (p : Plan) (names : List Register) → IsContext p names of.now → IsBegun p names (circuit logic.old) → IsStarted p it.now
         → IfOk result (Collects p names (circuit logic.old) (circuit logic.new) log.old.pushes.items log.new.pushes.items it.now) }
 {
@@ -78,6 +82,7 @@ fn collect_node(
     node: NodeId,
     ops: &[Op<Timed>],
 ) -> Result<Vec<Option<Atom>>, AllocError>
+    requires { length ops.now ≡ operations_of of.now.cfg.now.nodes.items node.0 }
     ensures { (p : Plan) (names : List Register) → IsContext p names of.now → IsBegun p names (circuit logic.old) → AreOpsOf p node.0 ops.now
         → IfOk result (λ wires. CollectsOps p names (circuit logic.old) (circuit logic.new) log.old.pushes.items log.new.pushes.items node.0 ops.now wires.items) }
 {
@@ -100,6 +105,7 @@ fn collect_node(
 fn ops_of(node: &Node<Timed>) -> &[Op<Timed>]
     ensures ops { map timed_op result.now ≡ (plans.body_of (timed_node node.now)).ops }
     ensures units { map (λ (op : Op Timed). op.stamp.bound) result.now ≡ plans.node_units node.now }
+    ensures own { result.now ≡ ops_in node.now }
 {
     match node {
         Node::Plain(block) => &block.body.ops,

@@ -1,5 +1,5 @@
 //! The first values of variables.
-ghost use Rattle.std.specs.Prelude.{◌≡◌, ◌<◌, ◌+◌, List, map, IfOk, OnOk, [], ◌∷◌, Some};
+ghost use Rattle.std.specs.Prelude.{◌≡◌, ◌<◌, ◌+◌, ◌^◌, List, map, IfOk, OnOk, [], ◌∷◌, Some};
 ghost use Rattle.std.specs.List.{enumerate_from};
 ghost use Rattle.rtl_core.specs.Netlist.{Netlist};
 ghost use Rattle.rtl_logic.specs.Making.{circuit};
@@ -33,13 +33,11 @@ fn taken(of: &Context<'_>, logic: &mut Logic) -> Result<Atom, AllocError>
 }
 
 /// The input with this number among the arguments.
-fn argument(number: usize) -> Result<Atom, AllocError>
-    ensures { IfOk result (λ a. a ≡ Atom.Input (7 + number)) }
+fn argument(number: usize) -> Atom
+    requires { number < 2 ^ 63 }
+    ensures { result ≡ Atom.Input (7 + number) }
 {
-    match FIRST_ARGUMENT.checked_add(number as u64) {
-        Some(input) => Ok(Atom::Input(input)),
-        None => Err(impossible()),
-    }
+    Atom::Input(FIRST_ARGUMENT + number as u64)
 }
 
 /// Arguments at the start.
@@ -54,7 +52,7 @@ fn write_arguments(
         → OnOk result (Logs p names (circuit logic.now) (circuit logic.now) log.old.pushes.items log.new.pushes.items (map parameter_entry (enumerate_from 0 p.parameters))) }
 {
     for number in 0..variables.len() {
-        let value = argument(number)?;
+        let value = argument(number);
         let choice = Choice { when: taken, value };
         take(of, logic, log, Role::Variable(variables[number]), choice)?;
     }

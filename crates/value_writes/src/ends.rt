@@ -1,5 +1,5 @@
 //! What happens at the end of each node.
-ghost use Rattle.std.specs.Prelude.{◌≡◌, ℕ, List, Some, IfOk, OnOk, filter, slice_get};
+ghost use Rattle.std.specs.Prelude.{◌<◌, ◌^◌, ◌≡◌, ℕ, List, Some, IfOk, OnOk, filter, slice_get};
 ghost use Rattle.rtl_logic.specs.Making.{circuit};
 ghost use Rattle.clock_meaning.specs.ClockRuns as runs;
 ghost use Rattle.clock_meaning.specs.ClockRuns.{TimedNode};
@@ -175,13 +175,11 @@ fn write_node(
 }
 
 /// The name of the node with this number.
-fn named(number: usize) -> Result<NodeId, AllocError>
-    ensures { IfOk result (λ node. node.0 ≡ number) }
+fn named(number: usize) -> NodeId
+    requires { number < 2 ^ 32 }
+    ensures { result.0 ≡ number }
 {
-    match u32::try_from(number) {
-        Ok(number) => Ok(NodeId(number)),
-        Err(_) => Err(impossible()),
-    }
+    NodeId(number as u32)
 }
 
 /// The writes of variables, and where control goes.
@@ -196,7 +194,7 @@ pub fn write_ends(
         → OnOk result (Logs p names (circuit logic.old) (circuit logic.new) log.old.pushes.items log.new.pushes.items (all_ends p)) }
 {
     for number in 0..of.cfg.nodes.len() {
-        write_node(of, logic, log, sources, named(number)?)?;
+        write_node(of, logic, log, sources, named(number))?;
     }
     Ok(())
 }

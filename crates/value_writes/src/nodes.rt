@@ -1,5 +1,5 @@
 //! The nodes of a program, and their operations and times.
-ghost use Rattle.std.specs.Prelude.{◌≡◌, ◌-◌, List, IfOk, Some, [], get_or, map, slice_get};
+ghost use Rattle.std.specs.Prelude.{◌≡◌, ◌<◌, ◌-◌, List, IfOk, Some, [], get_or, map, slice_get};
 ghost use Rattle.clock_meaning.specs.ClockRuns.{timed_node};
 ghost use Rattle.clock_meaning.specs.Flows.{ready, timed_op};
 ghost use Rattle.datapath.specs.Plans as plans;
@@ -7,6 +7,8 @@ ghost use Rattle.datapath.specs.Plans.{Plan, body_at, node_units};
 ghost use Rattle.ir_core.specs.declared.body.Op.{Op};
 ghost use Rattle.clock_ir.specs.declared.timed.Timed.{Timed};
 ghost use Rattle.datapath.specs.Cycles.{Register};
+ghost use Rattle.access_ports.specs.Counting.{ops_in};
+ghost use Rattle.access_ports.specs.Numbers.{operations_of};
 ghost use Rattle.circuit_context.specs.Contexts.{IsContext};
 
 use circuit_context::context::{Context, Reading};
@@ -34,6 +36,7 @@ pub fn node_at<'a>(of: &Context<'a>, node: NodeId) -> Result<&'a Node<Timed>, Al
 fn ops_of(node: &Node<Timed>) -> &[Op<Timed>]
     ensures ops { map timed_op result.now ≡ (plans.body_of (timed_node node.now)).ops }
     ensures units { map (λ (op : Op Timed). op.stamp.bound) result.now ≡ node_units node.now }
+    ensures own { result.now ≡ ops_in node.now }
 {
     match node {
         Node::Plain(block) => &block.body.ops,
@@ -44,6 +47,7 @@ fn ops_of(node: &Node<Timed>) -> &[Op<Timed>]
 /// An operation of a node.
 pub fn operation<'a>(of: &Context<'a>, node: NodeId, op: OpId) -> Result<&'a Op<Timed>, AllocError>
     ensures stands { (p : Plan) (names : List Register) → IsContext p names of.now → IfOk result (λ o. slice_get (body_at p node.0).ops op.0 ≡ Some (timed_op o.now)) }
+    ensures there { IfOk result (λ o. op.0 < operations_of of.now.cfg.now.nodes.items node.0) }
     ensures unit { (p : Plan) (names : List Register) → IsContext p names of.now → IfOk result (λ o. get_or (get_or p.units node.0 []) op.0 0 ≡ o.now.stamp.bound) }
 {
     let ops = ops_of(node_at(of, node)?);

@@ -1,5 +1,5 @@
 //! Where results come from.
-ghost use Rattle.std.specs.Prelude.{◌≡◌, List, IfOk, Some, slice_get};
+ghost use Rattle.std.specs.Prelude.{◌≡◌, ◌<◌, List, IfOk, Some, slice_get};
 ghost use Rattle.hls_base.specs.declared.number.ArrayId.{ArrayId};
 ghost use Rattle.clock_meaning.specs.Flows.{TimedOp};
 ghost use Rattle.rtl_core.specs.Netlist.{Netlist};
@@ -7,6 +7,7 @@ ghost use Rattle.datapath.specs.Plans.{Plan, body_at};
 ghost use Rattle.datapath.specs.Cycles.{Register, Word};
 ghost use Rattle.datapath.specs.Values.{arriving};
 ghost use Rattle.circuit_wires.specs.Carrying.{IsBegun};
+ghost use Rattle.access_ports.specs.Numbers.{operations_of};
 ghost use Rattle.circuit_log.specs.Logs.{CarriesSome};
 ghost use Rattle.circuit_context.specs.Contexts.{IsContext};
 ghost use Rattle.unit_circuits.specs.Units.{HasAnswers};
@@ -44,11 +45,12 @@ fn unit(kind: UnitKind, op: &Op<Timed>) -> SharedUnit
 
 /// The register with the word that a load reads.
 fn word(of: &Context<'_>, node: NodeId, op: OpId, array: ArrayId) -> Result<Atom, AllocError>
+    requires { op.0 < operations_of of.now.cfg.now.nodes.items node.0 }
     ensures { (p : Plan) (names : List Register) (d : Netlist) (it : TimedOp) → IsContext p names of.now → IsBegun p names d
         → slice_get (body_at p node.0).ops op.0 ≡ Some it → it.op.kind ≡ OpKind.Load → it.op.array ≡ Some array
         → IfOk result (λ a. CarriesSome p names d a (λ c. arriving p c node.0 op.0)) }
 {
-    let port = of.ports.port(node, op.0 as usize)?;
+    let port = of.ports.port(node, op.0 as usize);
     of.bank.register(Role::Word { array, port })
 }
 

@@ -1,5 +1,5 @@
 -- Levels of picks, one after another.
-use Rattle.std.proofs.Common.{◌≡◌, ◌<◌, inl, inr, ℕ, zero, suc, ◌+◌, ◌-◌, ◌*◌, ◌/◌, ◌%◌, ◌^◌, List, [], ◌∷◌, ◌++◌, length, map, get_or, refl, sym, ap, ◌∙◌, subst, length-append, arith}
+use Rattle.std.proofs.Common.{◌≡◌, ◌<◌, ◌≤◌, inl, inr, ℕ, zero, suc, ◌+◌, ◌-◌, ◌*◌, ◌/◌, ◌%◌, ◌^◌, List, [], ◌∷◌, ◌++◌, length, map, get_or, refl, sym, ap, ◌∙◌, subst, length-append, arith}
 use Rattle.std.specs.Prelude.{◌==◌, if◌then◌else◌}
 use Rattle.std.specs.List.{All}
 use Rattle.std.proofs.Math.Nat.{mod-eq_of_lt}
@@ -7,7 +7,7 @@ use Rattle.std.proofs.Math.Seq.{get_or-append_seam}
 use Rattle.std.proofs.lemmas.Bool.{cases_lt}
 use Rattle.std.proofs.lemmas.List.{length-map, get_or-map, get_or_append_left}
 use Rattle.std.proofs.lemmas.List.Elements.{All-push, All-map, All-weaker, All-get_or}
-use Rattle.std.proofs.lemmas.Nat.{mod-pow-add, pow-add}
+use Rattle.std.proofs.lemmas.Nat.{mod-pow-add, pow-add, pow_below}
 use Rattle.rtl_core.specs.declared.design.Atom.{Atom}
 use Rattle.rtl_core.specs.Netlist.{Netlist}
 use Rattle.rtl_core.specs.ClockStep.{widths, seen}
@@ -45,6 +45,13 @@ halves_word bit x y words k low n small is one other =
     cases_bit (λ (b : ℕ). b ≡ n / 2 ^ low % 2 → (if b == 1 then x else y) ≡ get_or words (k * 2 ^ (low + 1) + n % 2 ^ (low + 1)) 0)
     (λ e. other ∙ ap (λ i. get_or words i 0) (even_place k (2 ^ low) (n % 2 ^ low) ∙ longer_place 0 k low n e))
     (λ e. one ∙ ap (λ i. get_or words i 0) (odd_place k (2 ^ low) (n % 2 ^ low) ∙ longer_place 1 k low n e)) bit small is
+
+-- a list has fewer than 2^64 words
+pub most_bits : (words : List ℕ) (depth : ℕ) → length words ≡ 2 ^ depth → length words < 2 ^ 64 → depth ≤ 64
+most_bits words depth many few = elim (cases_lt 64 depth) [
+  | inl more ↦ absurd (omega (arith, many, few, pow_below 64 depth more))
+  | inr most ↦ most
+]
 
 -- ---- the first level
 

@@ -5,16 +5,16 @@ ghost use Rattle.rtl_core.specs.Netlist.{Netlist};
 ghost use Rattle.rtl_core.specs.ClockStep.{widths};
 ghost use Rattle.rtl_core.specs.Valid.{HasBits, IsBetween};
 ghost use Rattle.rtl_logic.specs.Making.{circuit, IsSound, Makes};
-ghost use Rattle.word_tables.specs.Levels.{constant_of, Halves, IsLevel};
+ghost use Rattle.word_tables.specs.Levels.{no_atom, constant_of, Halves, IsLevel};
 
-use hls_base::refusal::impossible;
 use rtl_core::design::Atom;
 use rtl_logic::logic::Logic;
 use rtl_logic::select::constant;
 use std::alloc::{AllocError, Global};
 
 fn constants(alloc: Global, bits: u8, words: &[u64]) -> Result<Vec<Atom>, AllocError>
-    ensures { IfOk result (λ level. level.items ≡ map (constant_of bits) words.now) }
+    ensures few { length words.now < 2 ^ 64 }
+    ensures level { IfOk result (λ level. level.items ≡ map (constant_of bits) words.now) }
 {
     let mut level = Vec::with_capacity(alloc, words.len())?;
     for word in words {
@@ -67,14 +67,22 @@ fn chosen(
         → IfOk result (λ level. IsLevel (circuit logic.old) (circuit logic.new) depth bits addr words.now depth level.items) }
 {
     let depth = logic.width(addr);
-    if depth > 64 {
-        return Err(impossible());
-    }
     let mut level = constants(alloc, bits, words)?;
     for place in 0..depth {
         level = next_level(alloc, logic, addr, place, &level)?;
     }
     Ok(level)
+}
+
+/// The first word, or 0.
+fn first_word(bits: u8, level: &[Atom]) -> Atom
+    ensures { 0 < length level.now → result ≡ get_or level.now 0 no_atom }
+{
+    if level.is_empty() {
+        constant(bits, 0)
+    } else {
+        level[0]
+    }
 }
 
 /// The word at an address of `depth` bits. There is a word for each address.
@@ -89,8 +97,5 @@ pub fn table_word(
         → IfOk result (λ a. Makes (circuit logic.old) (circuit logic.new) bits a (λ v x. x ≡ get_or words.now (v addr) 0)) }
 {
     let level = chosen(alloc, logic, bits, words, addr)?;
-    if level.is_empty() {
-        return Err(impossible());
-    }
-    Ok(level[0])
+    Ok(first_word(bits, &level))
 }

@@ -1,8 +1,14 @@
-use Rattle.std.proofs.Common.{◌∙◌, map, [], ◌∷◌, ap, arith}
+use Rattle.std.proofs.Common.{◌∙◌, map, length, [], ◌∷◌, sym, ap, arith}
 use Rattle.std.proofs.lemmas.List.{map-append}
 use Rattle.access_ports.specs.Counting.{ops_in, tables_in}
+use Rattle.access_ports.proofs.Loading.{ports_length}
 use Rattle.access_ports.proofs.Reaching.{nodes_more, reaches_as, row_is, rows_more}
 use Rattle.access_ports.proofs.ports.ports_in.Goals as goal
+
+pub reach_all-requires : goal.reach_all-requires
+reach_all-requires c =
+    ap length c.deref.ensures.value ∙ (ap length c.in_ok-row.ensures ∙ ports_length (tables_in c.args.memories.now) c.span.result [] c.ops_of.result.now)
+    ∙ ap length (c.ops_of.ensures ∙ sym c.ops_of-in-loop-node.ensures)
 
 pub loop-node-preserved : goal.loop-node-preserved
 loop-node-preserved c =

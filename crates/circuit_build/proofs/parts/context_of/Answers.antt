@@ -22,7 +22,7 @@ pub returns : goal.returns
 returns c =
     let live = c.args.live in
     let p = plan_in c.args.cfg.now c.args.registers.now live in
-    let counted = c.in_ok-ports.ensures p c.args.registers.now refl in
+    let counted = c.in_ok-ports.ensures.ports p c.args.registers.now refl in
     record {
       cfg_ = refl;
       registers_ = refl;

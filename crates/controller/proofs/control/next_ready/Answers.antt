@@ -16,13 +16,13 @@ returns-then-cycles-eq0 c = λ p names context begun ended.
     let e = circuit c.except.new.logic in
     let f = circuit c.either.new.logic in
     let g = circuit c.either-then-cycles-eq0.new.logic in
-    let cycles = c.in_ok-cycles.ensures p names context in
+    let cycles = c.initial_length-cycles.ensures p names context in
     let ready = c.in_ok-ready.ensures p names d context begun refl in
     let still = c.in_ok-still.ensures p names (λ (x : Cycle). holds x Ready) starts begun ready (start_tells p names d begun) in
     let rest = c.in_ok-rest.ensures p names (λ (x : Cycle). waits_on x Ready) resets still.begun still.carries (reset_tells p names e still.begun) in
     let first = appends_both d e f still.appends rest.appends in
     IfOk-weaker c.either-then-cycles-eq0.result _ _
-    (λ a made. carries_as p names d g 1 a _ (λ (x : Cycle). bit (next_ready p x)) (λ (x : Cycle). ap bit (ready_at_once p x (sym cycles.0 ∙ c.if-cycles-eq0.true)))
+    (λ a made. carries_as p names d g 1 a _ (λ (x : Cycle). bit (next_ready p x)) (λ (x : Cycle). ap bit (ready_at_once p x (sym cycles ∙ c.if-cycles-eq0.true)))
     (made_behind p names d f g 1 a (λ (x : Cycle). bit (is_ending p x || (waits_on x Ready || resets x))) first made))
     (c.either-then-cycles-eq0.ensures p names (is_ending p) (λ (x : Cycle). waits_on x Ready || resets x) rest.begun (tells_later p names d f c.args.ended (is_ending p) first ended) rest.carries)
 
@@ -34,14 +34,14 @@ returns c = λ p names context begun ended.
     let g = circuit c.either-2.new.logic in
     let h = circuit c.either-3.new.logic in
     let k = circuit c.except-2.new.logic in
-    let cycles = c.in_ok-cycles.ensures p names context in
+    let cycles = c.initial_length-cycles.ensures p names context in
     let ready = c.in_ok-ready.ensures p names d context begun refl in
     let still = c.in_ok-still.ensures p names (λ (x : Cycle). holds x Ready) starts begun ready (start_tells p names d begun) in
-    let last = c.in_ok-last.ensures p names context still.begun cycles.0 in
+    let last = c.in_ok-last.ensures p names context still.begun cycles in
     let rest = c.in_ok-rest-2.ensures p names (λ (x : Cycle). waits_on x Ready) (last_initial p) last.begun (tells_later p names e f c.in_ok-still.still (λ (x : Cycle). waits_on x Ready) last.appends still.carries) last.carries in
     let first = appends_both d e g still.appends (appends_both e f g last.appends rest.appends) in
     let goes = c.in_ok-goes.ensures p names (is_ending p) (λ (x : Cycle). waits_on x Ready || last_initial p x) rest.begun (tells_later p names d g c.args.ended (is_ending p) first ended) rest.carries in
     IfOk-weaker c.except-2.result _ _
-    (λ a made. carries_as p names d k 1 a _ (λ (x : Cycle). bit (next_ready p x)) (λ (x : Cycle). ap bit (ready_behind p x (λ e. c.if-cycles-eq0.false (cycles.0 ∙ e))))
+    (λ a made. carries_as p names d k 1 a _ (λ (x : Cycle). bit (next_ready p x)) (λ (x : Cycle). ap bit (ready_behind p x (λ e. c.if-cycles-eq0.false (cycles ∙ e))))
     (made_behind p names d h k 1 a (λ (x : Cycle). bit ((is_ending p x || (waits_on x Ready || last_initial p x)) && not (resets x))) (appends_both d g h first goes.appends) made))
     (c.except-2.ensures p names (λ (x : Cycle). is_ending p x || (waits_on x Ready || last_initial p x)) resets goes.begun goes.carries (reset_tells p names h goes.begun))

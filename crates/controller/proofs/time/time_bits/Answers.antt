@@ -1,9 +1,10 @@
-use Rattle.std.proofs.Common.{sym, ap, ◌∙◌}
+use Rattle.std.proofs.Common.{sym, ap, ◌∙◌, arith}
 use Rattle.datapath.specs.Plans.{Plan, bits_of}
 use Rattle.controller.proofs.time.time_bits.Goals as goal
 
 pub returns : goal.returns
 returns c = λ p names context.
-    let small = (c.in_ok-_cycles.ensures p names context).1 in
-    let greatest = c.greatest_time.ensures p (ap (λ (q : Plan). q.program) context.plan) (sym (ap (λ (q : Plan). q.arrays) context.plan)) (sym (ap (λ (q : Plan). q.kept) context.plan)) small in
+    let arrays = sym (ap (λ (q : Plan). q.arrays) context.plan) in
+    let kept = sym (ap (λ (q : Plan). q.kept) context.plan) in
+    let greatest = c.greatest_time.ensures p (ap (λ (q : Plan). q.program) context.plan) arrays kept (omega (arith, c.args.of.now.start p arrays kept)) in
     (c.bits_of.ensures.value ∙ ap bits_of greatest, c.bits_of.ensures.bound)

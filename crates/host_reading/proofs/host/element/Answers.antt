@@ -1,4 +1,4 @@
-use Rattle.std.proofs.Common.{◌≡◌, ◌∙◌, refl, subst, sym, rules, arith}
+use Rattle.std.proofs.Common.{◌≡◌, ◌∙◌, refl, subst, sym, arith}
 use Rattle.std.specs.Prelude.{length, map, filter}
 use Rattle.std.proofs.lemmas.List.{length-map}
 use Rattle.std.proofs.lemmas.List.Sums.{length-filter, count_by-le-length}

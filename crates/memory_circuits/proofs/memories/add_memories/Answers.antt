@@ -16,6 +16,12 @@ loop-place-init c = record {
   count = ap length c.in_ok-ports.ensures.items;
 }
 
+pub number_of-array-requires : goal.number_of-array-requires
+number_of-array-requires c = omega (arith, c.loop-place-test.true, c.len-count.ensures, c.args.of.now.few.arrays)
+
+pub add_array-requires : goal.add_array-requires
+add_array-requires c = omega (arith, c.number_of-array.ensures, c.loop-place-test.true, c.len-count.ensures)
+
 pub loop-place-preserved : goal.loop-place-preserved
 loop-place-preserved c = record {
   added = λ p names ready empty.
@@ -25,10 +31,10 @@ loop-place-preserved c = record {
       let tables : List (List PortWires) = map (λ ports. ports.items) c.loop-place.ports.items in
       let wires = c.in_ok-add_array.field-0.items in
       let h : AddsFirst p names d e tables = c.loop-place.invariant.added p names ready empty in
-      let at : c.in_ok-array.array.0 ≡ length tables = c.in_ok-array.ensures ∙ (sym c.loop-place.invariant.count ∙ sym (length-map c.loop-place.ports.items (λ ports. ports.items))) in
+      let at : c.number_of-array.result.0 ≡ length tables = c.number_of-array.ensures ∙ (sym c.loop-place.invariant.count ∙ sym (length-map c.loop-place.ports.items (λ ports. ports.items))) in
       let one = c.in_ok-add_array.ensures p names (ready_later p names c.args.of.now c.args.groups.now d e h.extends h.begun ready) (h.only ∙ ap (memory_of p) (sym at)) in
       subst (AddsFirst p names d f) (sym (ap (map (λ ports. ports.items)) c.in_ok-push.ensures.items ∙ map-append (λ ports. ports.items) c.loop-place.ports.items (c.in_ok-add_array.field-0 ∷ [])))
-      (one_added p names d e f c.in_ok-array.array.0 tables wires at h one);
+      (one_added p names d e f c.number_of-array.result.0 tables wires at h one);
   count = ap length c.in_ok-push.ensures.items ∙ (length-append c.loop-place.ports.items (c.in_ok-add_array.field-0 ∷ []) ∙ ap (λ k. k + 1) c.loop-place.invariant.count);
 }
 

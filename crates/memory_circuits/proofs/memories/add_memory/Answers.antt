@@ -1,4 +1,4 @@
-use Rattle.std.proofs.Common.{◌≡◌, ◌∙◌, length, map, ap, sym, subst}
+use Rattle.std.proofs.Common.{◌≡◌, ◌∙◌, length, map, ap, sym, subst, arith}
 use Rattle.std.proofs.lemmas.List.{length-map}
 use Rattle.rtl_core.specs.declared.design.Port.{Port}
 use Rattle.rtl_logic.specs.Making.{circuit}
@@ -8,6 +8,10 @@ use Rattle.memory_circuits.specs.Places.{AddsArray, wires_at}
 use Rattle.memory_circuits.proofs.Stores.{memory_stored, wires_counted}
 use Rattle.memory_circuits.proofs.Arrays.{ready_later, memory_added}
 use Rattle.memory_circuits.proofs.memories.add_memory.Goals as goal
+
+pub set_words-requires : goal.set_words-requires
+set_words-requires c =
+    omega (arith, ap length (c.deref-2.ensures.value ∙ c.in_ok-pins.ensures.words) ∙ wires_counted _ (length c.in_ok-ports.ports.items), c.in_ok-ports.ensures.numbered)
 
 pub returns : goal.returns
 returns c = λ p names ready place at none number.

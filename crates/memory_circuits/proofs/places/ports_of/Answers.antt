@@ -1,7 +1,11 @@
-use Rattle.std.proofs.Common.{◌∙◌}
+use Rattle.std.proofs.Common.{◌∙◌, arith}
 use Rattle.memory_circuits.proofs.Steps.{count_at}
 use Rattle.memory_circuits.proofs.places.ports_of.Goals as goal
 
-pub returns-in-Some : goal.returns-in-Some
-returns-in-Some c = λ p names context.
-    c.in-Some.ensures.lookup.1 ∙ count_at p c.deref.result.now c.args.array.0 _ (c.deref.ensures.value ∙ context.ports_.counts) c.in-Some.ensures.lookup.3.0
+pub index-requires : goal.index-requires
+index-requires c = omega (arith, c.requires, c.args.of.now.numbered.counts)
+
+pub returns : goal.returns
+returns c = λ p names context.
+    c.index.ensures
+    ∙ count_at p c.args.of.now.ports.counts.items c.args.array.0 c.index.result.now context.ports_.counts (omega (arith, c.requires, c.args.of.now.numbered.counts))

@@ -32,5 +32,8 @@ loop-port-preserved c = record {
 pub returns-clause-ports : goal.returns-clause-ports
 returns-clause-ports c = λ p names ready place access. c.loop-port.invariant.made p names ready place access
 
+pub returns-clause-numbered : goal.returns-clause-numbered
+returns-clause-numbered c = omega (arith, c.loop-port.invariant.count)
+
 pub returns-clause-count : goal.returns-clause-count
-returns-clause-count c = λ p names ready. c.loop-port.invariant.count ∙ (let e : c.loop-port.port ≡ c.in_ok-port-end.port-end = omega arith in e ∙ c.in_ok-port-end.ensures p names ready.context)
+returns-clause-count c = λ p names ready. c.loop-port.invariant.count ∙ (let e : c.loop-port.port ≡ c.ports_of-port-end.result = omega arith in e ∙ c.ports_of-port-end.ensures p names ready.context)

@@ -32,4 +32,4 @@ pub returns-clause-ports : goal.returns-clause-ports
 returns-clause-ports c = λ p names elements ready place inside table words. c.loop-port.invariant.made p names elements ready place inside table words
 
 pub returns-clause-count : goal.returns-clause-count
-returns-clause-count c = λ p names ready. c.loop-port.invariant.count ∙ (let e : c.loop-port.port ≡ c.in_ok-port-end.port-end = omega arith in e ∙ c.in_ok-port-end.ensures p names ready.context)
+returns-clause-count c = λ p names ready. c.loop-port.invariant.count ∙ (let e : c.loop-port.port ≡ c.ports_of-port-end.result = omega arith in e ∙ c.ports_of-port-end.ensures p names ready.context)

@@ -18,7 +18,7 @@ loop-port-preserved c = λ p names addresses ready place reads counts.
     let f = circuit c.set_word.new.logic in
     let a = c.args.first.array.0 in
     let n = c.loop-port.port in
-    let within : n < length c.args.words.now = omega (arith, c.in-Ok.ensures) in
+    let within : n < length c.args.words.now = omega (arith, c.counted-port-end.ensures) in
     let there = reads n _ (slice_get-get_or c.args.words.now n _ within) in
     let h : SetsWords p names d e a (take n addresses) = c.loop-port.invariant p names addresses ready place reads counts in
     words_taken p names d e f a n addresses there.0 there.1 h
@@ -26,5 +26,5 @@ loop-port-preserved c = λ p names addresses ready place reads counts.
 
 pub returns : goal.returns
 returns c = λ p names addresses ready place reads counts.
-    let past : length addresses ≤ c.loop-port.port = omega (arith, counts, c.in-Ok.ensures, c.loop-port-test.false) in
+    let past : length addresses ≤ c.loop-port.port = omega (arith, counts, c.counted-port-end.ensures, c.loop-port-test.false) in
     subst (SetsWords p names (circuit c.args.logic.now) (circuit c.loop-port.logic) c.args.first.array.0) (take_all c.loop-port.port addresses past) (c.loop-port.invariant p names addresses ready place reads counts)

@@ -9,7 +9,6 @@ pub returns : goal.returns
 returns c = λ p e counts begun.
     let d = circuit c.args.logic.now in
     let f = circuit c.register_all.new.logic in
-    let cycles = c.initial_cycles.ensures p (sym (ap (λ (q : Plan). q.arrays) e)) (sym (ap (λ (q : Plan). q.kept) e)) in
-    let small : initial_cycles p < 2 ^ 64 = omega (arith, cycles, c.if-initial_cycles-eq18446744073709551615.false) in
+    let small : initial_cycles p < 2 ^ 64 = omega (arith, c.requires.start p (sym (ap (λ (q : Plan). q.arrays) e)) (sym (ap (λ (q : Plan). q.kept) e))) in
     allotted p d f c.in_ok-slots.slots.items (record { roles = c.in_ok-roles.roles; gates = c.lines_for-lines.result.gates; stages = c.lines_for-lines.result.stages }) begun (c.in_ok-slots.ensures p e counts small)
     (subst (λ l. AreRegistered d f l c.in_ok-roles.roles.keys) c.deref.ensures.value c.in_ok-roles.ensures)

@@ -1,4 +1,4 @@
-use Rattle.std.proofs.Common.{List}
+use Rattle.std.proofs.Common.{List, length, ap, arith}
 use Rattle.rtl_core.specs.declared.design.Atom.{Atom}
 use Rattle.rtl_core.specs.Netlist.{Netlist}
 use Rattle.rtl_logic.specs.Making.{circuit}
@@ -6,6 +6,12 @@ use Rattle.circuit_log.specs.declared.role.UnitKind.TheVariants as kinds
 use Rattle.unit_circuits.proofs.Added.{divider_adds, first_pin, second_pin}
 use Rattle.unit_circuits.proofs.Equal.{unit_of_kind}
 use Rattle.unit_circuits.proofs.units.add_divider.Goals as goal
+
+pub index-requires : goal.index-requires
+index-requires c = omega (arith, ap length c.in_ok-pins.ensures.shows)
+
+pub index-requires-2 : goal.index-requires-2
+index-requires-2 c = omega (arith, ap length c.in_ok-pins.ensures.shows)
 
 pub returns-clause-adds : goal.returns-clause-adds
 returns-clause-adds c = λ p names begun kind between inputs starting agree.

@@ -7,10 +7,10 @@ use Rattle.unit_demands.proofs.accesses.give_load.Goals as goal
 
 pub returns : goal.returns
 returns c = λ p names context begun there kind.
-    let port = c.in_ok-port.ensures p names context there (inl (ap is_load kind)) c.in-Some.is in
+    let port = c.port_used-port.ensures p names context there (inl (ap is_load kind)) c.in-Some.is in
     let first = c.in_ok-give_address.ensures p names context begun port in
     IfOk-weaker c.give_refusal.result _ _
     (λ u second.
     load_logged p names (circuit c.args.logic.now) (circuit c.give_address.new.logic) (circuit c.give_refusal.new.logic) c.args.log.now.pushes.items c.give_address.new.log.pushes.items
-    c.give_refusal.new.log.pushes.items c.args.it.now c.in_ok-port.port port first second)
+    c.give_refusal.new.log.pushes.items c.args.it.now c.port_used-port.result port first second)
     (c.give_refusal.ensures p names context first.begun port)

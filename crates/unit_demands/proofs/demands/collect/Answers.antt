@@ -1,10 +1,12 @@
 use Rattle.std.proofs.Common.{◌≡◌, ◌≤◌, ◌<◌, ◌+◌, ◌++◌, List, [], ◌∷◌, length, map, take, slice_get, slice_index_or, Some, sym, ap, ◌∙◌, subst, arith}
-use Rattle.std.proofs.lemmas.List.{take_all, take_more, length-take-le, map-append}
+use Rattle.std.proofs.lemmas.List.{take_all, take_more, length-take-le, map-append, get_or-map}
 use Rattle.std.proofs.lemmas.Option.{slice_get-get_or}
 use Rattle.ir_core.specs.declared.cfg.Node.{Node}
 use Rattle.rtl_logic.specs.Making.{circuit}
 use Rattle.clock_ir.specs.declared.timed.Timed.{Timed}
 use Rattle.datapath.specs.Plans.{Plan}
+use Rattle.access_ports.specs.Counting.{ops_in}
+use Rattle.access_ports.specs.Numbers.{operations_of}
 use Rattle.unit_demands.specs.Collected.{AreOpsOf, CollectsNodes}
 use Rattle.unit_demands.proofs.Collecting.{node_ops, one_node, all_logged}
 use Rattle.unit_demands.proofs.demands.collect.Goals as goal
@@ -49,3 +51,14 @@ node_named-name-requires c =
     let k = c.loop-number.number in
     let inside : k < length nodes = subst (λ (ns : List (Node Timed)). k < length ns) c.deref-node-items.ensures.value c.loop-number-test.true in
     omega (arith, inside, c.args.of.now.few.nodes)
+
+pub collect_node-requires : goal.collect_node-requires
+collect_node-requires c =
+    let nodes = c.args.of.now.cfg.now.nodes.items in
+    let k = c.loop-number.number in
+    let node = c.node-item.result in
+    let inside : k < length nodes = subst (λ (ns : List (Node Timed)). k < length ns) c.deref-node-items.ensures.value c.loop-number-test.true in
+    let node_is : node ≡ slice_index_or nodes k node = rw c.deref-node-items.ensures.value at c.node-item.is in
+    ap length c.ops_of.ensures.own
+    ∙ (ap (λ n. length (ops_in n)) node_is
+    ∙ (sym (get_or-map (λ n. length (ops_in n)) nodes k node 0 inside) ∙ ap (operations_of nodes) (sym c.node_named-name.ensures)))

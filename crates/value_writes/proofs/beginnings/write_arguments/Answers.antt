@@ -16,8 +16,8 @@ loop-number-preserved c = λ p names h begun are taken.
     let d = circuit c.args.logic.now in
     let k = c.loop-number.number in
     let low : k < length p.parameters = subst (λ (vs : List VarId). k < length vs) are c.loop-number-test.true in
-    let value : CarriesSome p names d c.in_ok-value.value (λ (x : Cycle). slice_index x.pins (7 + k)) =
-    subst (λ a. CarriesSome p names d a (λ (x : Cycle). slice_index x.pins (7 + k))) (sym c.in_ok-value.ensures) (argument_carries p names d k begun low) in
+    let value : CarriesSome p names d c.argument-value.result (λ (x : Cycle). slice_index x.pins (7 + k)) =
+    subst (λ a. CarriesSome p names d a (λ (x : Cycle). slice_index x.pins (7 + k))) (sym c.argument-value.ensures) (argument_carries p names d k begun low) in
     logs_numbered p names d d d _ _ _ parameter_entry c.args.variables.now k _ c.loop-number-test.true (c.loop-number.invariant p names h begun are taken)
     (c.in_ok-take.ensures p names is_taken (λ (x : Cycle). slice_index x.pins (7 + k)) h begun taken value)
 

@@ -14,6 +14,9 @@ use Rattle.value_writes.proofs.Pushing.{computed_on, answers_on}
 use Rattle.value_writes.proofs.Standing.{node_count}
 use Rattle.value_writes.proofs.ends.write_ends.Goals as goal
 
+pub named-requires : goal.named-requires
+named-requires c = omega (arith, c.loop-number-test.true, c.len-number-end.ensures, c.args.of.now.few.nodes)
+
 pub loop-number-preserved : goal.loop-number-preserved
 loop-number-preserved c = λ p names h begun computed answers.
     let d = circuit c.args.logic.now in
@@ -26,7 +29,7 @@ loop-number-preserved c = λ p names h begun computed answers.
     let at : slice_get nodes k ≡ Some n = slice_get-get_or nodes k (block no_body (end.Return None)) low in
     let before = c.loop-number.invariant p names h begun computed answers in
     let longer = appended d e before.appends in
-    let named : c.in_ok-named.field-0.0 ≡ k = c.in_ok-named.ensures in
+    let named : c.named.result.0 ≡ k = c.named.ensures in
     let one = c.in_ok-write_node.ensures p names n h before.begun (computed_on p names d e c.args.sources.now.computed.now longer computed) (answers_on p names d e c.args.sources.now.units.now longer answers)
     (ap (slice_get nodes) named ∙ at) in
     logs_numbered_flat p names d e f _ _ _ (end_entries p) nodes k n at before (subst (λ (j : ℕ). Logs p names e f c.loop-number.log.pushes.items c.write_node.new.log.pushes.items (end_entries p (j, n))) named one)

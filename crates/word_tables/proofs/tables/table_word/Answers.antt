@@ -1,5 +1,4 @@
-use Rattle.std.proofs.Common.{length, refl, sym}
-use Rattle.std.proofs.lemmas.Option.{slice_get_read, get_or_from_slice_get}
+use Rattle.std.proofs.Common.{◌≡◌, ◌∙◌, length, get_or, sym, ap, subst, ◌<◌}
 use Rattle.rtl_logic.specs.Making.{circuit}
 use Rattle.word_tables.specs.Levels.{no_atom}
 use Rattle.word_tables.proofs.Leveling.{some_left, word_is}
@@ -13,5 +12,6 @@ returns c = λ depth sound between fit many small.
     let level = c.in_ok-level.level.items in
     let l = c.in_ok-level.ensures depth sound between fit many small in
     let some = some_left d e depth c.args.bits c.args.addr words level l in
-    let first = get_or_from_slice_get level 0 c.index.result.now no_atom (slice_get_read level (length level) 0 c.index.result.now refl some c.index.ensures) in
-    word_is d e depth c.args.bits c.args.addr words level c.index.result.now fit l (sym first)
+    let same : c.deref.result.now ≡ level = c.deref.ensures.value in
+    let first = c.first_word.ensures (subst (λ xs. 0 < length xs) (sym same) some) ∙ ap (λ xs. get_or xs 0 no_atom) same in
+    word_is d e depth c.args.bits c.args.addr words level c.first_word.result fit l first
