@@ -1,6 +1,5 @@
 -- The circuit without what nothing depends on.
 use Rattle.std.proofs.Common.{◌≡◌, ℕ, List, [], ◌∷◌, map, refl, sym, ap, ◌∙◌}
-use Rattle.std.specs.Prelude.{filter, is_none}
 use Rattle.ir_core.specs.declared.cfg.Cfg.{Cfg}
 use Rattle.clock_ir.specs.declared.timed.Timed.{Timed}
 use Rattle.live_variables.specs.declared.live.Live.{Live}

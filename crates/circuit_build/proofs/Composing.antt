@@ -1,7 +1,5 @@
 -- The parts of a circuit, one after another.
-use Rattle.std.proofs.Common.{◌≡◌, ◌<◌, ℕ, zero, suc, ◌+◌, Bool, false, true, List, [], ◌∷◌, ◌++◌, length, map, slice_get, Some, None, refl, sym, ap, subst, ◌∙◌}
-use Rattle.rtl_core.specs.declared.design.Atom.{Atom}
-use Rattle.rtl_core.specs.declared.design.OutPin.{OutPin}
+use Rattle.std.proofs.Common.{◌≡◌, ℕ, zero, suc, ◌+◌, false, true, List, [], ◌∷◌, ◌++◌, length, map, slice_get, Some, refl, sym, ap, subst, ◌∙◌}
 use Rattle.rtl_core.specs.Netlist.{Netlist}
 use Rattle.rtl_core.proofs.Stability.{Extends}
 use Rattle.rtl_logic.specs.Making.{Appends}
@@ -10,7 +8,7 @@ use Rattle.rtl_logic.proofs.Making.{goes_on, appended}
 use Rattle.array_address.specs.AddressWords.{AreShort}
 use Rattle.ir_core.specs.declared.cfg.Memory.{Memory}
 use Rattle.datapath.specs.Plans.{Plan, Array, array_of}
-use Rattle.datapath.specs.Cycles.{Register, Word, Cycle}
+use Rattle.datapath.specs.Cycles.{Register, Word}
 use Rattle.datapath.specs.Values.{arriving}
 use Rattle.circuit_wires.specs.Carrying.{IsBegun}
 use Rattle.circuit_log.specs.declared.role.Role.{Role}
@@ -19,7 +17,6 @@ use Rattle.circuit_log.specs.declared.log.Push.{Push}
 use Rattle.circuit_log.specs.Roles.{named}
 use Rattle.circuit_log.specs.Entries.{Entry, all_entries, all_roles}
 use Rattle.circuit_log.specs.Logs.{ArePushes, Logs}
-use Rattle.circuit_log.specs.Driving.{Seen, AreDriven, AreDistinct}
 use Rattle.register_bank.specs.declared.bank.Bank.{Bank}
 use Rattle.register_bank.specs.Banks.{names_of}
 use Rattle.circuit_context.specs.declared.context.Context.{Context}
@@ -29,8 +26,6 @@ use Rattle.unit_demands.specs.Computed.{AreComputed}
 use Rattle.unit_circuits.specs.declared.units.UnitTable.{UnitTable}
 use Rattle.unit_circuits.specs.Units as units
 use Rattle.unit_circuits.specs.Units.{answer_of, AddsUnits, HasAnswers, registers_of}
-use Rattle.memory_circuits.specs.declared.memories.PortTable.{PortTable}
-use Rattle.memory_circuits.specs.Memories as ports
 use Rattle.memory_circuits.specs.Memories.{AddsMemories, IsOther}
 use Rattle.register_drives.specs.Drives.{StandFor, IsWord, WantAsWritten, AreIdle, DrivesRegisters}
 use Rattle.register_drives.specs.Drives as drives

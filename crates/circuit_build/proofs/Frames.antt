@@ -1,15 +1,14 @@
 -- The pins of a plan are those of its program's frame.
-use Rattle.std.proofs.Common.{◌≡◌, ℕ, Bool, true, false, List, [], ◌∷◌, ◌++◌, map, refl, sym, ap, subst, ◌∙◌}
-use Rattle.std.specs.Prelude.{filter, if◌then◌else◌, slice_index}
-use Rattle.hls_base.specs.declared.number.VarId.{VarId}
+use Rattle.std.proofs.Common.{◌≡◌, ℕ, Bool, true, false, List, [], ◌∷◌, map, refl, sym, ap}
+use Rattle.std.specs.Prelude.{filter, if◌then◌else◌}
 use Rattle.ir_core.specs.declared.cfg.Cfg.{Cfg}
 use Rattle.ir_core.specs.declared.cfg.Memory.{Memory}
 use Rattle.clock_ir.specs.declared.timed.Timed.{Timed}
 use Rattle.live_variables.specs.declared.live.Live.{Live}
 use Rattle.reg_binding.specs.declared.registers.Registers.{Registers}
-use Rattle.rtl_core.specs.Interface.{ArrayShape, Interface, input_pins}
+use Rattle.rtl_core.specs.Interface.{ArrayShape, input_pins}
 use Rattle.host_pins.specs.FramePins.{shape_of, host_memories, scalar_bits, result_bits, interface_of}
-use Rattle.datapath.specs.Plans.{Plan, Array, array_of, interface}
+use Rattle.datapath.specs.Plans.{Array, array_of, interface}
 use Rattle.circuit_wires.specs.Carrying.{IsBegun}
 use Rattle.circuit_build.specs.Making.{begun_with, plan_in}
 

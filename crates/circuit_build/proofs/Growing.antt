@@ -1,22 +1,20 @@
 -- What stays where a circuit gets more registers and wires.
-use Rattle.std.proofs.Common.{◌≡◌, ◌<◌, ◌≤◌, ℕ, zero, suc, ◌+◌, List, [], ◌∷◌, ◌++◌, length, map, take, get_or, slice_get, Some, None, refl, sym, ap, subst, ◌∙◌, append_assoc, arith}
-use Rattle.std.specs.Option.{option_map}
-use Rattle.std.proofs.lemmas.Option.{slice_get-map, none-some, same_Some, slice_get_within}
+use Rattle.std.proofs.Common.{◌≡◌, ◌<◌, ℕ, zero, suc, ◌+◌, List, [], ◌∷◌, ◌++◌, length, map, take, get_or, slice_get, Some, refl, sym, ap, subst, ◌∙◌, arith}
+use Rattle.std.proofs.lemmas.Option.{none-some, same_Some, slice_get_within}
 use Rattle.std.specs.List.{All}
 use Rattle.std.proofs.lemmas.List.{length-map, take_more}
 use Rattle.std.proofs.lemmas.List.Elements.{All-push}
 use Rattle.register_bank.proofs.Naming.{named_apart}
 use Rattle.rtl_core.specs.declared.design.Atom.{Atom}
-use Rattle.rtl_core.specs.declared.design.Port.{Port}
 use Rattle.rtl_core.specs.declared.design.Reg.{Reg}
 use Rattle.rtl_core.specs.Netlist.{Netlist, Memory}
 use Rattle.rtl_core.proofs.Stability.{Extends, get_same}
 use Rattle.rtl_logic.proofs.Making.{fits_later}
 use Rattle.datapath.specs.Plans.{Plan}
-use Rattle.datapath.specs.Cycles.{Register, Signal, Cycle}
-use Rattle.datapath.specs.Circuits.{width, signal_writes, signal_else}
+use Rattle.datapath.specs.Cycles.{Register, Cycle}
+use Rattle.datapath.specs.Circuits.{width}
 use Rattle.datapath.specs.Netlists.{memory_of}
-use Rattle.circuit_wires.specs.Carrying.{IsBegun, Carries, CarriesWanted, AppendsRegisters, idle}
+use Rattle.circuit_wires.specs.Carrying.{IsBegun, AppendsRegisters, idle}
 use Rattle.circuit_wires.proofs.Carrying as carrying
 use Rattle.circuit_wires.proofs.Combining.{moment_same, carries_on}
 use Rattle.circuit_log.specs.declared.role.Role.{Role}
@@ -25,7 +23,7 @@ use Rattle.circuit_log.specs.declared.role.Target.TheVariants as t
 use Rattle.circuit_log.specs.declared.log.Push.{Push}
 use Rattle.circuit_log.specs.Roles.{named}
 use Rattle.circuit_log.specs.Entries.{Entry}
-use Rattle.circuit_log.specs.Logs.{target_bits, IsThere, IsPush, ArePushes, CarriesSome}
+use Rattle.circuit_log.specs.Logs.{target_bits, IsThere, ArePushes, CarriesSome}
 use Rattle.circuit_log.specs.Driving.{Seen, ShowsSignal, IsPort, IsMemory}
 
 -- ---- more registers

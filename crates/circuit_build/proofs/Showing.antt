@@ -1,5 +1,5 @@
 -- What the outputs of a circuit show.
-use Rattle.std.proofs.Common.{◌≡◌, ◌<◌, ℕ, zero, suc, List, [], ◌∷◌, ◌++◌, length, map, slice_get, Some, None, Option, refl, sym, ap, subst, ◌∙◌, arith}
+use Rattle.std.proofs.Common.{◌≡◌, ◌<◌, ℕ, zero, suc, List, ◌∷◌, map, slice_get, Some, None, Option, refl, sym, ap, subst, ◌∙◌, arith}
 use Rattle.std.proofs.lemmas.Option.{same_Some}
 use Rattle.ir_core.specs.declared.cfg.Frame.{Frame}
 use Rattle.rtl_core.specs.declared.design.Atom.{Atom}
@@ -12,13 +12,12 @@ use Rattle.std.specs.Prelude.{codes}
 use Rattle.host_pins.specs.declared.pins.Shown.{Shown}
 use Rattle.host_pins.specs.FramePins.{result_bits, interface_of}
 use Rattle.rtl_logic.proofs.Making.{appended, stays}
-use Rattle.datapath.specs.Plans.{Plan, host_arrays}
-use Rattle.datapath.specs.Cycles.{Register, Ready, Done, Result, Cycle}
+use Rattle.datapath.specs.Plans.{Plan}
+use Rattle.datapath.specs.Cycles.{Register, Ready, Done, Result}
 use Rattle.datapath.specs.Circuits.{width}
 use Rattle.circuit_wires.specs.Carrying.{IsRegister, IsBegun, Carries}
 use Rattle.circuit_wires.proofs.Carrying.{register}
 use Rattle.circuit_wires.proofs.Combining.{moment_same}
-use Rattle.circuit_log.specs.Driving.{ShowsOutputs}
 use Rattle.register_bank.specs.Banks.{names_of}
 use Rattle.circuit_context.specs.declared.context.Context.{Context}
 use Rattle.circuit_context.specs.Contexts.{IsContext}

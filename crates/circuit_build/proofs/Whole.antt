@@ -1,5 +1,5 @@
 -- All parts of a circuit are there.
-use Rattle.std.proofs.Common.{◌≡◌, ◌≤◌, ◌<◌, ℕ, zero, suc, ◌+◌, List, [], ◌∷◌, ◌++◌, length, map, slice_get, Some, None, Option, refl, sym, ap, subst, ◌∙◌, arith}
+use Rattle.std.proofs.Common.{◌≡◌, ◌≤◌, ℕ, zero, suc, ◌+◌, List, [], ◌∷◌, length, map, slice_get, Some, refl, sym, ap, subst, ◌∙◌, arith}
 use Rattle.std.specs.Option.{option_map}
 use Rattle.std.proofs.lemmas.Option.{slice_get-map, none-some, same_Some}
 use Rattle.std.proofs.lemmas.List.{length-map}
@@ -13,7 +13,6 @@ use Rattle.rtl_core.proofs.Stability.{Extends}
 use Rattle.host_pins.specs.FramePins.{interface_of}
 use Rattle.rtl_logic.proofs.Making.{goes_on}
 use Rattle.datapath.specs.Plans.{Plan}
-use Rattle.datapath.specs.Cycles as at_register
 use Rattle.datapath.specs.Cycles.{Register, Word}
 use Rattle.circuit_wires.specs.Carrying.{IsBegun}
 use Rattle.circuit_log.specs.declared.role.UnitRegister.{UnitRegister}
@@ -21,7 +20,6 @@ use Rattle.circuit_log.specs.declared.role.UnitRegister.TheVariants as of_unit
 use Rattle.circuit_log.specs.declared.role.Role.{Role}
 use Rattle.circuit_log.specs.declared.role.Role.TheVariants as role
 use Rattle.circuit_log.specs.Roles.{named, named_of_unit}
-use Rattle.circuit_log.specs.Driving.{Seen, IsDriven}
 use Rattle.register_bank.specs.declared.bank.Bank.{Bank}
 use Rattle.register_bank.specs.Banks.{names_of, IsAllotted}
 use Rattle.circuit_context.specs.declared.context.Context.{Context}
@@ -35,7 +33,7 @@ use Rattle.assembled_circuits.specs.Parts.{whole_names, AreParts}
 use Rattle.circuit_build.specs.declared.parts.Parts.{Parts}
 use Rattle.circuit_build.specs.Making.{begun_with, plan_in, HasContext, CanCompute, HasParts, HasMoves, HasOutputs}
 use Rattle.circuit_build.proofs.Frames.{interface_is, begun_is}
-use Rattle.circuit_build.proofs.Growing.{signal_later, memory_later, appended_idle, first_names}
+use Rattle.circuit_build.proofs.Growing.{signal_later, memory_later, appended_idle}
 
 -- ---- registers of words, and others
 

@@ -1,5 +1,5 @@
 -- How a circuit is made, part by part.
-use Rattle.std.specs.Prelude.{◌≡◌, ℕ, List, [], ◌++◌, length, map, filter, slice_get, Some, None, is_none}
+use Rattle.std.specs.Prelude.{◌≡◌, ℕ, List, [], length, map, filter, slice_get, Some, None, is_none}
 use Rattle.std.specs.List.{range_with_len}
 use Rattle.ir_core.specs.declared.cfg.Cfg.{Cfg}
 use Rattle.ir_core.specs.declared.cfg.Frame.{Frame}

@@ -1,5 +1,5 @@
 -- The outputs of the module of a function.
-use Rattle.std.specs.Prelude.{ℕ, List, [], ◌∷◌, ◌++◌, codes, Option, Some, None}
+use Rattle.std.specs.Prelude.{ℕ, List, [], ◌∷◌, codes, Option, Some, None}
 use Rattle.rtl_core.specs.declared.design.Atom.{Atom}
 use Rattle.rtl_core.specs.declared.design.OutPin.{OutPin}
 use Rattle.host_pins.specs.declared.pins.Shown.{Shown}

@@ -7,21 +7,21 @@ use Rattle.rtl_core.specs.declared.design.Atom.{Atom}
 use Rattle.rtl_core.specs.declared.design.Atom.TheVariants as atom
 use Rattle.rtl_core.specs.declared.design.Reg.{Reg}
 use Rattle.rtl_core.specs.Netlist.{Netlist}
-use Rattle.rtl_core.specs.ClockStep.{State, bit_of, bits_of, seen, widths}
+use Rattle.rtl_core.specs.ClockStep.{bit_of, bits_of, seen, widths}
 use Rattle.rtl_core.specs.Valid.{IsBetween}
 use Rattle.rtl_core.proofs.Stability.{Extends}
 use Rattle.rtl_logic.specs.declared.select.Choice.{Choice}
 use Rattle.rtl_logic.specs.Making.{Appends, with_next_at, next_set, with_next}
 use Rattle.std.specs.List.{All}
-use Rattle.rtl_logic.specs.Choosing.{ChoiceFits, Write, Takes, IsElse, AllWant, is_any_wanted, writes_in, Chooses, IsChoice}
+use Rattle.rtl_logic.specs.Choosing.{ChoiceFits, Write, Takes, is_any_wanted, writes_in, Chooses, IsChoice}
 use Rattle.rtl_logic.proofs.Making.{goes_on, appended, stays}
 use Rattle.datapath.specs.Plans.{Plan}
-use Rattle.datapath.specs.Cycles.{Register, Contents, Signal, in_cycle}
+use Rattle.datapath.specs.Cycles.{Register, in_cycle}
 use Rattle.datapath.specs.Circuits.{width, register_writes}
 use Rattle.circuit_wires.specs.Carrying.{IsMoment, IsBegun, idle}
 use Rattle.circuit_wires.proofs.Carrying.{register}
 use Rattle.circuit_wires.proofs.Combining.{moment_same, begun_after, set_extends, set_begun}
-use Rattle.circuit_log.specs.Driving.{Seen, Follow, behind_edge, IsDriven}
+use Rattle.circuit_log.specs.Driving.{Seen, IsDriven}
 use Rattle.hls_base.specs.declared.number.ArrayId.{ArrayId}
 use Rattle.circuit_log.specs.declared.role.Role.{Role}
 use Rattle.circuit_log.specs.declared.role.Role.TheVariants as role

@@ -1,4 +1,4 @@
-use Rattle.std.proofs.Common.{◌<◌, sym, ap, subst, arith}
+use Rattle.std.proofs.Common.{sym, ap, subst, arith}
 use Rattle.host_pins.specs.declared.pins.Shown.{Shown}
 use Rattle.rtl_logic.specs.Making.{circuit}
 use Rattle.datapath.specs.Plans.{Plan}

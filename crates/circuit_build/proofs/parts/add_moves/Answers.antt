@@ -1,10 +1,9 @@
-use Rattle.std.proofs.Common.{◌++◌, [], sym, subst, refl}
+use Rattle.std.proofs.Common.{[], sym, subst, refl}
 use Rattle.std.proofs.lemmas.Result.{on_ok_weaker}
 use Rattle.rtl_logic.specs.Making.{circuit}
 use Rattle.circuit_wires.specs.Carrying.{IsBegun}
 use Rattle.circuit_log.specs.Entries.{all_entries}
 use Rattle.circuit_log.specs.Logs.{ArePushes}
-use Rattle.register_bank.specs.Banks.{names_of}
 use Rattle.register_drives.specs.Drives.{DrivesRegisters}
 use Rattle.logged_writes.proofs.Logged.{logged_for_registers}
 use Rattle.circuit_build.proofs.Growing.{entry_there}

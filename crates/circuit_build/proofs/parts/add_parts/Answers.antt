@@ -1,4 +1,4 @@
-use Rattle.std.proofs.Common.{◌≡◌, ◌++◌, ◌∙◌, [], refl, ap, subst}
+use Rattle.std.proofs.Common.{◌∙◌, refl, ap, subst}
 use Rattle.std.specs.List.{All}
 use Rattle.array_address.specs.AddressWords.{AreShort}
 use Rattle.datapath.specs.Plans.{Plan}

@@ -1,4 +1,4 @@
-use Rattle.std.proofs.Common.{◌≡◌, ◌<◌, ◌++◌, [], length, slice_index_or, refl, sym, subst, arith}
+use Rattle.std.proofs.Common.{◌<◌, [], length, slice_index_or, refl, sym, subst, arith}
 use Rattle.std.specs.Prelude.{◌^◌}
 use Rattle.std.proofs.lemmas.List.{append-nil}
 use Rattle.ir_core.specs.declared.cfg.Node.{Node}

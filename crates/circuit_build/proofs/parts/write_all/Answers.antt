@@ -1,4 +1,4 @@
-use Rattle.std.proofs.Common.{◌++◌, [], subst}
+use Rattle.std.proofs.Common.{◌++◌, subst}
 use Rattle.std.proofs.lemmas.Result.{on_ok_weaker}
 use Rattle.rtl_logic.specs.Making.{circuit}
 use Rattle.rtl_logic.proofs.Making.{appended}

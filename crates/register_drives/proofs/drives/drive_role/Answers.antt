@@ -2,7 +2,7 @@ use Rattle.std.proofs.Common.{sym, subst, ◌∙◌}
 use Rattle.circuit_log.specs.declared.role.Target.TheVariants as t
 use Rattle.circuit_log.specs.Roles.{named}
 use Rattle.rtl_logic.specs.Making.{circuit}
-use Rattle.register_drives.specs.Drives.{IsWord, DrivesRole}
+use Rattle.register_drives.specs.Drives.{IsWord}
 use Rattle.register_drives.proofs.Driving.{can_drive, role_driven, word_stays, no_word}
 use Rattle.std.proofs.lemmas.Result.{on_ok_weaker}
 use Rattle.register_drives.proofs.drives.drive_role.Goals as goal
