@@ -23,7 +23,7 @@ returns c =
     (subst (λ source. IsCompiled source program index report circuit) (c.items.ensures ∙ c.in_ok-program.ensures.text) c.in-Ok.ensures)
     c.top_of-function.ensures.item c.top_of-function.ensures.body
     (subst (λ elements. IsAgreedRun program index f (argument number ∷ []) elements report circuit final count) c.in_ok-program.ensures.arrays
-    (subst (λ scalars. IsAgreedRun program index f scalars c.in_ok-program.program.inputs.arrays report circuit final count) c.in_ok-program.ensures.scalars c.in-Ok-Some.ensures))
+    (subst (λ scalars. IsAgreedRun program index f scalars c.in_ok-program.program.inputs.arrays report circuit final count) c.in_ok-program.ensures.scalars (rw c.in-Ok-Some.field-0-is at c.in-Ok-Some.ensures)))
     c.in_ok-program.ensures.products s counts returned)
 
 pub run_levels-requires-clause-agrees : goal.run_levels-requires-clause-agrees
