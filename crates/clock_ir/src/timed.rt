@@ -1,3 +1,7 @@
+ghost use Rattle.std.specs.Prelude.{◌≡◌, ◌+◌, nat_le};
+ghost use Rattle.clock_ir.specs.Fits.{is_ready};
+ghost use Rattle.std.proofs.Common.{rules};
+
 use ir_core::stamp::Stamp;
 
 /// The cycle in which an operation starts, counted from the beginning of its block or iteration, and the number of its unit within its class.
@@ -7,7 +11,24 @@ pub struct Timed {
     pub bound: u32,
 }
 
+/// Whether a start is so many cycles behind another one, where it is counted from so many cycles further on.
+fn is_in_time(start: u64, latency: u32, later: u64, further: u64) -> bool
+    ensures { result ≡ nat_le (start + latency) (later + further) }
+{
+    u128::from(start) + u128::from(latency) <= u128::from(later) + u128::from(further)
+}
+
 impl Stamp for Timed {
+    ghost start = { λ one. one.start };
+
+    ghost number = { λ one. one.bound };
+
+    ghost is_ready = { is_ready };
+
+    ghost is_ready_sooner = { Prim.search rules };
+
+    ghost is_ready_onward = { Prim.search rules };
+
     fn time(&self) -> u64 {
         self.start
     }
@@ -17,7 +38,7 @@ impl Stamp for Timed {
     }
 
     fn fits(&self, later: &Self, latency: u32, distance: u32, ii: u32) -> bool {
-        let latest = later.start as u128 + distance as u128 * ii as u128;
-        latest >= self.start as u128 + latency as u128
+        let further = u64::from(ii) * u64::from(distance);
+        is_in_time(self.start, latency, later.start, further)
     }
 }

@@ -11,6 +11,7 @@ use dep_graph::counter::{maker, result_of};
 use hls_base::number::{ArrayId, OpId};
 use ir_core::body::{Body, Op, Operand, Out, Source};
 use ir_core::cfg::Memory;
+use ir_core::stamp::Stamp;
 use ir_operation::timing::{UnitClass, latency, occupancy, unit_class};
 
 /// A body with the time between its iterations, if it is a loop's.
@@ -91,24 +92,20 @@ fn is_early(op: &Op<Timed>) -> bool
 }
 
 impl Flow<'_> {
-    /// Whether an operation that starts at `later`, so many iterations further on, comes so many cycles behind one that starts at `start`. In a block only one iteration counts.
-    fn waits(&self, start: u64, later: u64, cycles: u32, distance: u32) -> bool
-        ensures { result ≡ spec.in_time self.now.interval start later cycles distance }
+    /// Whether an operation, so many iterations further on, comes so many cycles behind another one. In a block only one iteration counts.
+    fn waits(&self, from: Timed, later: Timed, cycles: u32, distance: u32) -> bool
+        ensures { result ≡ spec.in_time self.now.interval from.start later.start cycles distance }
     {
-        let earliest = u128::from(start) + u128::from(cycles);
         match self.interval {
-            Some(interval) => {
-                let further = u64::from(interval) * u64::from(distance);
-                earliest <= u128::from(later) + u128::from(further)
-            }
-            None => distance > 0 || earliest <= u128::from(later),
+            Some(interval) => from.fits(&later, cycles, distance, interval),
+            None => distance > 0 || from.fits(&later, cycles, 0, 0),
         }
     }
 
     /// Whether the value of an operation is there in time.
-    fn is_made(&self, maker: Option<OpId>, later: u64, distance: u32) -> bool
+    fn is_made(&self, maker: Option<OpId>, later: Timed, distance: u32) -> bool
         ensures { result ≡
-            spec.made_in_time self.now.interval (spec.op_at self.now.body.now.ops.items maker) later distance }
+            spec.made_in_time self.now.interval (spec.op_at self.now.body.now.ops.items maker) later.start distance }
     {
         let Some(op) = maker else {
             return true;
@@ -119,20 +116,20 @@ impl Flow<'_> {
         }
         let from = &self.body.ops[index];
         let cycles = latency(from.kind, from.bits);
-        self.waits(from.stamp.start, later, cycles, distance)
+        self.waits(from.stamp, later, cycles, distance)
     }
 
     /// Whether what an operand names is there in time.
-    fn is_there(&self, operand: Operand, later: u64) -> bool
-        ensures { result ≡ spec.operand_in_time self.now.interval self.now.body.now later operand }
+    fn is_there(&self, operand: Operand, later: Timed) -> bool
+        ensures { result ≡ spec.operand_in_time self.now.interval self.now.body.now later.start operand }
     {
         let maker = maker_of(&self.body.outs, operand);
         self.is_made(maker, later, operand.distance)
     }
 
-    fn are_there(&self, operands: &[Operand], later: u64) -> bool
+    fn are_there(&self, operands: &[Operand], later: Timed) -> bool
         ensures { result ≡
-            list_all (spec.operand_in_time self.now.interval self.now.body.now later) operands.now }
+            list_all (spec.operand_in_time self.now.interval self.now.body.now later.start) operands.now }
     {
         for operand in operands {
             if !self.is_there(*operand, later) {
@@ -145,11 +142,11 @@ impl Flow<'_> {
     fn data_is_there(&self, op: &Op<Timed>) -> bool
         ensures { result ≡ spec.data_in_time self.now.interval self.now.body.now op.now }
     {
-        if !self.are_there(op.args.as_slice(), op.stamp.start) {
+        if !self.are_there(op.args.as_slice(), op.stamp) {
             return false;
         }
         match op.guard {
-            Some(guard) => self.is_there(guard, op.stamp.start),
+            Some(guard) => self.is_there(guard, op.stamp),
             None => true,
         }
     }
@@ -158,7 +155,7 @@ impl Flow<'_> {
     fn test_is_there(&self, op: &Op<Timed>) -> bool
         ensures { result ≡ spec.test_in_time self.now.interval self.now.body.now op.now }
     {
-        !is_store(op.kind) || self.is_made(test_maker(self.body.test), op.stamp.start, 0)
+        !is_store(op.kind) || self.is_made(test_maker(self.body.test), op.stamp, 0)
     }
 
     /// Whether an access comes behind another one, so many iterations further on.
@@ -166,7 +163,7 @@ impl Flow<'_> {
         ensures { result ≡
             spec.in_time self.now.interval from.now.stamp.start to.now.stamp.start (spec.gap from.now) distance }
     {
-        self.waits(from.stamp.start, to.stamp.start, gap(from), distance)
+        self.waits(from.stamp, to.stamp, gap(from), distance)
     }
 
     /// The same at a distance that may be negative, where nothing is waited for. One above 65,536 counts as this.
@@ -213,8 +210,8 @@ impl Flow<'_> {
     {
         let held = occupancy(first.kind, first.bits);
         let again = occupancy(second.kind, second.bits);
-        self.waits(first.stamp.start, second.stamp.start, held, 0)
-            && self.waits(second.stamp.start, first.stamp.start, again, 1)
+        self.waits(first.stamp, second.stamp, held, 0)
+            && self.waits(second.stamp, first.stamp, again, 1)
     }
 
     fn units_agree(&self, one: &Op<Timed>, other: &Op<Timed>) -> bool

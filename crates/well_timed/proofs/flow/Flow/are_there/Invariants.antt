@@ -5,4 +5,4 @@ use Rattle.well_timed.proofs.flow.Flow.are_there.Given as goal
 
 abbrev pub invariant-loop-operand : goal.invariant-loop-operand
 invariant-loop-operand l =
-    list_all (operand_in_time l.self.interval l.self.body.now l.later) (drop l.operand-index l.operands) ≡ list_all (operand_in_time l.self.interval l.self.body.now l.later) l.operands
+    list_all (operand_in_time l.self.interval l.self.body.now l.later.start) (drop l.operand-index l.operands) ≡ list_all (operand_in_time l.self.interval l.self.body.now l.later.start) l.operands
