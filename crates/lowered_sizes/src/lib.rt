@@ -1,0 +1,4 @@
+//! How large the blocks of lowered programs are.
+#![tactic(auto)]
+
+pub mod laws;

@@ -1,0 +1,5 @@
+pub mod Outs
+pub mod Joining
+pub mod Merged
+pub mod Iterations
+pub mod Trees

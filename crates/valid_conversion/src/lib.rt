@@ -1,0 +1,4 @@
+//! Conversion keeps trees of blocks valid.
+#![tactic(auto)]
+
+pub mod laws;

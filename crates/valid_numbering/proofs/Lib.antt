@@ -1,0 +1,5 @@
+pub mod Adding
+pub mod Renamed
+pub mod Computed
+pub mod Blocks
+pub mod Trees

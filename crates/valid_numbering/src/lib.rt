@@ -1,0 +1,4 @@
+//! Numbering keeps trees of blocks valid.
+#![tactic(auto)]
+
+pub mod laws;
