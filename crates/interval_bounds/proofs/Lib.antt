@@ -1,8 +1,6 @@
 pub mod Bodies
-pub mod Dealing
 pub mod Nodes
 pub mod Numbers
-pub mod Requests
 pub mod Rules
 pub mod Serving
 pub mod Sound

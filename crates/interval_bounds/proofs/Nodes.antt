@@ -31,8 +31,8 @@ use Rattle.modulo_loop.specs.Rules.{is_store, latency_of, serves_next, next_rule
 use Rattle.interval_bounds.specs.Forward.{NameNodesBelow}
 use Rattle.interval_bounds.proofs.Bodies.{IsEarlier, IsForwardBody}
 use Rattle.interval_bounds.proofs.Numbers.{no_some}
-use Rattle.interval_bounds.proofs.Dealing.{KeysBelow, AreInside, orders_inside}
-use Rattle.interval_bounds.proofs.Requests.{requests_inside}
+use Rattle.unit_binding.proofs.Dealing.{KeysBelow, AreInside, orders_inside}
+use Rattle.unit_binding.proofs.Requests.{requests_inside}
 use Rattle.interval_bounds.proofs.Rules.{store_is, get_within}
 
 -- an edge names nodes below this number

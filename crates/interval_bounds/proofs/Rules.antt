@@ -27,10 +27,11 @@ use Rattle.unit_binding.specs.Binding.{Dealt, order_view, IsBoundBy}
 use Rattle.unit_binding.specs.Times.{edge_constraint, edge_constraints}
 use Rattle.modulo_loop.specs.Rules.{is_store, latency_of, serves_next, next_rules, again_rules, unit_rules, known_first, known_rules, store_rules_from, store_rules, loop_rules, test_maker}
 use Rattle.interval_bounds.specs.Forward.{LeadsForward, GoForward}
-use Rattle.interval_bounds.proofs.Bodies.{IsEarlier, IsForwardBody, ServesByTime}
+use Rattle.unit_binding.proofs.Serving.{ServesByTime}
+use Rattle.interval_bounds.proofs.Bodies.{IsEarlier, IsForwardBody}
 use Rattle.interval_bounds.proofs.Numbers.{some_same, no_some, test_same, numbers_rise}
-use Rattle.interval_bounds.proofs.Dealing.{KeysRise, AllRise, orders_rise}
-use Rattle.interval_bounds.proofs.Requests.{rank_of, number_ranks, requests_climb}
+use Rattle.unit_binding.proofs.Dealing.{KeysRise, AllRise, orders_rise}
+use Rattle.unit_binding.proofs.Requests.{rank_of, number_ranks, requests_climb}
 
 -- ---- edges within an iteration keep their times
 

@@ -8,8 +8,8 @@ use Rattle.std.specs.Ordering.{is_lt, nat_cmp, ordering_then}
 use Rattle.ir_operation.specs.declared.timing.UnitClass.{UnitClass}
 use Rattle.ir_operation.specs.declared.timing.UnitClass.TheVariants as u
 use Rattle.program_times.specs.Timing.{class_order, request_order}
-use Rattle.interval_bounds.proofs.Bodies.{ServesByTime}
-use Rattle.interval_bounds.proofs.Dealing.{same_class_is}
+use Rattle.unit_binding.proofs.Serving.{ServesByTime}
+use Rattle.unit_binding.proofs.Dealing.{same_class_is}
 
 same_number : (x : ℕ) → nat_cmp x x ≡ Equal
 same_number x = by_tests (nat_lt x x) (x == x) refl (eq-eqb x x refl)

@@ -28,7 +28,7 @@ use Rattle.modulo_loop.specs.Rules.{serves_next, next_rules, again_rules, unit_r
 use Rattle.modulo_loop.specs.Lowest.{total_latency}
 use Rattle.interval_bounds.specs.Bounds.{if_shared, holds, all_latencies}
 use Rattle.interval_bounds.proofs.Numbers.{some_same, no_some}
-use Rattle.interval_bounds.proofs.Dealing.{class_is}
+use Rattle.unit_binding.proofs.Dealing.{class_is}
 
 -- ---- an order's rules
 

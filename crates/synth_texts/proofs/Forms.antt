@@ -1,36 +1,21 @@
--- What tests of lists say of each element.
-use Rattle.std.proofs.Common.{◌≡◌, Bool, true, false, List, [], ◌∷◌, map, refl}
-use Rattle.std.specs.Prelude.{◌&&◌}
-use Rattle.std.specs.List.{All, list_all}
-use Rattle.std.proofs.lemmas.List.Elements.{All-cons, All-nil}
-use Rattle.hls_base.specs.declared.point.PointKind.{PointKind}
-use Rattle.hls_base.specs.declared.point.PointKind.TheVariants as kind
-use Rattle.hls_base.specs.Tallies.{same_kind}
+-- Loops of a report and those of its plain form stand at the same points.
+use Rattle.std.proofs.Common.{◌≡◌, List, [], ◌∷◌, map}
+use Rattle.std.specs.List.{All}
+use Rattle.std.proofs.lemmas.List.Elements.{All-cons, All-nil, All-head, All-tail}
+use Rattle.hls_base.specs.declared.point.PointKind.TheVariants.{Body}
 use Rattle.cycle_report.specs.declared.report.LoopRow.{LoopRow}
-use Rattle.cycle_report.specs.declared.report.MemoryRow.{MemoryRow}
 use Rattle.cycle_report.specs.PlainReport.{PlainLoop, loop_of}
-use Rattle.cycle_report.specs.ReportForm.{is_name, IsName}
 
-first_of : (a b : Bool) → (a && b) ≡ true → a ≡ true
-first_of true b e = refl
-first_of false b e = e
+abbrev AtBody : LoopRow → Type 0
+AtBody l = l.point.kind ≡ Body
 
-second_of : (a b : Bool) → (a && b) ≡ true → b ≡ true
-second_of true b e = e
-second_of false b e = let clash : false ≡ true = e in cc
+abbrev PlainAtBody : PlainLoop → Type 0
+PlainAtBody l = l.point.kind ≡ Body
 
-is_body : (k : PointKind) → same_kind k kind.Body ≡ true → k ≡ kind.Body
-is_body kind.Begin e = cc
-is_body kind.Test e = cc
-is_body kind.Body e = refl
-is_body kind.Step e = cc
-is_body kind.End e = cc
-is_body kind.Arm e = cc
+pub plain_bodies : (loops : List LoopRow) → All (λ (l : LoopRow). l.point.kind ≡ Body) loops → All (λ (l : PlainLoop). l.point.kind ≡ Body) (map loop_of loops)
+plain_bodies [] h = All-nil PlainAtBody
+plain_bodies (l ∷ ls) h = All-cons PlainAtBody (loop_of l) (map loop_of ls) (All-head AtBody l ls h) (plain_bodies ls (All-tail AtBody l ls h))
 
-pub all_bodies : (loops : List LoopRow) → list_all (λ (l : LoopRow). same_kind l.point.kind kind.Body) loops ≡ true → All (λ (l : PlainLoop). l.point.kind ≡ kind.Body) (map loop_of loops)
-all_bodies [] e = All-nil _
-all_bodies (l ∷ ls) e = All-cons (λ (p : PlainLoop). p.point.kind ≡ kind.Body) (loop_of l) (map loop_of ls) (is_body l.point.kind (first_of (same_kind l.point.kind kind.Body) _ e)) (all_bodies ls (second_of (same_kind l.point.kind kind.Body) _ e))
-
-pub all_names : (memories : List MemoryRow) → list_all (λ (m : MemoryRow). is_name m.name) memories ≡ true → All (λ (m : MemoryRow). IsName m.name) memories
-all_names [] e = All-nil _
-all_names (m ∷ ms) e = All-cons (λ (r : MemoryRow). IsName r.name) m ms (first_of (is_name m.name) _ e) (all_names ms (second_of (is_name m.name) _ e))
+pub bodies_plain : (loops : List LoopRow) → All (λ (l : PlainLoop). l.point.kind ≡ Body) (map loop_of loops) → All (λ (l : LoopRow). l.point.kind ≡ Body) loops
+bodies_plain [] h = All-nil AtBody
+bodies_plain (l ∷ ls) h = All-cons AtBody l ls (All-head PlainAtBody (loop_of l) (map loop_of ls) h) (bodies_plain ls (All-tail PlainAtBody (loop_of l) (map loop_of ls) h))

@@ -1,8 +1,7 @@
 //! Which reports have a text.
-ghost use Rattle.std.specs.Prelude.{◌≡◌, Bool, ◌&&◌, nat_le, IsTrue, map};
+ghost use Rattle.std.specs.Prelude.{◌≡◌, ◌↔◌, Bool, ◌&&◌, nat_le, IsTrue, map};
 ghost use Rattle.std.specs.List.{All, list_all};
 ghost use Rattle.hls_base.specs.declared.point.PointKind.TheVariants.{Body};
-ghost use Rattle.hls_base.specs.Tallies.{same_kind};
 ghost use Rattle.cycle_report.specs.declared.report.LoopRow.{LoopRow};
 ghost use Rattle.cycle_report.specs.declared.report.MemoryRow.{MemoryRow};
 ghost use Rattle.cycle_report.specs.PlainReport.{plain_of};
@@ -49,39 +48,28 @@ fn is_name(name: &[u8]) -> bool
     }
 }
 
-fn is_body(kind: PointKind) -> bool
-    ensures { result ≡ same_kind kind Body }
-{
-    matches!(kind, PointKind::Body)
-}
-
+/// Whether all points are those of loops' bodies.
 fn stand_at_bodies(loops: &[LoopRow]) -> bool
-    ensures { result ≡ list_all (λ (l : LoopRow). same_kind l.point.kind Body) loops.now }
+    ensures { IsTrue result ↔ All (λ (l : LoopRow). l.point.kind ≡ Body) loops.now }
 {
-    for row in loops {
-        if !is_body(row.point.kind) {
-            return false;
-        }
-    }
-    true
+    loops
+        .iter()
+        .all(|row| matches!(row.point.kind, PointKind::Body))
 }
 
 fn have_names(memories: &[MemoryRow]) -> bool
-    ensures { result ≡ list_all (λ (m : MemoryRow). is_name m.name) memories.now }
+    ensures { IsTrue result ↔ All (λ (m : MemoryRow). IsName m.name) memories.now }
 {
-    for memory in memories {
-        if !is_name(memory.name.items()) {
-            return false;
-        }
-    }
-    true
+    memories.iter().all(|memory| is_name(memory.name.items()))
 }
 
 /// Whether the names and loop points of a report are those of a text.
+#[tactic(auto, using(crate::proofs::Forms::plain_bodies, crate::proofs::Forms::bodies_plain))]
 pub fn has_form(report: &Report) -> bool
     requires { IsName report.now.settings.top → IsSettings report.now.settings }
-    ensures { IsTrue result → HasForm (plain_of report.now) }
+    ensures { IsTrue result ↔ HasForm (plain_of report.now) }
 {
     is_name(report.settings.top.items())
-        && (stand_at_bodies(&report.loops) && have_names(&report.memories))
+        && stand_at_bodies(&report.loops)
+        && have_names(&report.memories)
 }
