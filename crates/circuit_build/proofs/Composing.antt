@@ -1,12 +1,16 @@
 -- The parts of a circuit, one after another.
-use Rattle.std.proofs.Common.{◌≡◌, ℕ, zero, suc, ◌+◌, false, true, List, [], ◌∷◌, ◌++◌, length, map, slice_get, Some, refl, sym, ap, subst, ◌∙◌}
+use Rattle.std.proofs.Common.{◌≡◌, ℕ, zero, suc, ◌+◌, false, true, List, [], ◌∷◌, ◌++◌, length, map, slice_get, slice_index_or, Some, refl, sym, ap, subst, ◌∙◌}
 use Rattle.rtl_core.specs.Netlist.{Netlist}
 use Rattle.rtl_core.proofs.Stability.{Extends}
 use Rattle.rtl_logic.specs.Making.{Appends}
 use Rattle.rtl_logic.specs.Choosing.{AllWant, is_any_wanted}
 use Rattle.rtl_logic.proofs.Making.{goes_on, appended}
 use Rattle.array_address.specs.AddressWords.{AreShort}
+use Rattle.ir_core.specs.declared.cfg.Cfg.{Cfg}
 use Rattle.ir_core.specs.declared.cfg.Memory.{Memory}
+use Rattle.clock_ir.specs.declared.timed.Timed.{Timed}
+use Rattle.program_validity.specs.Programs.{is_consistent}
+use Rattle.program_validity.proofs.Memories.{memory_valid, short_dims}
 use Rattle.datapath.specs.Plans.{Plan, Array, array_of}
 use Rattle.datapath.specs.Cycles.{Register, Word}
 use Rattle.datapath.specs.Values.{arriving}
@@ -35,7 +39,7 @@ use Rattle.logged_writes.specs.Laws.{LoggedForRegisters}
 use Rattle.logged_writes.specs.Roles.{IsOfUnit, HasRegister}
 use Rattle.logged_writes.proofs.Roles.{from_names}
 use Rattle.std.specs.List.{All, AllByRecursion}
-use Rattle.std.proofs.lemmas.Option.{none-some, same_Some}
+use Rattle.std.proofs.lemmas.Option.{none-some, same_Some, slice_get-get_or}
 use Rattle.std.proofs.lemmas.List.Elements.{recursion_from_All}
 use Rattle.logged_writes.proofs.Units.{all_of_units}
 use Rattle.assembled_circuits.specs.Parts.{whole_names}
@@ -138,6 +142,11 @@ drives_behind p names roles d e f appends h = record {
   memories = h.memories ∙ ap (λ (n : Netlist). n.mems) appends.is;
   outputs = h.outputs ∙ ap (λ (n : Netlist). n.outputs) appends.is;
 }
+
+-- no dimension of a valid program is long
+pub all_short : (cfg : Cfg Timed) → is_consistent cfg ≡ true → All (λ m. AreShort m.dims.items) cfg.frame.memories.items
+all_short cfg h = λ k d inside.
+    short_dims (slice_index_or cfg.frame.memories.items k d) (memory_valid cfg k (slice_index_or cfg.frame.memories.items k d) h (slice_get-get_or cfg.frame.memories.items k d inside))
 
 -- the arrays of a plan are those of the program's memories
 pub shorts_are : (memories : List Memory) (arrays : List Array) → arrays ≡ map array_of memories → All (λ m. AreShort m.dims.items) memories

@@ -1,9 +1,7 @@
 -- What stays where a circuit gets more registers and wires.
-use Rattle.std.proofs.Common.{◌≡◌, ◌<◌, ℕ, zero, suc, ◌+◌, List, [], ◌∷◌, ◌++◌, length, map, take, get_or, slice_get, Some, refl, sym, ap, subst, ◌∙◌, arith}
+use Rattle.std.proofs.Common.{◌≡◌, ◌<◌, ℕ, zero, suc, ◌+◌, List, [], ◌∷◌, ◌++◌, length, map, slice_get, Some, refl, sym, ap, subst, ◌∙◌, arith}
 use Rattle.std.proofs.lemmas.Option.{none-some, same_Some, slice_get_within}
-use Rattle.std.specs.List.{All}
-use Rattle.std.proofs.lemmas.List.{length-map, take_more}
-use Rattle.std.proofs.lemmas.List.Elements.{All-push}
+use Rattle.std.proofs.lemmas.List.{length-map}
 use Rattle.register_bank.proofs.Naming.{named_apart}
 use Rattle.rtl_core.specs.declared.design.Atom.{Atom}
 use Rattle.rtl_core.specs.declared.design.Reg.{Reg}
@@ -148,8 +146,3 @@ roles_same (r ∷ one) (q ∷ other) e = joined (roles_same one other (ap tail_o
 
   joined : one ≡ other → r ∷ one ≡ q ∷ other
   joined rest = let first = named_apart r q (same_Some (named r) (named q) (ap (λ l. slice_get l 0) e)) in λ i. first i ∷ rest i
-
--- ---- lists of which the first are looked at
-
-pub all_more : {X : Type 0} (P : X → Type 0) (xs : List X) (i : ℕ) (d : X) → i < length xs → All P (take i xs) → P (get_or xs i d) → All P (take (i + 1) xs)
-all_more P xs i d within h last = subst (All P) (sym (take_more xs i d within)) (All-push P (take i xs) (get_or xs i d) h last)

@@ -8,8 +8,7 @@ ghost use Rattle.rtl_logic.specs.Making.{circuit};
 ghost use Rattle.datapath.specs.Plans.{Plan};
 ghost use Rattle.datapath.specs.Cycles.{Register};
 ghost use Rattle.circuit_wires.specs.Carrying.{IsBegun};
-ghost use Rattle.small_numbers.specs.Small.{HasFewParts};
-ghost use Rattle.register_bank.specs.Banks.{HasShortStart};
+ghost use Rattle.circuit_context.specs.Programs.{IsBuildable};
 ghost use Rattle.circuit_context.specs.Contexts.{IsContext};
 ghost use Rattle.circuit_build.specs.Making.{begun_with, HasOutputs, IsWhole, IsBuilt};
 
@@ -66,8 +65,7 @@ fn wired(
     live: Live,
 ) -> Result<Design, AllocError>
     requires live { IsLiveness (flow_of cfg.now) live }
-    requires few { HasFewParts cfg.now }
-    requires start { HasShortStart cfg.now }
+    requires buildable { IsBuildable cfg.now }
     ensures { IfOk result (λ d. IsWhole cfg.now live registers.now (netlist_of d)) }
 {
     let mut logic = begun(alloc, cfg)?;
@@ -86,8 +84,7 @@ fn pruned(
     live: Live,
 ) -> Result<Design, AllocError>
     requires live { IsLiveness (flow_of cfg.now) live }
-    requires few { HasFewParts cfg.now }
-    requires start { HasShortStart cfg.now }
+    requires buildable { IsBuildable cfg.now }
     ensures built { IfOk result (λ d. IsBuilt cfg.now live registers.now (netlist_of d)) }
     ensures inputs { IfOk result (λ d. d.inputs.items ≡ input_pins (interface_of cfg.now.frame)) }
     ensures outputs { IfOk result (λ d. map outer d.outputs.items ≡ output_pins (interface_of cfg.now.frame)) }
@@ -108,8 +105,7 @@ pub fn build(
     live: Live,
 ) -> Result<Design, AllocError>
     requires live { IsLiveness (flow_of cfg.now) live }
-    requires few { HasFewParts cfg.now }
-    requires start { HasShortStart cfg.now }
+    requires buildable { IsBuildable cfg.now }
     ensures name { IfOk result (λ d. d.name ≡ module_name cfg.now.frame.name) }
     ensures inputs { IfOk result (λ d. d.inputs.items ≡ input_pins (interface_of cfg.now.frame)) }
     ensures outputs { IfOk result (λ d. map outer d.outputs.items ≡ output_pins (interface_of cfg.now.frame)) }

@@ -1,17 +1,15 @@
 //! The parts of a circuit, one after another.
-ghost use Rattle.std.specs.Prelude.{◌≡◌, List, IfOk, OnOk, IsTrue, [], map};
-ghost use Rattle.std.specs.List.{All};
+ghost use Rattle.std.specs.Prelude.{◌≡◌, List, IfOk, OnOk, [], map};
 ghost use Rattle.live_variables.specs.Liveness.{IsLiveness, flow_of};
-ghost use Rattle.array_address.specs.AddressWords.{AreShort};
 ghost use Rattle.rtl_logic.specs.Making.{circuit};
 ghost use Rattle.datapath.specs.Plans.{Plan};
 ghost use Rattle.datapath.specs.Cycles.{Register};
 ghost use Rattle.circuit_wires.specs.Carrying.{IsBegun};
-ghost use Rattle.small_numbers.specs.Small.{HasFewParts};
 ghost use Rattle.circuit_log.specs.Roles.{named};
 ghost use Rattle.circuit_log.specs.Entries.{moves_of, all_entries, all_roles};
 ghost use Rattle.circuit_log.specs.Logs.{Logs};
-ghost use Rattle.register_bank.specs.Banks.{names_of, HasShortStart};
+ghost use Rattle.register_bank.specs.Banks.{names_of};
+ghost use Rattle.circuit_context.specs.Programs.{IsBuildable};
 ghost use Rattle.circuit_context.specs.Contexts.{IsContext};
 ghost use Rattle.unit_demands.specs.Computed.{AreComputed};
 ghost use Rattle.unit_circuits.specs.Units.{HasAnswers};
@@ -27,11 +25,9 @@ use controller::control::write_control;
 use controller::exits::write_exits;
 use controller::loops::write_loops;
 use held_places::places::places_of;
-use hls_base::refusal::impossible;
 use host_reading::host::write_named;
-use ir_core::cfg::{Cfg, Memory};
+use ir_core::cfg::Cfg;
 use live_variables::live::Live;
-use memory_circuits::checks::are_short;
 use memory_circuits::memories::{PortTable, add_memories};
 use reg_binding::registers::Registers;
 use register_bank::bank::allot;
@@ -55,8 +51,7 @@ pub fn context_of<'a>(
     live: Live,
 ) -> Result<Context<'a>, AllocError>
     requires live { IsLiveness (flow_of cfg.now) live }
-    requires few { HasFewParts cfg.now }
-    requires start { HasShortStart cfg.now }
+    requires buildable { IsBuildable cfg.now }
     ensures { IfOk result (λ of. HasContext of cfg.now live registers.now (circuit logic.old) (circuit logic.new)) }
 {
     numbers_are_small(cfg);
@@ -84,18 +79,6 @@ pub struct Parts {
     pub ports: PortTable,
 }
 
-/// Whether no dimension of an array is longer than a subscript of 16 bits can be.
-fn are_all_short(memories: &[Memory]) -> bool
-    ensures { IsTrue result → All (λ m. AreShort m.dims.items) memories.now }
-{
-    for memory in memories {
-        if !are_short(&memory.dims) {
-            return false;
-        }
-    }
-    true
-}
-
 /// Adds all that computes.
 pub fn add_parts(of: &Context<'_>, logic: &mut Logic) -> Result<Parts, AllocError>
     ensures { (p : Plan) → CanCompute p of.now (circuit logic.old) → IfOk result (λ parts. HasParts p of.now.bank (circuit logic.old) (circuit logic.new) parts) }
@@ -105,9 +88,6 @@ pub fn add_parts(of: &Context<'_>, logic: &mut Logic) -> Result<Parts, AllocErro
     let groups = demands.groups(of.alloc)?;
     let units = add_units(of, logic, &groups)?;
     let ports = add_memories(of, logic, &groups)?;
-    if !are_all_short(&of.cfg.frame.memories) {
-        return Err(impossible());
-    }
     Ok(Parts {
         computed,
         units,

@@ -2,3 +2,4 @@ pub mod Telling
 pub mod Standing
 pub mod Chains
 pub mod Addresses
+pub mod Programs

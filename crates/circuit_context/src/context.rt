@@ -1,6 +1,7 @@
 //! A program with times, and what was found for its circuit.
 ghost use Rattle.small_numbers.specs.Small.{HasFewParts};
 ghost use Rattle.register_bank.specs.Banks.{HasShortStart};
+ghost use Rattle.circuit_context.specs.Programs.{IsBuildable, Buildable-prop};
 ghost use Rattle.access_ports.specs.Numbers.{HasPlaces};
 
 use access_ports::ports::PortNumbers;
@@ -27,6 +28,7 @@ pub struct Context<'a> {
     pub ports: PortNumbers,
     pub read: Vec<bool>,
     pub live: Live,
+    ghost buildable: { IsBuildable cfg.now } by { Buildable-prop cfg.now },
     ghost few: { HasFewParts cfg.now },
     ghost start: { HasShortStart cfg.now },
     ghost numbered: { HasPlaces cfg.now.nodes.items cfg.now.frame.memories.items ports },

@@ -9,6 +9,7 @@ ghost use Rattle.ir_lower.specs.Frames.{frame_view};
 ghost use Rattle.rtl_core.specs.Netlist.{netlist_of};
 ghost use Rattle.cycle_report.specs.PlainReport.{plain_of};
 ghost use Rattle.report_rows.specs.Resources.{IsReportable};
+ghost use Rattle.circuit_context.specs.Programs.{IsBuildable};
 ghost use Rattle.compile_steps.specs.Flat.{IsFlatOf};
 ghost use Rattle.compile_steps.specs.Resets.{expanded_frame, AreAddressable, reset_cycles};
 ghost use Rattle.compile_steps.specs.Reports.{allowed_units, IsTimed, EachNodeCounts, IsReportOf, KeepsSettings};
@@ -26,14 +27,14 @@ use ir_core::cfg::Cfg;
 use ir_core::stamp::Untimed;
 use live_variables::live::live_variables;
 use pieces::expanded::Expanded;
+use program_validity::program::consistent;
 use reg_binding::assign::assign;
 use reg_binding::small_times::has_small_times;
-use register_bank::bank::has_short_start;
 use report_rows::costs::formula_of;
 use report_rows::initial::initial_cycles;
 use report_rows::resources::{Resources, is_reportable, resources_of};
 use rtl_core::design::Design;
-use small_numbers::numbers::{has_few_parts, numbers_are_small};
+use small_numbers::numbers::numbers_are_small;
 use std::alloc::{AllocError, Global};
 
 /// A compiled program: its flat form, without times and with them, its circuit, and its report.
@@ -56,12 +57,19 @@ fn units_of(settings: &Settings) -> Units
     }
 }
 
+/// Whether a circuit can be made of a program with times, as it can of each that was compiled.
+fn is_buildable(timed: &Cfg<Timed>) -> bool
+    ensures { IsTrue result ↔ IsBuildable timed.now }
+{
+    consistent(timed) && has_small_times(timed)
+}
+
 /// The circuit of a program with times.
 fn circuit_of(alloc: Global, timed: &Cfg<Timed>) -> Result<Design, AllocError>
     ensures { IfOk result (λ d. HasCircuit timed.now (netlist_of d)) }
 {
     numbers_are_small(timed);
-    if !has_small_times(timed) || !has_few_parts(timed) || !has_short_start(timed) {
+    if !is_buildable(timed) {
         return Err(impossible());
     }
     let live = live_variables(alloc, timed)?;

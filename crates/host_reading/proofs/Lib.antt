@@ -1,3 +1,4 @@
 pub mod Halving
 pub mod Choosing
 pub mod Naming
+pub mod Widths

@@ -1,7 +1,8 @@
 //! The word that the host reads, and which array it named.
-ghost use Rattle.std.specs.Prelude.{◌≡◌, ◌<◌, ◌≤◌, ◌+◌, ◌%◌, ◌^◌, ◌∷◌, [], ℕ, List, IfOk, OnOk};
+ghost use Rattle.std.specs.Prelude.{◌≡◌, ◌<◌, ◌≤◌, ◌+◌, ◌%◌, ◌^◌, ◌∷◌, [], ℕ, List, IfOk, OnOk, length};
 ghost use Rattle.rtl_core.specs.Interface.{select_of};
 ghost use Rattle.rtl_core.specs.Netlist.{Netlist};
+ghost use Rattle.rtl_core.specs.Valid.{IsBetween};
 ghost use Rattle.rtl_logic.specs.Making.{circuit};
 ghost use Rattle.datapath.specs.Plans.{Plan};
 ghost use Rattle.datapath.specs.Cycles.{Register, Named, Word, Cycle};
@@ -19,7 +20,6 @@ use circuit_context::context::Context;
 use circuit_log::log::Log;
 use circuit_log::role::{Role, Target};
 use hls_base::number::ArrayId;
-use hls_base::refusal::impossible;
 use plan_sizes::pins::HOST_SELECT;
 use plan_sizes::sizes::{bits_of, host_memories};
 use rtl_core::design::Atom;
@@ -29,6 +29,7 @@ use std::alloc::AllocError;
 
 /// The word that port 0 of an array took last, in 64 bits.
 fn word(of: &Context<'_>, logic: &mut Logic, array: u32) -> Result<Atom, AllocError>
+    requires { array < length of.now.cfg.now.frame.memories.items }
     ensures { (p : Plan) (names : List Register) → IsContext p names of.now → IsBegun p names (circuit logic.old)
         → IfOk result (λ a. MakesCarrying p names (circuit logic.old) (circuit logic.new) 64 a (λ (c : Cycle). c.regs (Word array 0))) }
 {
@@ -36,15 +37,12 @@ fn word(of: &Context<'_>, logic: &mut Logic, array: u32) -> Result<Atom, AllocEr
         array: ArrayId(array),
         port: 0,
     })?;
-    let bits = logic.width(register);
-    if bits == 0 || bits > 64 {
-        return Err(impossible());
-    }
     logic.resized(register, 64)
 }
 
 /// The words of the first so many arrays.
 fn words(of: &Context<'_>, logic: &mut Logic, count: u32) -> Result<Vec<Atom>, AllocError>
+    requires { count ≤ length of.now.cfg.now.frame.memories.items }
     ensures { (p : Plan) (names : List Register) → IsContext p names of.now → IsBegun p names (circuit logic.old)
         → IfOk result (λ level. MakesWords p names (circuit logic.old) (circuit logic.new) count level.items) }
 {
@@ -77,12 +75,8 @@ fn chosen(of: &Context<'_>, logic: &mut Logic, words: Vec<Atom>) -> Result<Vec<A
         → IfOk result (λ left. MakesLevel p names d (circuit logic.new) (width p Named) left.items) }
 {
     let named = of.register(Role::Named)?;
-    let bits = logic.width(named);
-    if bits > 128 {
-        return Err(impossible());
-    }
     let mut level = words;
-    for bit in 0..bits {
+    for bit in 0..logic.width(named) {
         level = with_bit(of, logic, named, bit, &level)?;
     }
     Ok(level)
@@ -112,12 +106,10 @@ pub fn element(of: &Context<'_>, logic: &mut Logic) -> Result<Atom, AllocError>
 
 /// The low bits of the number that the host names.
 fn selected(logic: &mut Logic, bits: u8) -> Result<Atom, AllocError>
+    requires { IsBetween 1 64 bits }
     ensures { (p : Plan) (names : List Register) → IsBegun p names (circuit logic.old)
         → IfOk result (λ a. MakesCarrying p names (circuit logic.old) (circuit logic.new) bits a (λ (c : Cycle). select_of c.pins % 2 ^ bits)) }
 {
-    if bits == 0 || bits > 5 {
-        return Err(impossible());
-    }
     logic.resized(HOST_SELECT, bits)
 }
 

@@ -6,3 +6,5 @@ pub mod Signals
 pub mod Arrays
 pub mod Outer
 pub mod Steps
+pub mod Times
+pub mod Unstored

@@ -1,12 +1,15 @@
 -- What reaches a memory from outside of a run, and the words of tables.
-use Rattle.std.proofs.Common.{◌≡◌, ◌<◌, ◌≤◌, inl, inr, ℕ, zero, suc, ◌+◌, ◌-◌, ◌*◌, ◌/◌, ◌%◌, ◌^◌, true, false, List, [], map, get_or, slice_get, slice_index, Some, None, refl, sym, ap, ◌∙◌, subst, arith}
+use Rattle.std.proofs.Common.{◌≡◌, ◌<◌, ◌≤◌, inl, inr, ℕ, zero, suc, ◌+◌, ◌-◌, ◌*◌, ◌/◌, ◌%◌, ◌^◌, Bool, true, false, List, [], ◌∷◌, length, map, get_or, slice_get, slice_index, Some, None, refl, sym, ap, ◌∙◌, subst, arith}
 use Rattle.std.specs.Prelude.{◌==◌, ◌&&◌, nat_lt, is_some, if◌then◌else◌}
 use Rattle.std.proofs.Math.Nat.{mod-eq_of_lt, div-eq_of_lt, lt-div-mul-add, div-lt_iff_lt-mul, zero-mod}
 use Rattle.std.proofs.lemmas.Nat.{pow_pos, pow-add}
 use Rattle.std.proofs.lemmas.Bool.{cases_lt, cases_Bool, false≢true, ltb-true, lt-ltb}
 use Rattle.std.proofs.lemmas.Bool.Decides.{eqb_tells}
-use Rattle.std.proofs.lemmas.Option.{get_or_from_slice_get, slice_get-map}
+use Rattle.std.proofs.lemmas.Option.{get_or_from_slice_get, slice_get-map, slice_get_within}
+use Rattle.std.specs.List.{All}
 use Rattle.std.specs.Option.{option_map}
+use Rattle.std.proofs.lemmas.List.Elements.{All-head, All-tail}
+use Rattle.std.proofs.lemmas.Grind.{get_or_default_zero}
 use Rattle.hls_base.specs.ArrayAddress.{addresses}
 use Rattle.block_meaning.specs.FirstContents.{given_at, elements_or_none}
 use Rattle.ir_core.specs.declared.cfg.Memory.{Memory}
@@ -14,7 +17,7 @@ use Rattle.rtl_core.specs.declared.design.Atom.{Atom}
 use Rattle.rtl_core.specs.declared.design.Atom.TheVariants as atom
 use Rattle.rtl_core.specs.Netlist.{Netlist}
 use Rattle.rtl_core.specs.ClockStep.{State, bit_of, widths, input_widths, seen}
-use Rattle.rtl_core.specs.Interface.{address_of, data_of}
+use Rattle.rtl_core.specs.Interface.{select_of, address_of, data_of}
 use Rattle.rtl_core.specs.Valid.{HasBits}
 use Rattle.rtl_core.proofs.Fits.{fit_get}
 use Rattle.rtl_core.proofs.Stability.{get_same}
@@ -29,8 +32,11 @@ use Rattle.circuit_wires.proofs.Combining.{moment_same, begun_after, made_carrie
 use Rattle.circuit_context.specs.declared.context.Context.{Context}
 use Rattle.circuit_context.specs.Contexts.{IsContext}
 use Rattle.register_bank.specs.Banks.{names_of}
+use Rattle.program_validity.specs.Frames.{is_memory}
+use Rattle.program_validity.proofs.Memories.{memory_valid}
 use Rattle.memory_circuits.specs.declared.places.Outside.{Outside}
-use Rattle.memory_circuits.specs.Places.{IsOtherAtom, IsInside, MakesOutside, AreChoices, ReadsWord, AreWordsOf}
+use Rattle.memory_circuits.specs.declared.places.Place.{Place}
+use Rattle.memory_circuits.specs.Places.{IsPlace, IsOtherAtom, IsInside, MakesOutside, ReadsWord, AreWordsOf}
 use Rattle.memory_circuits.proofs.Chosen.{carried_other}
 
 -- ---- registers and arrays of a context
@@ -45,12 +51,19 @@ bank_register p names of a r context is = record {
 pub array_there : (p : Plan) (a : ℕ) (array : Array) → slice_get p.arrays a ≡ Some array → array_at p a ≡ array
 array_there p a array at = get_or_from_slice_get p.arrays a array no_array at
 
+pub array_within : (p : Plan) (a : ℕ) (array : Array) → slice_get p.arrays a ≡ Some array → a < length p.arrays
+array_within p a array at = slice_get_within p.arrays a array at
+
 pub arrays_of : (p : Plan) (names : List Register) (of : Context) → IsContext p names of → p.arrays ≡ map array_of of.cfg.now.frame.memories.items
 arrays_of p names of context = ap (λ (q : Plan). q.arrays) context.plan
 
 pub memory_of_array : (p : Plan) (names : List Register) (of : Context) (a : ℕ) (m : Memory) → IsContext p names of → slice_get of.cfg.now.frame.memories.items a ≡ Some m → slice_get p.arrays a ≡ Some (array_of m)
 memory_of_array p names of a m context at =
     ap (λ l. slice_get l a) (arrays_of p names of context) ∙ (slice_get-map array_of of.cfg.now.frame.memories.items a ∙ ap (option_map array_of) at)
+
+-- each memory of a context's program is valid
+pub valid_there : (of : Context) (a : ℕ) (m : Memory) → slice_get of.cfg.now.frame.memories.items a ≡ Some m → is_memory m ≡ true
+valid_there of a m at = memory_valid of.cfg.now a m of.buildable.valid at
 
 -- ---- what is made one after another
 
@@ -117,6 +130,18 @@ pub resized_carries : (p : Plan) (names : List Register) (d e : Netlist) (n bits
     → MakesCarrying p names d e bits a (λ c. value c % 2 ^ bits)
 resized_carries p names d e n bits of a value begun h made =
     made_carries p names d e bits a (λ v x. x ≡ v of % 2 ^ bits) (λ c. value c % 2 ^ bits) begun made (λ f s pins x signals m shown. shown ∙ ap (λ k. k % 2 ^ bits) (h.value_ f s pins x signals m))
+
+-- the host cannot name an array behind the first 32
+pub never_named : (p : Plan) (names : List Register) (d : Netlist) (array : ℕ) (a : Atom) → IsBegun p names d → slice_get (input_widths d) 4 ≡ Some 5 → 32 ≤ array → a ≡ atom.Constant 1 (0 % 2 ^ 1)
+    → MakesTelling p names d d a (λ (c : Cycle). select_of c.pins == array)
+never_named p names d array a begun pin high is =
+    let none : Tells p names d (atom.Constant 1 0) (λ (c : Cycle). select_of c.pins == array) = record {
+      fits = (refl, (omega arith, omega arith), omega arith);
+      value_ = λ e s pins x signals m. sym (ap bit (apart (slice_index pins 4) (address_low p names d e s pins x 4 5 pin m)));
+    } in
+    there_already p names d 1 a (λ c. bit (select_of c.pins == array)) begun (subst (λ b. Tells p names d b (λ (c : Cycle). select_of c.pins == array)) (sym is) none) where
+      apart : (n : ℕ) → n < 2 ^ 5 → (n == array) ≡ false
+      apart n low = elim (eqb_tells n array) [ inl same ↦ absurd (omega (arith, low, high, same.1)) | inr other ↦ other.0 ]
 
 -- ---- an access from outside
 
@@ -203,6 +228,30 @@ pub inside_later : (p : Plan) (a n : ℕ) → 0 < n → IsInside p a n
 inside_later p a zero h = absurd (omega (arith, h))
 inside_later p a (suc n) h = record { addr = λ c. refl; value = λ c. refl; enable = λ c. refl }
 
+-- ---- words of an array
+
+given_below : (n : ℕ) (places xs : List ℕ) (address : ℕ) → 0 < n → All (λ w. w < n) xs → given_at places xs address 0 < n
+given_below n [] [] address some h = some
+given_below n [] (x ∷ xs) address some h = some
+given_below n (q ∷ places) [] address some h = some
+given_below n (q ∷ places) (x ∷ xs) address some h = chosen (q == address) (All-head (λ w. w < n) x xs h) (given_below n places xs address some (All-tail (λ w. w < n) x xs h)) where
+  chosen : (b : Bool) → x < n → given_at places xs address 0 < n → (if b then x else given_at places xs address 0) < n
+  chosen true this rest = this
+  chosen false this rest = rest
+
+-- elements that fit stand at their addresses
+pub words_placed : (p : Plan) (place : Place) (m : Memory) (elements words : List ℕ) → IsPlace p place → slice_get p.arrays place.array.0 ≡ Some (array_of m) → All (λ w. w < 2 ^ m.bits) elements
+    → length words ≡ 2 ^ place.depth → ((i : ℕ) → get_or words i 0 ≡ given_at (addresses m.dims.items) elements i 0) → AreWordsOf p place.array.0 elements words
+words_placed p place m elements words is at fit count are =
+    let there = array_there p place.array.0 (array_of m) at in
+    let small : All (λ w. w < 2 ^ m.bits) words =
+    λ k d inside. subst (λ w. w < 2 ^ m.bits) (sym (are k) ∙ sym (get_or_default_zero words k d inside)) (given_below (2 ^ m.bits) (addresses m.dims.items) elements k (pow_pos m.bits) fit) in
+    record {
+      count = count ∙ ap (λ k. 2 ^ k) is.depth_;
+      fit = subst (λ (x : Array). All (λ w. w < 2 ^ x.bits) words) (sym there) small;
+      are = λ i. are i ∙ ap (λ (x : Array). given_at (addresses x.dims) elements i 0) (sym there);
+    }
+
 -- ---- tables
 
 -- the word at a table's port
@@ -216,13 +265,13 @@ table_read p names d e a bits elements words address word wide is are made = rec
 }
 
 -- nothing is stored at a port
-pub nothing_stored : (p : Plan) (names : List Register) (d : Netlist) (a n bits : ℕ) (other : Atom) → AreChoices p names d (array_at p a).bits [] (λ c. stored_writes p c a n) → ((c : Cycle) → outside_word p c a n ≡ None)
+pub nothing_stored : (p : Plan) (names : List Register) (d : Netlist) (a n bits : ℕ) (other : Atom) → ((c : Cycle) → stored_writes p c a n ≡ []) → ((c : Cycle) → outside_word p c a n ≡ None)
     → bits ≡ (array_at p a).bits → HasBits (widths d) bits other → CarriesWanted p names d (array_at p a).bits other (λ c. stored_writes p c a n) (λ c. outside_word p c a n)
 nothing_stored p names d a n bits other h none wide fits = record {
   fits = subst (λ k. HasBits (widths d) k other) wide fits;
   value_ = λ e s pins x signals m.
       let c : Cycle = in_cycle x signals pins in
-      subst (λ ws. Takes ws (outside_word p c a n) (seen e s pins other)) (h.are e s pins x signals m)
+      subst (λ ws. Takes ws (outside_word p c a n) (seen e s pins other)) (sym (h c))
       (subst (λ o. Takes [] o (seen e s pins other)) (sym (none c)) (record { wanted = λ y any all. absurd (false≢true any); else_ = λ e. tt }));
 }
 

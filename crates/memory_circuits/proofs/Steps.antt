@@ -1,15 +1,11 @@
 -- Lists that grow, and ports one after another.
-use Rattle.std.proofs.Common.{◌≡◌, ◌<◌, ◌≤◌, inl, inr, ℕ, ◌+◌, ◌^◌, List, [], ◌∷◌, ◌++◌, length, map, take, get_or, slice_get, Option, Some, None, refl, sym, ap, ◌∙◌, subst, arith}
-use Rattle.std.specs.Prelude.{is_some, false}
-use Rattle.std.proofs.lemmas.Bool.{false≢true}
+use Rattle.std.proofs.Common.{◌≡◌, ◌<◌, ◌≤◌, inl, inr, ℕ, ◌+◌, List, [], ◌∷◌, ◌++◌, length, map, take, get_or, slice_get, Some, sym, ap, ◌∙◌, subst, arith}
 use Rattle.std.specs.Result.{IfOk}
-use Rattle.std.specs.List.{All, range_with_len}
+use Rattle.std.specs.List.{range_with_len}
 use Rattle.std.proofs.Common.{Result, Ok, Err}
 use Rattle.std.proofs.lemmas.List.{take_more, take_all, map-append, length-take, length-map}
 use Rattle.std.proofs.lemmas.List.FromFn.{get_or-map-range_with_len, length-map-range_with_len}
-use Rattle.std.proofs.lemmas.List.Elements.{All-push}
 use Rattle.std.proofs.lemmas.Option.{none-some, slice_get_within, get_or_from_slice_get}
-use Rattle.array_address.specs.AddressWords.{AreShort}
 use Rattle.rtl_core.specs.declared.design.Atom.{Atom}
 use Rattle.rtl_core.specs.declared.design.Port.{Port}
 use Rattle.rtl_core.specs.Netlist.{Netlist}
@@ -40,16 +36,6 @@ mapped_all f xs i all past is = is ∙ ap (map f) (take_all i xs past)
 
 pub taken_more : {A : Type 0} (xs : List A) (i : ℕ) (x : A) → slice_get xs i ≡ Some x → take (i + 1) xs ≡ take i xs ++ x ∷ []
 taken_more xs i x at = take_more xs i x (slice_get_within xs i x at) ∙ ap (λ y. take i xs ++ y ∷ []) (get_or_from_slice_get xs i x x at)
-
-pub fits_more : (bits : ℕ) (words : List ℕ) (i d : ℕ) → i < length words → All (λ w. w < 2 ^ bits) (take i words) → get_or words i d < 2 ^ bits → All (λ w. w < 2 ^ bits) (take (i + 1) words)
-fits_more bits words i d within h last = subst (All (λ w. w < 2 ^ bits)) (sym (take_more words i d within)) (All-push (λ w. w < 2 ^ bits) (take i words) (get_or words i d) h last)
-
-short_push : (xs : List ℕ) (x : ℕ) → AreShort xs → x ≤ 65536 → AreShort (xs ++ x ∷ [])
-short_push [] x h k = (k, tt)
-short_push (y ∷ ys) x h k = (h.0, short_push ys x h.1 k)
-
-pub short_more : (dims : List ℕ) (i d : ℕ) → i < length dims → AreShort (take i dims) → get_or dims i d ≤ 65536 → AreShort (take (i + 1) dims)
-short_more dims i d within h last = subst AreShort (sym (take_more dims i d within)) (short_push (take i dims) (get_or dims i d) h last)
 
 pub count_at : (p : Plan) (counts : List ℕ) (a d : ℕ) → counts ≡ map (port_count p) (range_with_len 0 (length p.arrays)) → a < length counts → get_or counts a d ≡ port_count p a
 count_at p counts a d is within =
@@ -109,13 +95,3 @@ words_taken p names d e f a n addresses address at h k =
     let within = slice_get_within addresses n address at in
     let count : n ≡ length (take n addresses) = omega (arith, within, length-take n addresses) in
     subst (SetsWords p names d f a) (sym (taken_more addresses n address at)) (words_more p names d e f a n (take n addresses) address count h k)
-
--- ---- nothing
-
-pub none_left : {A : Type 0} (xs : List A) → length xs ≡ 0 → xs ≡ []
-none_left [] h = refl
-none_left (x ∷ xs) h = absurd (omega (arith, h))
-
-pub none_if : {A : Type 0} (o : Option A) → is_some o ≡ false → o ≡ None
-none_if None h = refl
-none_if (Some x) h = absurd (false≢true (sym h))

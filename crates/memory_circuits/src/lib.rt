@@ -1,7 +1,6 @@
 //! The memories and tables of a circuit, with all that reads and writes them.
 #![tactic(auto)]
 
-pub mod checks;
 pub mod memories;
 pub mod outside;
 pub mod places;

@@ -1,5 +1,6 @@
 //! The memories and tables.
-ghost use Rattle.std.specs.Prelude.{◌≡◌, ◌<◌, ◌∷◌, [], List, IfOk, OnOk, None, Some, length, map, slice_get};
+ghost use Rattle.std.specs.Prelude.{◌≡◌, ◌<◌, ◌∷◌, [], List, IfOk, OnOk, None, Some, true, length, map, slice_get};
+ghost use Rattle.program_validity.specs.Frames.{is_memory};
 ghost use Rattle.rtl_units.specs.Fragments.{grown, memory_with, port_wires, wires_from};
 ghost use Rattle.rtl_logic.specs.Making.{circuit};
 ghost use Rattle.datapath.specs.Plans.{Plan, array_at, array_of};
@@ -24,7 +25,6 @@ use crate::words::set_words;
 use circuit_context::context::Context;
 use circuit_log::log::Groups;
 use hls_base::number::ArrayId;
-use hls_base::refusal::impossible;
 use ir_core::cfg::Memory;
 use rtl_core::design::{Atom, Port};
 use rtl_logic::logic::Logic;
@@ -84,7 +84,8 @@ fn add_memory(
     memory: &Memory,
     first: Place,
 ) -> Result<Vec<PortWires>, AllocError>
-    requires { first.array.0 < length of.now.cfg.now.frame.memories.items }
+    requires there { first.array.0 < length of.now.cfg.now.frame.memories.items }
+    requires valid { is_memory memory.now ≡ true }
     ensures { (p : Plan) (names : List Register) → IsReady p names of.now groups.now (circuit logic.old) → IsPlace p first
         → slice_get p.arrays first.array.0 ≡ Some (array_of memory.now) → (array_at p first.array.0).table ≡ None → length (circuit logic.old).mems ≡ memory_of p first.array.0
         → IfOk result (λ wires. AddsArray p names (circuit logic.old) (circuit logic.new) first.array.0 wires.items) }
@@ -97,26 +98,23 @@ fn add_memory(
     Ok(wires)
 }
 
-/// Adds a table.
+/// Adds a table with these words.
 fn add_table(
     of: &Context<'_>,
     logic: &mut Logic,
     groups: &Groups,
     memory: &Memory,
     first: Place,
+    elements: &[u64],
 ) -> Result<Vec<PortWires>, AllocError>
-    requires { first.array.0 < length of.now.cfg.now.frame.memories.items }
+    requires there { first.array.0 < length of.now.cfg.now.frame.memories.items }
+    requires valid { is_memory memory.now ≡ true }
+    requires table { memory.now.table ≡ Some elements.now }
     ensures { (p : Plan) (names : List Register) → IsReady p names of.now groups.now (circuit logic.old) → IsPlace p first
         → slice_get p.arrays first.array.0 ≡ Some (array_of memory.now) → length (circuit logic.old).mems ≡ memory_of p first.array.0
         → IfOk result (λ wires. AddsArray p names (circuit logic.old) (circuit logic.new) first.array.0 wires.items) }
 {
-    let Some(elements) = &memory.table else {
-        return Err(impossible());
-    };
-    if memory.host || memory.initial.is_some() {
-        return Err(impossible());
-    }
-    let words = words_of(of.alloc, memory, first, elements.items())?;
+    let words = words_of(of.alloc, memory, first, elements)?;
     table_ports(of, logic, groups, first, words.items())
 }
 
@@ -132,9 +130,9 @@ fn add_array(
         → IfOk result (λ wires. AddsArray p names (circuit logic.old) (circuit logic.new) array.0 wires.items) }
 {
     let memory = &of.cfg.frame.memories[array.0 as usize];
-    let first = place_of(memory, array)?;
+    let first = place_of(memory, array);
     match &memory.table {
-        Some(_) => add_table(of, logic, groups, memory, first),
+        Some(elements) => add_table(of, logic, groups, memory, first, elements.items()),
         None => add_memory(of, logic, groups, memory, first),
     }
 }

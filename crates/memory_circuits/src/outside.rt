@@ -1,10 +1,13 @@
 //! What reaches a memory from outside of a run: the host, or the first contents.
-ghost use Rattle.std.specs.Prelude.{◌≡◌, ◌%◌, ◌^◌, ◌&&◌, ◌==◌, nat_lt, ℕ, IfOk, List, Some, false, true, not, slice_get};
+ghost use Rattle.std.specs.Prelude.{◌≡◌, ◌<◌, ◌%◌, ◌^◌, ◌&&◌, ◌==◌, nat_lt, ℕ, IfOk, List, Some, false, true, not, slice_get};
+ghost use Rattle.std.specs.List.{All};
+ghost use Rattle.program_validity.specs.Frames.{is_memory};
 ghost use Rattle.rtl_core.specs.Interface.{enable_of, write_of, select_of, address_of, data_of};
 ghost use Rattle.rtl_core.specs.Valid.{IsBetween};
 ghost use Rattle.rtl_logic.specs.Making.{circuit};
 ghost use Rattle.datapath.specs.Plans.{Plan, array_at, array_of, depth};
 ghost use Rattle.datapath.specs.Cycles.{Register, Cycle, Ready, Time, holds, starts};
+ghost use Rattle.datapath.specs.Control.{time_bits};
 ghost use Rattle.datapath.specs.Ports.{host_writes};
 ghost use Rattle.circuit_wires.specs.Carrying.{IsBegun, MakesCarrying, MakesTelling};
 ghost use Rattle.circuit_context.specs.Contexts.{IsContext};
@@ -15,7 +18,6 @@ use crate::tables::words_of;
 use circuit_context::context::Context;
 use circuit_log::role::Role;
 use hls_base::number::ArrayId;
-use hls_base::refusal::impossible;
 use ir_core::cfg::Memory;
 use plan_sizes::pins::{HOST_ADDRESS, HOST_DATA, HOST_ENABLE, HOST_SELECT, HOST_WRITE, START};
 use rtl_core::design::Atom;
@@ -24,13 +26,13 @@ use rtl_logic::select::constant;
 use std::alloc::AllocError;
 use word_tables::tables::table_word;
 
-/// Whether the host names the array.
+/// Whether the host names the array, one of the first 32.
 fn is_named(logic: &mut Logic, array: ArrayId) -> Result<Atom, AllocError>
     ensures { (p : Plan) (names : List Register) → IsBegun p names (circuit logic.old)
         → IfOk result (λ a. MakesTelling p names (circuit logic.old) (circuit logic.new) a (λ (c : Cycle). select_of c.pins == array.0)) }
 {
     if array.0 >= 32 {
-        return Err(impossible());
+        return Ok(constant(1, 0));
     }
     logic.equal(HOST_SELECT, constant(5, array.0 as u128))
 }
@@ -104,14 +106,10 @@ fn host_access(of: &Context<'_>, logic: &mut Logic, place: Place) -> Result<Outs
 
 /// The low bits of the time.
 fn low_time(of: &Context<'_>, logic: &mut Logic, bits: u8) -> Result<Atom, AllocError>
-    ensures { (p : Plan) (names : List Register) → IsContext p names of.now → IsBegun p names (circuit logic.old) → IsBetween 1 128 bits
+    ensures { (p : Plan) (names : List Register) → IsContext p names of.now → IsBegun p names (circuit logic.old) → 0 < time_bits p → IsBetween 1 128 bits
         → IfOk result (λ a. MakesCarrying p names (circuit logic.old) (circuit logic.new) bits a (λ (c : Cycle). c.regs Time % 2 ^ bits)) }
 {
     let time = of.bank.register(Role::Time)?;
-    let wide = logic.width(time);
-    if wide == 0 || wide > 64 {
-        return Err(impossible());
-    }
     logic.resized(time, bits)
 }
 
@@ -123,6 +121,7 @@ fn first_access(
     place: Place,
     elements: &[u64],
 ) -> Result<Outside, AllocError>
+    requires { All (λ w. w < 2 ^ memory.now.bits) elements.now }
     ensures { (p : Plan) (names : List Register) → IsContext p names of.now → IsBegun p names (circuit logic.old) → IsPlace p place
         → slice_get p.arrays place.array.0 ≡ Some (array_of memory.now) → (array_at p place.array.0).host ≡ false → (array_at p place.array.0).first ≡ Some elements.now
         → IfOk result (λ o. MakesOutside p names (circuit logic.old) (circuit logic.new) place.array.0 o) }
@@ -145,6 +144,7 @@ pub fn outside_access(
     memory: &Memory,
     place: Place,
 ) -> Result<Option<Outside>, AllocError>
+    requires { is_memory memory.now ≡ true }
     ensures { (p : Plan) (names : List Register) → IsContext p names of.now → IsBegun p names (circuit logic.old) → IsPlace p place
         → slice_get p.arrays place.array.0 ≡ Some (array_of memory.now)
         → IfOk result (λ o. MakesAccess p names (circuit logic.old) (circuit logic.new) place.array.0 o) }

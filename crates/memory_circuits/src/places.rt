@@ -1,19 +1,17 @@
 //! The ports of arrays.
-ghost use Rattle.std.specs.Prelude.{◌<◌, ◌^◌, ◌≡◌, ℕ, List, IfOk, Some, length, slice_get};
+ghost use Rattle.std.specs.Prelude.{◌<◌, ◌^◌, ◌≡◌, ℕ, List, Some, true, length, slice_get};
+ghost use Rattle.program_validity.specs.Frames.{is_memory};
 ghost use Rattle.datapath.specs.Plans.{Plan, array_of};
 ghost use Rattle.datapath.specs.Cycles.{Register};
 ghost use Rattle.datapath.specs.Ports.{port_count};
 ghost use Rattle.circuit_context.specs.Contexts.{IsContext};
 ghost use Rattle.memory_circuits.specs.Places.{IsPlace};
 
-use crate::checks::are_short;
 use circuit_context::context::Context;
 use hls_base::number::ArrayId;
-use hls_base::refusal::impossible;
 use ir_core::cfg::Memory;
 use plan_sizes::sizes::depth_log;
 use rtl_core::design::Atom;
-use std::alloc::AllocError;
 
 /// A port of an array, with the bits of the array's words and of its addresses.
 #[derive(Clone, Copy, Debug)]
@@ -41,21 +39,17 @@ pub fn number_of(place: usize) -> ArrayId
 }
 
 /// The first port of an array.
-pub fn place_of(memory: &Memory, array: ArrayId) -> Result<Place, AllocError>
-    ensures place { (p : Plan) → slice_get p.arrays array.0 ≡ Some (array_of memory.now) → IfOk result (IsPlace p) }
-    ensures array { IfOk result (λ place. place.array ≡ array) }
+pub fn place_of(memory: &Memory, array: ArrayId) -> Place
+    requires { is_memory memory.now ≡ true }
+    ensures place { (p : Plan) → slice_get p.arrays array.0 ≡ Some (array_of memory.now) → IsPlace p result }
+    ensures array { result.array ≡ array }
 {
-    let bits = memory.bits;
-    let depth = depth_log(memory);
-    if bits == 0 || bits > 64 || depth == 0 || depth > 16 || !are_short(&memory.dims) {
-        return Err(impossible());
-    }
-    Ok(Place {
+    Place {
         array,
         port: 0,
-        bits,
-        depth,
-    })
+        bits: memory.bits,
+        depth: depth_log(memory),
+    }
 }
 
 /// How many ports an array has.

@@ -1,5 +1,6 @@
 //! Tables of constants, and the first contents of memories.
-ghost use Rattle.std.specs.Prelude.{◌≡◌, ◌<◌, ℕ, IfOk, List, None, Some, length, slice_get, is_some};
+ghost use Rattle.std.specs.Prelude.{◌≡◌, ◌<◌, ◌^◌, ℕ, IfOk, List, None, Some, length, slice_get, is_some};
+ghost use Rattle.std.specs.List.{All};
 ghost use Rattle.block_meaning.specs.FirstContents.{elements_or_none};
 ghost use Rattle.rtl_logic.specs.Making.{circuit};
 ghost use Rattle.datapath.specs.Plans.{Plan, array_at, array_of};
@@ -7,7 +8,6 @@ ghost use Rattle.datapath.specs.Cycles.{Register};
 ghost use Rattle.datapath.specs.Ports.{port_count};
 ghost use Rattle.memory_circuits.specs.Places.{IsReady, IsPlace, IsInside, AreWordsOf, MakesTablePort, MakesTablePorts};
 
-use crate::checks::all_fit;
 use crate::memories::PortWires;
 use crate::places::{Place, ports_of};
 use crate::ports::chosen;
@@ -15,7 +15,6 @@ use crate::words::set_word;
 use circuit_context::context::Context;
 use circuit_log::log::Groups;
 use circuit_log::role::Target;
-use hls_base::refusal::impossible;
 use hls_base::words::Words;
 use ir_core::cfg::Memory;
 use plan_sizes::words::words_by_address;
@@ -31,14 +30,10 @@ pub fn words_of(
     place: Place,
     elements: &[u64],
 ) -> Result<Words, AllocError>
+    requires { All (λ w. w < 2 ^ memory.now.bits) elements.now }
     ensures { (p : Plan) → IsPlace p place → slice_get p.arrays place.array.0 ≡ Some (array_of memory.now) → IfOk result (λ words. AreWordsOf p place.array.0 elements.now words) }
 {
-    let words = words_by_address(alloc, memory, elements, place.depth)?;
-    if all_fit(words.items(), place.bits) {
-        Ok(words)
-    } else {
-        Err(impossible())
-    }
+    words_by_address(alloc, memory, elements, place.depth)
 }
 
 /// A port of a table, at which nothing is stored.
@@ -54,9 +49,6 @@ fn table_port(
         → IfOk result (λ wires. MakesTablePort p names (circuit logic.old) (circuit logic.new) place.array.0 place.port wires) }
 {
     let (array, port) = (place.array, place.port);
-    if !groups.choices(Target::Stored { array, port }).is_empty() {
-        return Err(impossible());
-    }
     let addresses = groups.choices(Target::Address { array, port });
     let address = chosen(of.alloc, logic, place.depth, addresses, None)?;
     let word = table_word(of.alloc, logic, place.bits, words, address)?;

@@ -2,8 +2,10 @@
 use Rattle.std.specs.Prelude.{ℕ, ◌^◌, ◌==◌, ◌&&◌, nat_lt, Bool, List, [], length, Some, None}
 use Rattle.std.specs.List.{list_all}
 use Rattle.hls_base.specs.declared.number.NodeId.{NodeId}
+use Rattle.ir_core.specs.declared.body.Body.{Body}
 use Rattle.ir_core.specs.declared.body.Op.{Op}
 use Rattle.ir_core.specs.declared.body.Operand.{Operand}
+use Rattle.ir_core.specs.declared.body.Out.{Out}
 use Rattle.ir_core.specs.declared.cfg.Cfg.{Cfg}
 use Rattle.ir_core.specs.declared.cfg.End.{End}
 use Rattle.ir_core.specs.declared.cfg.End.TheVariants as end
@@ -14,6 +16,15 @@ use Rattle.program_validity.specs.Frames.{is_frame}
 use Rattle.program_validity.specs.Operands.{is_operand}
 use Rattle.program_validity.specs.Bodies.{is_block_body, is_loop_body}
 use Rattle.program_validity.specs.Targets.{is_left_if}
+
+-- the body of a block or of a loop, and the outs that it carries to its next iteration
+abbrev pub body_in : {S : Type 0} → Node S → Body S
+body_in (node.Plain block) = block.body
+body_in (node.Looped region) = region.body
+
+abbrev pub carried_in : {S : Type 0} → Node S → List Out
+carried_in (node.Plain block) = []
+carried_in (node.Looped region) = region.body.outs.items
 
 -- one of so many nodes
 abbrev pub is_node : ℕ → NodeId → Bool
@@ -44,8 +55,10 @@ is_valid_node f count (node.Looped region) = is_loop_body f region.body && is_no
 abbrev pub are_nodes : {S : Type 0} → Cfg S → Bool
 are_nodes cfg = list_all (is_valid_node cfg.frame (length cfg.nodes.items)) cfg.nodes.items
 
--- What names something names what is there, widths agree, and control goes on behind loops at their Ends.
+-- What names something names what is there, and widths agree.
+abbrev pub is_consistent : {S : Type 0} → Cfg S → Bool
+is_consistent cfg = (nat_lt (length cfg.nodes.items) (2 ^ 32) && is_frame cfg.frame) && (is_node (length cfg.nodes.items) cfg.first && are_nodes cfg)
+
+-- So it is, and control goes on behind loops at their Ends.
 abbrev pub is_valid : {S : Type 0} → Cfg S → Bool
-is_valid cfg =
-    (nat_lt (length cfg.nodes.items) (2 ^ 32) && is_frame cfg.frame)
-    && ((is_node (length cfg.nodes.items) cfg.first && are_nodes cfg) && list_all (is_left_if cfg) cfg.nodes.items)
+is_valid cfg = is_consistent cfg && list_all (is_left_if cfg) cfg.nodes.items

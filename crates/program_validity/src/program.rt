@@ -84,13 +84,19 @@ fn are_nodes<S: Stamp>(cfg: &Cfg<S>) -> bool
     true
 }
 
-/// Whether a program is valid, with times or without. Takes no memory.
-pub fn valid<S: Stamp>(cfg: &Cfg<S>) -> bool
-    ensures { result ≡ spec.is_valid cfg.now }
+/// Whether what a program names is there and widths agree, with times or without. Takes no memory.
+pub fn consistent<S: Stamp>(cfg: &Cfg<S>) -> bool
+    ensures { result ≡ spec.is_consistent cfg.now }
 {
     are_few(cfg.nodes.len())
         && is_frame(&cfg.frame)
         && is_node(cfg.nodes.len(), cfg.first)
         && are_nodes(cfg)
-        && are_left(cfg)
+}
+
+/// Whether a program is valid, with times or without. Takes no memory.
+pub fn valid<S: Stamp>(cfg: &Cfg<S>) -> bool
+    ensures { result ≡ spec.is_valid cfg.now }
+{
+    consistent(cfg) && are_left(cfg)
 }

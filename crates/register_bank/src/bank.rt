@@ -1,5 +1,5 @@
 //! The registers of a circuit, each for one thing.
-ghost use Rattle.std.specs.Prelude.{◌≡◌, ◌<◌, ◌^◌, ◌∷◌, ◌++◌, [], length, map, IfOk, OnOk, IsTrue};
+ghost use Rattle.std.specs.Prelude.{◌≡◌, ◌<◌, ◌^◌, ◌∷◌, ◌++◌, [], length, map, IfOk, OnOk};
 ghost use Rattle.datapath.specs.Plans.{Plan};
 ghost use Rattle.rtl_logic.specs.Making.{circuit};
 ghost use Rattle.circuit_wires.specs.Carrying.{IsBegun, IsRegister};
@@ -15,7 +15,6 @@ use clock_ir::timed::Timed;
 use hls_base::refusal::impossible;
 use indexmap::IndexSet;
 use ir_core::cfg::Cfg;
-use plan_sizes::sizes::initial_cycles;
 use reg_binding::registers::Registers;
 use rtl_core::design::Atom;
 use rtl_logic::logic::Logic;
@@ -68,13 +67,6 @@ fn register_all(
         let _register = logic.register(slot.bits)?;
     }
     Ok(roles)
-}
-
-/// Whether the cycles of the initial sequence can be counted in 64 bits.
-pub fn has_short_start(cfg: &Cfg<Timed>) -> bool
-    ensures { IsTrue result → HasShortStart cfg.now }
-{
-    initial_cycles(cfg) < u64::MAX
 }
 
 /// Appends the registers of a program, but for those of shared units. Each keeps what it has.

@@ -11,3 +11,4 @@ mod Dividers
 mod Unsigned
 mod Signed
 mod Added
+pub mod Widths

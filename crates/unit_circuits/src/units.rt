@@ -1,5 +1,6 @@
 //! The multipliers and dividers that operations share.
 ghost use Rattle.std.specs.Prelude.{◌≡◌, ◌++◌, ◌∷◌, ℕ, [], List, Bool, true, false, not, map, IfOk};
+ghost use Rattle.std.specs.List.{All};
 ghost use Rattle.rtl_core.specs.Netlist.{Netlist};
 ghost use Rattle.rtl_core.specs.Valid.{IsBetween};
 ghost use Rattle.rtl_units.specs.Division.{is_unsigned};
@@ -10,6 +11,7 @@ ghost use Rattle.datapath.specs.Cycles.{Register, Cycle};
 ghost use Rattle.datapath.specs.Units.{argument_writes, has_signs, is_dividing};
 ghost use Rattle.circuit_wires.specs.Carrying.{IsBegun, Tells, MakesTelling};
 ghost use Rattle.circuit_log.specs.declared.log.Push.{Push};
+ghost use Rattle.circuit_log.specs.declared.role.SharedUnit.{SharedUnit};
 ghost use Rattle.circuit_log.specs.declared.role.Target.{Target};
 ghost use Rattle.circuit_log.specs.Roles.{class_of, given, choices_of};
 ghost use Rattle.circuit_log.specs.Entries.{all_demands};
@@ -194,14 +196,12 @@ fn add_division(
     groups: &Groups,
     division: UnitUse,
 ) -> Result<UnitWires, AllocError>
+    requires { IsBetween 32 64 division.unit.bits }
     ensures adds { (p : Plan) (names : List Register) → AreDemands p names (circuit logic.old) groups.now → division.unit.kind ≡ UnitKind.Divider → division.signed ≡ signs_of p division.unit
         → IfOk result (AddsOne p names (circuit logic.old) (circuit logic.new)) }
     ensures unit { IfOk result (λ w. w.unit ≡ division.unit) }
 {
     let unit = division.unit;
-    if unit.bits < 32 || unit.bits > 64 {
-        return Err(impossible());
-    }
     let start = starts(alloc, logic, groups, unit)?;
     let given = inputs(alloc, logic, groups, unit)?;
     if is_zero(given.signed) == division.signed {
@@ -216,13 +216,11 @@ fn add_multiplication(
     groups: &Groups,
     unit: SharedUnit,
 ) -> Result<UnitWires, AllocError>
+    requires { IsBetween 32 64 unit.bits }
     ensures adds { (p : Plan) (names : List Register) → AreDemands p names (circuit logic.old) groups.now → unit.kind ≡ UnitKind.Multiplier
         → IfOk result (AddsOne p names (circuit logic.old) (circuit logic.new)) }
     ensures unit { IfOk result (λ w. w.unit ≡ unit) }
 {
-    if unit.bits < 1 || unit.bits > 64 {
-        return Err(impossible());
-    }
     let given = inputs(alloc, logic, groups, unit)?;
     add_multiplier(alloc, logic, unit, given)
 }
@@ -233,6 +231,7 @@ fn add_unit(
     groups: &Groups,
     shared: UnitUse,
 ) -> Result<UnitWires, AllocError>
+    requires { IsBetween 32 64 shared.unit.bits }
     ensures adds { (p : Plan) (names : List Register) → AreDemands p names (circuit logic.old) groups.now → shared.signed ≡ signs_of p shared.unit
         → IfOk result (AddsOne p names (circuit logic.old) (circuit logic.new)) }
     ensures unit { IfOk result (λ w. w.unit ≡ shared.unit) }
@@ -250,6 +249,7 @@ fn add_each(
     units: &[SharedUnit],
     uses: &[UnitUse],
 ) -> Result<Vec<UnitWires>, AllocError>
+    requires { All (λ (unit : SharedUnit). IsBetween 32 64 unit.bits) units.now }
     ensures adds { (p : Plan) (names : List Register) → AreDemands p names (circuit logic.old) groups.now → AreSigns p uses.now
         → IfOk result (λ wires. Adds p names (circuit logic.old) (circuit logic.new) wires.items) }
     ensures units { IfOk result (λ wires. map (λ (w : UnitWires). w.unit) wires.items ≡ units.now) }

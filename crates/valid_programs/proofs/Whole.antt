@@ -27,7 +27,7 @@ use Rattle.program_validity.specs.Widths.{is_word_of}
 use Rattle.program_validity.specs.Frames.{are_variables, is_kept, is_frame}
 use Rattle.program_validity.specs.Operations.{accesses_in, acts, memory_of, computes, is_operation}
 use Rattle.program_validity.specs.Bodies.{are_operations, is_set, is_out, is_body}
-use Rattle.program_validity.specs.Programs.{is_valid_node, is_valid}
+use Rattle.program_validity.specs.Programs.{is_valid_node, is_consistent, is_valid}
 
 -- ---- tests that hold
 
@@ -125,10 +125,11 @@ node_there f count (node.Plain block) h = body_there f [] block.body (second_of_
 node_there f count (node.Looped region) h = body_there f region.body.outs.items region.body (first_of_both _ _ (first_of_both _ _ (first_of_both _ _ h)))
 
 pub whole : (cfg : Cfg Untimed) → is_valid cfg ≡ true → IsWhole cfg
-whole cfg h =
+whole cfg valid =
     let f = cfg.frame in
+    let h : is_consistent cfg ≡ true = first_of_both _ _ valid in
     let frame : is_frame f ≡ true = second_of_both _ _ (first_of_both _ _ h) in
-    let nodes = second_of_both _ _ (first_of_both _ _ (second_of_both _ _ h)) in
+    let nodes = second_of_both _ _ (second_of_both _ _ h) in
     let named = first_of_both _ _ (second_of_both _ _ (second_of_both _ _ frame)) in
     let at = λ (i : ℕ) (it : Node Untimed) (e : slice_get cfg.nodes.items i ≡ Some it). node_there f (length cfg.nodes.items) it (each (is_valid_node f (length cfg.nodes.items)) cfg.nodes.items i it nodes e) in
     record {

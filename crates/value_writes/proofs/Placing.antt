@@ -2,7 +2,7 @@
 use Rattle.std.proofs.Common.{◌≡◌, ℕ, zero, suc, Bool, true, false, List, [], ◌∷◌, slice_get, Option, Some, None, refl, sym, ap, ◌∙◌, arith}
 use Rattle.std.specs.Prelude.{nat_lt, not, ◌&&◌, ◌==◌, if◌then◌else◌}
 use Rattle.std.proofs.Math.Dec.{eqb-suc-zero}
-use Rattle.std.proofs.lemmas.Bool.{le-ltb}
+use Rattle.std.proofs.lemmas.Bool.{le-ltb, ne_eqb}
 use Rattle.hls_base.specs.declared.number.VarId.{VarId}
 use Rattle.ir_core.specs.declared.body.Out.{Out}
 use Rattle.ir_core.specs.declared.cfg.Block.{Block}
@@ -83,6 +83,12 @@ pub loaded : (h : Held) (entry : Option VarId) (v : VarId) → entry ≡ Some v 
 loaded h entry v is first =
     sym (ap (λ (e : Option VarId). load_entries h (number_of e)) is
     ∙ ap (λ n. if n == 0 then register_entry (role.Value h.register) (λ c. where_ (holds c (Load h.node.0)) (c.regs (Variable v.0))) ∷ [] else []) first)
+
+-- only the first place takes it
+pub loads_no_more : (h : Held) (entry : Option VarId) (v : VarId) → entry ≡ Some v → (h.place ≡ 0 → ⊥) → load_entries h (number_of entry) ≡ []
+loads_no_more h entry v is later =
+    ap (λ (e : Option VarId). load_entries h (number_of e)) is
+    ∙ ap (λ b. if b then register_entry (role.Value h.register) (λ c. where_ (holds c (Load h.node.0)) (c.regs (Variable v.0))) ∷ [] else []) (ne_eqb h.place 0 later)
 
 pub block_held : (p : Plan) (h : Held) (n : Node Timed) (b : Block Timed) → slice_get p.program.nodes h.node.0 ≡ Some (timed_node n) → n ≡ node.Plain b
     → register_entry (role.Value h.register) (λ c. where_ (at p c h.node.0 (arrival p h)) (arriving p c h.node.0 h.op.0)) ∷ [] ≡ held_entries p h

@@ -1,6 +1,4 @@
-use Rattle.std.proofs.Common.{◌∙◌, refl, ap, subst}
-use Rattle.std.specs.List.{All}
-use Rattle.array_address.specs.AddressWords.{AreShort}
+use Rattle.std.proofs.Common.{◌∙◌, ap}
 use Rattle.datapath.specs.Plans.{Plan}
 use Rattle.rtl_core.specs.Netlist.{Netlist}
 use Rattle.rtl_logic.specs.Making.{circuit}
@@ -10,7 +8,7 @@ use Rattle.unit_circuits.specs.Units.{registers_of}
 use Rattle.assembled_circuits.specs.Parts.{whole_names}
 use Rattle.assembled_circuits.proofs.Distinct.{whole_distinct}
 use Rattle.circuit_build.proofs.Growing.{pushes_more}
-use Rattle.circuit_build.proofs.Composing.{all_pushed, context_more, parts_are, shorts_are}
+use Rattle.circuit_build.proofs.Composing.{all_pushed, context_more, parts_are, all_short, shorts_are}
 use Rattle.circuit_build.proofs.parts.add_parts.Goals as goal
 
 pub returns : goal.returns
@@ -36,4 +34,4 @@ returns c = λ p can.
     parts_are p bank d d1 d2 e (record { computed = c.in_ok-computed.computed; units = table; ports = c.in_ok-ports.ports }) logs.begun logs.appends u answers m
     (c.in_ok-computed.ensures.computed p names can.context can.begun) can.names
     (shorts_are of.cfg.now.frame.memories.items p.arrays (ap (λ (q : Plan). q.arrays) can.context.plan)
-    (subst (All (λ m. AreShort m.dims.items)) c.deref.ensures.value (c.if-not-are_all_short.ensures refl)))
+    (all_short of.cfg.now of.buildable.valid))

@@ -8,6 +8,7 @@ use Rattle.small_numbers.specs.Small as small
 use Rattle.access_ports.specs.Counting as ports
 use Rattle.register_bank.specs.Banks.{names_of, ArePortCounts}
 use Rattle.held_places.specs.Tables.{ArePlaces}
+use Rattle.circuit_context.proofs.Programs.{few_parts, short_start}
 use Rattle.circuit_build.specs.Making.{plan_in}
 use Rattle.circuit_build.proofs.parts.context_of.Goals as goal
 
@@ -16,7 +17,25 @@ fewer (node.Plain b) few = omega (arith, few)
 fewer (node.Looped r) few = omega (arith, few)
 
 pub ports_of-requires : goal.ports_of-requires
-ports_of-requires c = λ k d inside. fewer (slice_index_or c.args.cfg.now.nodes.items k d) (c.requires.few.operations k d inside)
+ports_of-requires c = λ k d inside. fewer (slice_index_or c.args.cfg.now.nodes.items k d) ((few_parts c.args.cfg.now c.requires.buildable).operations k d inside)
+
+pub allot-requires-clause-nodes : goal.allot-requires-clause-nodes
+allot-requires-clause-nodes c = (few_parts c.args.cfg.now c.requires.buildable).nodes
+
+pub allot-requires-clause-variables : goal.allot-requires-clause-variables
+allot-requires-clause-variables c = (few_parts c.args.cfg.now c.requires.buildable).variables
+
+pub allot-requires-clause-arrays : goal.allot-requires-clause-arrays
+allot-requires-clause-arrays c = (few_parts c.args.cfg.now c.requires.buildable).arrays
+
+pub allot-requires-clause-start : goal.allot-requires-clause-start
+allot-requires-clause-start c = short_start c.args.cfg.now c.requires.buildable.valid
+
+pub invariant_of-result-clause-few : goal.invariant_of-result-clause-few
+invariant_of-result-clause-few c = few_parts c.args.cfg.now c.requires.buildable
+
+pub invariant_of-result-clause-start : goal.invariant_of-result-clause-start
+invariant_of-result-clause-start c = short_start c.args.cfg.now c.requires.buildable.valid
 
 pub returns : goal.returns
 returns c =

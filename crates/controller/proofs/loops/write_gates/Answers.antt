@@ -1,11 +1,12 @@
-use Rattle.std.proofs.Common.{◌-◌}
+use Rattle.std.proofs.Common.{◌-◌, sym, subst}
 use Rattle.std.proofs.lemmas.Result.{on_ok_weaker}
 use Rattle.rtl_logic.specs.Making.{circuit}
 use Rattle.datapath.specs.Cycles.{Cycle}
 use Rattle.datapath.specs.Control.{is_loading, is_any_tested}
-use Rattle.circuit_log.specs.Entries.{moves_of}
+use Rattle.circuit_log.specs.Entries.{moves_of, gate_entries}
 use Rattle.circuit_log.specs.declared.role.Target.TheVariants as t
-use Rattle.circuit_log.proofs.Joining.{logs_then, logs_behind}
+use Rattle.circuit_log.specs.Logs.{Logs}
+use Rattle.circuit_log.proofs.Joining.{logs_none, logs_then, logs_behind}
 use Rattle.controller.specs.Gathered.{is_asked, moved_entries}
 use Rattle.controller.proofs.Gathered.{tested_asked}
 use Rattle.controller.proofs.Telling.{one_tells, tells_as}
@@ -32,3 +33,9 @@ returns c = λ p names pushes context begun are holds_ load.
     (λ h. logs_as p names d e before after _ _ (all_gates p c.args.of.now.bank.gates c.if-of-eq0.false)
     (logs_then p names d d e before middle after _ (moved_entries (is_any_tested p) (c.args.of.now.bank.gates - 1)) first (logs_behind p names d e e middle after _ tested.appends h)))
     (c.write_earlier.ensures p names e (is_any_tested p) context tested.begun tells)
+
+pub returns-then-of-eq0 : goal.returns-then-of-eq0
+returns-then-of-eq0 c = λ p names pushes context begun are holds_ loading.
+    let d = circuit c.args.logic.now in
+    let l = c.args.log.now.pushes.items in
+    subst (λ n. Logs p names d d l l (gate_entries p n)) (sym c.if-of-eq0.true) (logs_none p names d l begun)

@@ -1,3 +1,5 @@
+use Rattle.circuit_log.specs.Logs.{Logs}
+use Rattle.circuit_log.proofs.Joining.{logs_none}
 use Rattle.std.proofs.Common.{sym, subst}
 use Rattle.std.proofs.lemmas.Result.{on_ok_weaker}
 use Rattle.rtl_logic.specs.Making.{circuit}
@@ -26,3 +28,9 @@ returns c = λ p names context begun load.
     on_ok_weaker c.write_each_stage.result
     (λ h. logs_behind p names d g (circuit c.write_each_stage.new.logic) c.args.log.now.pushes.items c.write_each_stage.new.log.pushes.items (passed_entries p c.args.of.now.bank.stages) (appends_both d f g first enable.appends) h)
     (c.write_each_stage.ensures p names context enable.begun (tells_later p names f g c.args.load (is_loading p) enable.appends here) enable.carries)
+
+pub returns-then-of-eq0 : goal.returns-then-of-eq0
+returns-then-of-eq0 c = λ p names context begun loading.
+    let d = circuit c.args.logic.now in
+    let l = c.args.log.now.pushes.items in
+    subst (λ n. Logs p names d d l l (passed_entries p n)) (sym c.if-of-eq0.true) (logs_none p names d l begun)

@@ -9,7 +9,7 @@ use Rattle.rtl_logic.specs.Making.{circuit, Makes}
 use Rattle.rtl_logic.proofs.Making.{appended, appends_both, fits_later}
 use Rattle.datapath.specs.Cycles.{Cycle, Time}
 use Rattle.circuit_wires.proofs.Combining.{begun_after, not_tells}
-use Rattle.controller.proofs.Within.{long_group}
+use Rattle.controller.proofs.Within.{short_group, long_group}
 use Rattle.controller.proofs.time.going_group.Goals as goal
 
 pub returns : goal.returns
@@ -28,3 +28,7 @@ returns c = λ p names context begun fits.
     let behind = appends_both e f g time.appends against.appends in
     IfOk-weaker c.and.result _ _ (λ a both. long_group p names d e f g h group c.in_ok-active.active c.in_ok-last.last c.in_ok-before.before a begun c.if-group-le1.false some time against both)
     (c.and.ensures against.begun.sound (fits_later e g (appended e g behind) 1 c.in_ok-active.active some.shows.fits) against.carries.fits)
+
+pub returns-then-group-le1 : goal.returns-then-group-le1
+returns-then-group-le1 c = λ p names context begun fits.
+    short_group p names (circuit c.args.logic.now) c.constant.result c.args.group.now begun c.if-group-le1.true c.constant.ensures

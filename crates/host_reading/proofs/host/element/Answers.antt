@@ -9,6 +9,7 @@ use Rattle.datapath.specs.Cycles.{Named}
 use Rattle.datapath.specs.Circuits.{width}
 use Rattle.circuit_context.proofs.Standing.{program_of}
 use Rattle.host_reading.specs.Levels.{MakesLevel}
+use Rattle.host_reading.proofs.Widths.{hosts_within}
 use Rattle.host_reading.proofs.Choosing.{all_words, element_made, no_name}
 use Rattle.host_reading.proofs.host.element.Goals as goal
 
@@ -18,6 +19,13 @@ counted-count-requires c =
     let arrays = map array_of of.cfg.now.frame.memories.items in
     let counted : c.host_memories.result ≡ length (filter (λ (a : Array). a.host) arrays) = c.host_memories.ensures (plan_of of.cfg.now of.registers.now (savings_of of.cfg.now of.live)) refl in
     omega (arith, counted, length-filter (λ (a : Array). a.host) arrays, count_by-le-length (λ (a : Array). a.host) arrays, length-map of.cfg.now.frame.memories.items array_of, of.few.arrays)
+
+pub words-requires : goal.words-requires
+words-requires c =
+    let of = c.args.of.now in
+    let counted : c.host_memories.result ≡ length (host_arrays (plan_of of.cfg.now of.registers.now (savings_of of.cfg.now of.live))) =
+    c.host_memories.ensures (plan_of of.cfg.now of.registers.now (savings_of of.cfg.now of.live)) refl in
+    omega (arith, counted, hosts_within of, c.counted-count.ensures)
 
 pub returns-then-count-lt2 : goal.returns-then-count-lt2
 returns-then-count-lt2 c = λ p names context begun.

@@ -5,6 +5,9 @@ use Rattle.host_reading.specs.Levels.{MakesWords}
 use Rattle.host_reading.proofs.Choosing.{more_words}
 use Rattle.host_reading.proofs.host.words.Goals as goal
 
+pub word-requires : goal.word-requires
+word-requires c = omega (arith, c.loop-array-test.true, c.requires)
+
 pub loop-array-preserved : goal.loop-array-preserved
 loop-array-preserved c = λ p names context begun.
     let d = circuit c.args.logic.now in

@@ -7,8 +7,19 @@ use Rattle.datapath.specs.Plans.{host_arrays, bits_of}
 use Rattle.datapath.specs.Cycles.{Cycle}
 use Rattle.datapath.specs.Circuits.{named_bits}
 use Rattle.circuit_context.proofs.Standing.{program_of}
-use Rattle.host_reading.proofs.Naming.{name_carries, one_named}
+use Rattle.host_reading.proofs.Widths.{some_bits}
+use Rattle.host_reading.proofs.Naming.{nothing_named, name_carries, one_named}
 use Rattle.host_reading.proofs.host.write_named.Goals as goal
+
+pub selected-requires : goal.selected-requires
+selected-requires c =
+    let some = some_bits (c.host_memories-count.result - 1) (omega (arith, c.if-count-lt2.false)) in
+    (omega (arith, c.bits_of.ensures.value, some), omega (arith, c.bits_of.ensures.bound))
+
+pub returns-then-count-lt2 : goal.returns-then-count-lt2
+returns-then-count-lt2 c = λ p names context begun.
+    nothing_named p names (circuit c.args.logic.now) c.args.log.now.pushes.items c.host_memories-count.result
+    (c.host_memories-count.ensures p (program_of p names c.args.of.now context).arrays) c.if-count-lt2.true begun
 
 pub returns : goal.returns
 returns c = λ p names context begun.

@@ -2,8 +2,12 @@ use Rattle.std.proofs.Common.{◌≡◌, ◌∙◌, Some, None, true, false, ap,
 use Rattle.rtl_logic.specs.Making.{circuit}
 use Rattle.rtl_logic.proofs.Making.{appends_none}
 use Rattle.datapath.specs.Plans.{Array, array_at, array_of}
+use Rattle.program_validity.proofs.Memories.{first_fits}
 use Rattle.memory_circuits.proofs.Outer.{array_there, none_outside}
 use Rattle.memory_circuits.proofs.outside.outside_access.Goals as goal
+
+pub first_access-requires : goal.first_access-requires
+first_access-requires c = first_fits c.args.memory.now c.items.result.now c.requires (c.in-Some.is ∙ ap Some (sym c.items.ensures))
 
 pub returns-then-memory : goal.returns-then-memory
 returns-then-memory c = λ p names context begun place at.

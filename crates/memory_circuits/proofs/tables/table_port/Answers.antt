@@ -1,7 +1,6 @@
-use Rattle.std.proofs.Common.{◌≡◌, ◌∙◌, ◌<◌, ◌^◌, [], length, ap, sym, subst, arith}
+use Rattle.std.proofs.Common.{◌≡◌, ◌∙◌, ◌<◌, ◌^◌, length, ap, sym, subst, arith}
 use Rattle.std.specs.List.{All}
 use Rattle.std.proofs.lemmas.Nat.{pow_pos}
-use Rattle.std.proofs.lemmas.Bool.{eqb-true}
 use Rattle.rtl_core.specs.Valid.{IsBetween}
 use Rattle.rtl_logic.specs.Making.{circuit}
 use Rattle.rtl_logic.proofs.Making.{appended, appends_both, goes_on}
@@ -11,11 +10,12 @@ use Rattle.circuit_wires.specs.Carrying.{CarriesWanted}
 use Rattle.circuit_wires.proofs.Combining.{begun_after}
 use Rattle.circuit_log.specs.declared.role.Target.TheVariants as t
 use Rattle.memory_circuits.specs.Places.{AreChoices}
-use Rattle.memory_circuits.proofs.Demands.{addresses_wanted, stores_wanted}
+use Rattle.memory_circuits.proofs.Demands.{addresses_wanted}
 use Rattle.memory_circuits.proofs.Chosen.{wanted_later, number_carries}
 use Rattle.memory_circuits.proofs.Outer.{table_read, nothing_stored}
+use Rattle.memory_circuits.proofs.Unstored.{nothing_wanted}
 use Rattle.memory_circuits.proofs.Arrays.{ready_later}
-use Rattle.memory_circuits.proofs.Steps.{sets_behind, none_left}
+use Rattle.memory_circuits.proofs.Steps.{sets_behind}
 use Rattle.memory_circuits.proofs.tables.table_port.Goals as goal
 
 pub returns : goal.returns
@@ -32,8 +32,7 @@ returns c = λ p names elements ready place inside table words.
     let small : IsBetween 1 128 bits = (place.wide.0, omega (arith, place.wide.1)) in
     let low : IsBetween 1 128 depth_ = (place.deep.0, omega (arith, place.deep.1)) in
     let choices = c.choices-addresses.result.now in
-    let empty : c.choices.result.now ≡ [] = none_left c.choices.result.now (eqb-true (length c.choices.result.now) 0 (sym c.is_empty.ensures ∙ c.if-not-is_empty.false)) in
-    let stores = stores_wanted p names d ready.pushes [] id n ready.are (sym empty ∙ (c.choices.ensures ∙ ready.held (t.Stored id n))) in
+    let stores = nothing_wanted p names c.args.of.now a n elements place.there table ready.context in
     let addresses : AreChoices p names d depth_ choices (λ x. address_writes p x a n) =
     subst (λ k. AreChoices p names d k choices (λ x. address_writes p x a n)) (sym place.depth_)
     (addresses_wanted p names d ready.pushes choices id n ready.are (c.choices-addresses.ensures ∙ ready.held (t.Address id n))) in

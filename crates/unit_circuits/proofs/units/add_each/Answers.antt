@@ -16,6 +16,9 @@ loop-each-init c = record {
   units = ap (map (λ (w : UnitWires). w.unit)) c.in_ok-wires.ensures.items;
 }
 
+pub add_unit-requires : goal.add_unit-requires
+add_unit-requires c = c.requires c.loop-each.each-index (unit_with kind.Multiplier 0 0) c.loop-each-test.true
+
 pub loop-each-preserved : goal.loop-each-preserved
 loop-each-preserved c =
     let d = circuit c.args.logic.now in

@@ -9,6 +9,6 @@ pub returns-clause-adds : goal.returns-clause-adds
 returns-clause-adds c = λ p names h kind.
     let d = circuit c.args.logic.now in
     let e = circuit c.inputs.new.logic in
-    let between : IsBetween 1 64 c.args.unit.bits = (omega (arith, c.if-unit-lt1.false), omega (arith, c.if-unit-gt64.false)) in
+    let between : IsBetween 1 64 c.args.unit.bits = (omega (arith, c.requires.0), c.requires.1) in
     let made = c.in_ok-given.ensures p names h between in
     IfOk-weaker c.add_multiplier.result _ _ (λ w adds. adds_behind p names d e (circuit c.add_multiplier.new.logic) (w ∷ []) made.appends adds) (c.add_multiplier.ensures.adds p names made.begun kind between made.are)

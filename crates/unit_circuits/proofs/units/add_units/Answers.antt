@@ -1,10 +1,21 @@
 use Rattle.std.proofs.Common.{◌≡◌, sym, ◌∙◌, subst}
+use Rattle.std.specs.List.{All}
+use Rattle.rtl_core.specs.Valid.{IsBetween}
 use Rattle.rtl_logic.specs.Making.{circuit}
+use Rattle.circuit_log.specs.declared.role.SharedUnit.{SharedUnit}
 use Rattle.unit_circuits.specs.Units.{AreUnitsOf}
 use Rattle.unit_circuits.specs.Uses.{all_uses, AreUnits}
 use Rattle.unit_circuits.specs.Adding.{AreDemands, AreSigns, Adds}
 use Rattle.unit_circuits.proofs.Users.{signs_are, units_are}
+use Rattle.unit_circuits.proofs.Widths.{units_wide}
 use Rattle.unit_circuits.proofs.units.add_units.Goals as goal
+
+pub add_each-requires : goal.add_each-requires
+add_each-requires c =
+    let cfg = c.args.of.now.cfg.now in
+    let first : c.deref.result.now ≡ all_uses cfg = c.deref.ensures.value ∙ c.in_ok-uses.ensures in
+    subst (All (λ (unit : SharedUnit). IsBetween 32 64 unit.bits)) (sym c.as_slice.ensures.keys)
+    (units_wide cfg c.in_ok-units.units.keys c.args.of.now.buildable.valid (subst (λ l. AreUnits l c.in_ok-units.units.keys) first c.in_ok-units.ensures))
 
 pub returns : goal.returns
 returns c =

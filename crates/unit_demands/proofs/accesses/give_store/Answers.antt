@@ -1,8 +1,14 @@
-use Rattle.std.proofs.Common.{inr, ap}
+use Rattle.std.proofs.Common.{◌≡◌, Option, Some, None, inr, refl, sym, ap, subst}
 use Rattle.std.proofs.lemmas.Result.{IfOk-weaker}
 use Rattle.rtl_logic.specs.Making.{circuit}
 use Rattle.datapath.specs.Ports.{is_store}
 use Rattle.unit_demands.proofs.Pushing.{store_logged}
+use Rattle.hls_base.specs.declared.number.ArrayId.{ArrayId}
+use Rattle.ir_core.specs.declared.body.OpKind.TheVariants as o
+use Rattle.circuit_log.specs.Entries.{entries_as}
+use Rattle.circuit_log.specs.Logs.{Logs}
+use Rattle.circuit_log.proofs.Joining.{logs_none}
+use Rattle.unit_demands.specs.Placing.{placed_as}
 use Rattle.unit_demands.proofs.accesses.give_store.Goals as goal
 
 pub returns : goal.returns
@@ -14,3 +20,14 @@ returns c = λ p names context begun there kind.
     store_logged p names (circuit c.args.logic.now) (circuit c.give_address.new.logic) (circuit c.give_word.new.logic) c.args.log.now.pushes.items c.give_address.new.log.pushes.items
     c.give_word.new.log.pushes.items c.args.it.now c.port_used-port.result port first second)
     (c.give_word.ensures p names context first.begun there port)
+
+not_some : {A : Type 0} (x : Option A) → ((a : A) → x ≡ Some a → ⊥) → x ≡ None
+not_some None h = refl
+not_some (Some a) h = absurd (h a refl)
+
+pub returns-in_default : goal.returns-in_default
+returns-in_default c = λ p names context begun there kind.
+    let d = circuit c.args.logic.now in
+    let l = c.args.log.now.pushes.items in
+    let none = not_some c.args.it.now.op.now.array c.in_default.not-Some in
+    subst (λ (q : Option ArrayId). Logs p names d d l l (entries_as p o.Store q (placed_as c.args.it.now))) (sym none) (logs_none p names d l begun)

@@ -8,7 +8,7 @@ use Rattle.datapath.specs.Plans.{Plan}
 use Rattle.access_ports.specs.Counting.{ops_in}
 use Rattle.access_ports.specs.Numbers.{operations_of}
 use Rattle.unit_demands.specs.Collected.{AreOpsOf, CollectsNodes}
-use Rattle.unit_demands.proofs.Collecting.{node_ops, one_node, all_logged}
+use Rattle.unit_demands.proofs.Collecting.{no_nodes, node_ops, one_node, all_logged}
 use Rattle.unit_demands.proofs.demands.collect.Goals as goal
 
 pub returns-clause-logs : goal.returns-clause-logs
@@ -62,3 +62,9 @@ collect_node-requires c =
     ap length c.ops_of.ensures.own
     ∙ (ap (λ n. length (ops_in n)) node_is
     ∙ (sym (get_or-map (λ n. length (ops_in n)) nodes k node 0 inside) ∙ ap (operations_of nodes) (sym c.node_named-name.ensures)))
+
+pub loop-number-init : goal.loop-number-init
+loop-number-init c = λ p names context begun.
+    let d = circuit c.args.logic.now in
+    let l = c.args.log.now.pushes.items in
+    subst (CollectsNodes p names d d l l []) (sym (ap (map (λ row. row.items)) c.in_ok-wires.ensures.items)) (no_nodes p names d l begun)

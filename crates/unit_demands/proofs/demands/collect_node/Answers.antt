@@ -3,7 +3,7 @@ use Rattle.std.proofs.lemmas.List.{take_all, take_more, length-take-le}
 use Rattle.std.proofs.lemmas.Option.{slice_get-get_or}
 use Rattle.rtl_logic.specs.Making.{circuit}
 use Rattle.unit_demands.specs.Collected.{CollectsOps}
-use Rattle.unit_demands.proofs.Collecting.{started_at, one_operation}
+use Rattle.unit_demands.proofs.Collecting.{no_operations, started_at, one_operation}
 use Rattle.unit_demands.proofs.demands.collect_node.Goals as goal
 
 pub returns : goal.returns
@@ -27,3 +27,9 @@ loop-number-preserved c = λ p names context begun are.
     one_operation p names (circuit c.args.logic.now) (circuit c.loop-number.logic) (circuit c.collect_operation.new.logic) c.args.log.now.pushes.items c.loop-number.log.pushes.items
     c.collect_operation.new.log.pushes.items c.args.node.0 (take k ops) (take (k + 1) ops) _ c.loop-number.wires.items c.push.new.self.items c.in_ok-collect_operation.field-0 before there refl number took one
     c.in_ok-push.ensures.items
+
+pub loop-number-init : goal.loop-number-init
+loop-number-init c = λ p names context begun are.
+    let d = circuit c.args.logic.now in
+    let l = c.args.log.now.pushes.items in
+    subst (CollectsOps p names d d l l c.args.node.0 []) (sym c.in_ok-wires.ensures.items) (no_operations p names d l c.args.node.0 begun)

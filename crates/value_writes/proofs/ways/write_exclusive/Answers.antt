@@ -1,4 +1,4 @@
-use Rattle.std.proofs.Common.{ap, subst}
+use Rattle.std.proofs.Common.{[], sym, ap, subst}
 use Rattle.std.proofs.lemmas.List.{take_all}
 use Rattle.std.proofs.lemmas.Option.{slice_get-get_or}
 use Rattle.rtl_logic.specs.Making.{circuit}
@@ -6,6 +6,7 @@ use Rattle.rtl_logic.proofs.Making.{appended}
 use Rattle.datapath.specs.Cycles.{Cycle, bit}
 use Rattle.datapath.specs.Control.{leaves_as}
 use Rattle.circuit_wires.proofs.Combining.{carries_on}
+use Rattle.circuit_log.proofs.Joining.{logs_none}
 use Rattle.value_writes.specs.Steps.{exclusive_cases, TellCases}
 use Rattle.value_writes.proofs.Choosing.{exclusive_step}
 use Rattle.value_writes.proofs.Listing.{logs_as}
@@ -30,3 +31,8 @@ returns c = λ p names n h begun leaving.
       logs_as p names _ _ _ _ _ _ (ap (exclusive_cases p (i, n)) all) whole.0,
       subst (λ l. TellCases p names (circuit c.loop-case.logic) i l c.loop-case.tests.items) all whole.1,
     )
+
+pub loop-case-init : goal.loop-case-init
+loop-case-init c = λ p names n h begun leaving.
+    let d = circuit c.args.logic.now in
+    (logs_none p names d c.args.log.now.pushes.items begun, subst (TellCases p names d c.args.leaving.node.0 []) (sym c.in_ok-tests.ensures.items) tt)

@@ -6,6 +6,11 @@ use Rattle.datapath.specs.Control.{leaves_as}
 use Rattle.circuit_log.specs.Entries.{last_operand, result_entries}
 use Rattle.value_writes.proofs.Listing.{logs_as}
 use Rattle.value_writes.proofs.Standing.{read_at}
+use Rattle.std.proofs.Common.{◌≡◌, subst}
+use Rattle.std.specs.Prelude.{Option, Some, None}
+use Rattle.ir_core.specs.declared.body.Operand.{Operand}
+use Rattle.circuit_log.specs.Logs.{Logs}
+use Rattle.circuit_log.proofs.Joining.{logs_none}
 use Rattle.value_writes.proofs.ways.write_result.Goals as goal
 
 pub returns : goal.returns
@@ -18,3 +23,14 @@ returns c = λ p names n h begun leaving.
     (c.in_ok-value.ensures p names h begun) in
     on_ok_weaker c.take.result (logs_as p names d d _ _ _ _ (ap (result_entries p (i, n)) (sym c.in-Some.is)))
     (c.take.ensures p names (λ (x : Cycle). leaves_as p x i n) (λ (x : Cycle). last_operand p i x v) h begun leaving (record { bits = bits; carries = carries }))
+
+not_some : {A : Type 0} (x : Option A) → ((a : A) → x ≡ Some a → ⊥) → x ≡ None
+not_some None h = refl
+not_some (Some a) h = absurd (h a refl)
+
+pub returns-in_default : goal.returns-in_default
+returns-in_default c = λ p names n h begun leaving.
+    let d = circuit c.args.logic.now in
+    let l = c.args.log.now.pushes.items in
+    let none = not_some c.args.value c.in_default.not-Some in
+    subst (λ (o : Option Operand). Logs p names d d l l (result_entries p (c.args.leaving.node.0, n) o)) (sym none) (logs_none p names d l begun)
