@@ -146,7 +146,7 @@ fn innermost(
 fn scalar(names: &Scopes, name: &Text, at: Place) -> Result<CoreExpr, AllocError>
     ensures { IfOk result (λ it. core_of it ≡ spec.scalar_of (known.object_named names.now name.now) at) }
 {
-    let object = object_named(names, name)?;
+    let object = object_named(names, name);
     Ok(CoreExpr::Scalar {
         cell: object.cell,
         kind: object.kind,
@@ -167,7 +167,7 @@ fn element(
 ) -> Result<CoreExpr, AllocError>
     ensures { IfOk result (λ it. core_of it ≡ elaborated functions.now names.now (tree.index array.now (trees_of subscripts.now) at)) }
 {
-    let object = object_named(names, array)?;
+    let object = object_named(names, array);
     let subscripts = all(alloc, functions, names, subscripts)?;
     Ok(CoreExpr::Element {
         array: object.cell,
@@ -234,7 +234,7 @@ pub fn assigned(
 ) -> Result<CoreTarget, AllocError>
     ensures { IfOk result (λ it. core_target_of it ≡ target_elaborated functions.now names.now (target_of target.now)) }
 {
-    let object = object_named(names, &target.name)?;
+    let object = object_named(names, &target.name);
     let subscripts = all(alloc, functions, names, &target.subscripts)?;
     Ok(CoreTarget {
         cell: object.cell,
@@ -289,7 +289,7 @@ fn argument(
     ensures { IfOk result (λ it. core_argument_of it ≡ argument_elaborated functions.now names.now (tree_of arg.now)) }
 {
     if let Expr::Name { name, .. } = arg {
-        let object = object_named(names, name)?;
+        let object = object_named(names, name);
         if object.is_array {
             return Ok(Argument::Array(object.cell));
         }

@@ -16,7 +16,6 @@ use c_tree::function::{Function, Param};
 use c_tree::program::Item;
 use c_tree::statement::Stmt;
 use core_program::program::{CoreFunction, CoreObject};
-use hls_base::refusal::impossible;
 use hls_base::text::Text;
 use std::alloc::{AllocError, Global};
 
@@ -59,7 +58,7 @@ fn is_same_name(name: &Text, other: &Text) -> bool
     name.items() == other.items()
 }
 
-/// The function of this name. Each function that a program without faults calls has a body.
+/// The function of this name, or the number behind all functions. Each function that a program without faults calls has a body.
 pub fn function_named(functions: &[Signature], name: &Text) -> Result<Called, AllocError>
     ensures number { IfOk result (λ c. c.number ≡ function_number functions.now name.now) }
     ensures kind { IfOk result (λ c. c.result ≡ result_of functions.now name.now) }
@@ -72,7 +71,10 @@ pub fn function_named(functions: &[Signature], name: &Text) -> Result<Called, Al
             });
         }
     }
-    Err(impossible())
+    Ok(Called {
+        number: number_behind(functions.len())?,
+        result: None,
+    })
 }
 
 /// The items before this index.

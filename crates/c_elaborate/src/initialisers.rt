@@ -21,7 +21,6 @@ use c_tree::expression::Expr;
 use c_tree::object::{Init, Object};
 use core_program::expression::CoreExpr;
 use core_program::statement::CoreInit;
-use hls_base::refusal::impossible;
 use std::alloc::{AllocError, Global};
 
 fn add_missing(items: &mut Vec<Option<&Expr>>, count: usize) -> Result<(), AllocError>
@@ -98,7 +97,7 @@ fn element(
     }
 }
 
-/// What an initialiser writes to an object. A program without faults has braces for arrays, and only for them.
+/// What an initialiser writes to an object. A program without faults has braces for arrays, and only for them; braces for a scalar write nothing.
 fn written(
     alloc: Global,
     functions: &[Signature],
@@ -114,12 +113,12 @@ fn written(
             let value = expression(alloc, functions, names, e)?;
             Ok(CoreInit::Scalar(value))
         }
-        Init::List(_, _) if !lengths.is_empty() => {
+        Init::List(_, _) if lengths.is_empty() => Ok(CoreInit::Unwritten),
+        _ => {
             let mut items = Vec::new(alloc);
             add_items(&mut items, &lengths, init)?;
             Ok(CoreInit::Elements(elements(alloc, functions, names, &items)?))
         }
-        _ => Err(impossible()),
     }
 }
 

@@ -5,8 +5,8 @@ ghost use Rattle.c_elaborate.specs.Names.{object_found};
 ghost use Rattle.c_elaborate.specs.Entries.{entry_in, index_in};
 
 use c_token::ctype::CType;
-use core_program::expression::Cell;
-use hls_base::refusal::impossible;
+use c_value::kind::INT;
+use core_program::expression::{Cell, Scope};
 use hls_base::text::Text;
 use indexmap::IndexMap;
 use std::alloc::{AllocError, Global};
@@ -141,12 +141,19 @@ fn restore(latest: &mut IndexMap<Vec<u8>, Option<usize>>, name: &[u8], index: Op
     }
 }
 
-/// The object that a name stands for. Each name of a program without faults is declared.
-pub fn object_named(names: &Scopes, name: &Text) -> Result<Known, AllocError>
-    ensures { IfOk result (λ object. object ≡ spec.object_named names.now name.now) }
+/// The object that a name stands for, a scalar of type int where it is not declared. Each name of a program without faults is declared.
+pub fn object_named(names: &Scopes, name: &Text) -> Known
+    ensures { result ≡ spec.object_named names.now name.now }
 {
     match names.find(name) {
-        Some(object) => Ok(object),
-        None => Err(impossible()),
+        Some(object) => object,
+        None => Known {
+            cell: Cell {
+                scope: Scope::File,
+                number: 0,
+            },
+            kind: INT,
+            is_array: false,
+        },
     }
 }

@@ -25,25 +25,24 @@ use c_value::convert::{convert, pattern};
 use c_value::kind::promoted;
 use core_program::program::CoreObject;
 use core_program::statement::{CoreElse, CoreStmt};
-use hls_base::refusal::impossible;
 use std::alloc::{AllocError, Global};
 
-/// The bit pattern of a label's value in this type. The labels of a program without faults have values.
-fn value_bits(kind: CType, value: &Expr) -> Result<u64, AllocError>
-    ensures { IfOk result (λ bits. bits ≡ value_pattern kind (spec_constant_value (tree_of value.now))) }
+/// The bit pattern of a label's value in this type, 0 where it has none. The labels of a program without faults have values.
+fn value_bits(kind: CType, value: &Expr) -> u64
+    ensures { result ≡ value_pattern kind (spec_constant_value (tree_of value.now)) }
 {
     match constant_value(value) {
-        Constant::Number { number, .. } => Ok(pattern(kind, convert(kind, number))),
-        _ => Err(impossible()),
+        Constant::Number { number, .. } => pattern(kind, convert(kind, number)),
+        _ => 0,
     }
 }
 
-fn label(kind: CType, value: &Option<Expr>) -> Result<Option<u64>, AllocError>
-    ensures { IfOk result (λ bits. bits ≡ label_pattern kind (option_map tree_of value.now)) }
+fn label(kind: CType, value: &Option<Expr>) -> Option<u64>
+    ensures { result ≡ label_pattern kind (option_map tree_of value.now) }
 {
     match value {
-        None => Ok(None),
-        Some(value) => Ok(Some(value_bits(kind, value)?)),
+        None => None,
+        Some(value) => Some(value_bits(kind, value)),
     }
 }
 
@@ -62,7 +61,7 @@ fn statement(
 {
     match stmt {
         Stmt::Block(body) => Ok(nested(inner_block(alloc, functions, scene, objects, body)?)),
-        Stmt::Declare(_) => Err(impossible()),
+        Stmt::Declare(_) => Ok(CoreStmt::Act(Vec::new(alloc))),
         Stmt::Act(list) => Ok(CoreStmt::Act(actions(alloc, functions, &scene.names, list)?)),
         Stmt::If { test, yes, no, at } => {
             let test = expression(alloc, functions, &scene.names, test)?;
@@ -77,7 +76,7 @@ fn statement(
             Ok(switch(test, part, *at))
         }
         Stmt::Case { value, body, at } => {
-            let value = label(scene.labels, value)?;
+            let value = label(scene.labels, value);
             let body = statement(alloc, functions, scene, objects, body)?;
             labelled(alloc, value, body, *at)
         }
