@@ -1,5 +1,5 @@
 //! The arms of a switch: at which pieces they begin, which of them the labels name, and their blocks while they grow.
-ghost use Rattle.std.specs.Prelude.{◌≡◌, ℕ, ◌==◌, ◌||◌, ◌&&◌, ◌++◌, nat_lt, suc, false, List, length, get_or, IfOk, if◌then◌else◌, map};
+ghost use Rattle.std.specs.Prelude.{◌≡◌, ◌<◌, ℕ, ◌==◌, ◌||◌, ◌&&◌, ◌++◌, nat_lt, suc, false, List, length, get_or, IfOk, if◌then◌else◌, map};
 ghost use Rattle.block_meaning.specs.Trees.{ArmTrees, arm_row, sequence_of, part_of, part_row};
 ghost use Rattle.lowering.specs.Lowering as spec;
 ghost use Rattle.ir_lower.specs.Arms.{begins_arm, arms_until};
@@ -173,22 +173,20 @@ impl Arms {
     {
         let Arms { mut closed, line } = self;
         closed.push(line.finish(alloc)?)?;
-        split_first(closed)
+        Ok(split_first(closed))
     }
 }
 
 /// The parts of the first sequence, and the sequences behind it.
-fn split_first(sequences: Vec<Sequence>) -> Result<Blocks, AllocError>
-    ensures dead { IfOk result (λ blocks. part_row (map part_of blocks.dead.items) ≡ first_parts (arm_row (map sequence_of sequences.items))) }
-    ensures arms { IfOk result (λ blocks. arm_row (map sequence_of blocks.arms.items) ≡ later_arms (arm_row (map sequence_of sequences.items))) }
+fn split_first(sequences: Vec<Sequence>) -> Blocks
+    requires { 0 < length sequences.items }
+    ensures dead { part_row (map part_of result.dead.items) ≡ first_parts (arm_row (map sequence_of sequences.items)) }
+    ensures arms { arm_row (map sequence_of result.arms.items) ≡ later_arms (arm_row (map sequence_of sequences.items)) }
 {
     let mut arms = sequences;
-    if arms.is_empty() {
-        return Err(impossible());
-    }
     let Sequence {
         first: _first,
         rest: dead,
     } = arms.remove(0);
-    Ok(Blocks { dead, arms })
+    Blocks { dead, arms }
 }

@@ -1,5 +1,4 @@
 use Rattle.std.proofs.Common.{◌∙◌, ap, map}
-use Rattle.std.proofs.lemmas.Result.{IfOk-weaker}
 use Rattle.block_meaning.specs.Trees.{no_arm, more_arms, sequence_of}
 use Rattle.ir_lower.specs.Lines.{with_arms, first_parts, later_arms}
 use Rattle.ir_lower.proofs.Rows.{arms_none, arm_pushed}
@@ -10,11 +9,11 @@ returns-clause-dead c =
     let closed = c.args.self.closed.items in
     let new = c.push.new.self.items in
     let all = arms_none (map sequence_of new) ∙ arm_pushed closed new c.in_ok-finish.field-0 no_arm c.in_ok-push.ensures.items ∙ ap (λ s. with_arms (map sequence_of closed) (more_arms s no_arm)) c.in_ok-finish.ensures in
-    IfOk-weaker c.split_first.result _ _ (λ blocks e. e ∙ ap first_parts all) c.split_first.ensures.dead
+    c.split_first.ensures.dead ∙ ap first_parts all
 
 pub returns-clause-arms : goal.returns-clause-arms
 returns-clause-arms c =
     let closed = c.args.self.closed.items in
     let new = c.push.new.self.items in
     let all = arms_none (map sequence_of new) ∙ arm_pushed closed new c.in_ok-finish.field-0 no_arm c.in_ok-push.ensures.items ∙ ap (λ s. with_arms (map sequence_of closed) (more_arms s no_arm)) c.in_ok-finish.ensures in
-    IfOk-weaker c.split_first.result _ _ (λ blocks e. e ∙ ap later_arms all) c.split_first.ensures.arms
+    c.split_first.ensures.arms ∙ ap later_arms all
