@@ -1,8 +1,9 @@
 -- Addresses, one subscript after another.
 use Rattle.std.proofs.Common.{◌≡◌, ◌<◌, ◌≤◌, ℕ, ◌+◌, ◌*◌, ◌%◌, ◌^◌, List, [], ◌∷◌, ◌++◌, length, map, take, get_or, Option, Some, None, refl, sym, ap, ◌∙◌, subst, arith}
-use Rattle.std.specs.Prelude.{min}
+use Rattle.std.specs.Prelude.{min, slice_get, MatchOption}
 use Rattle.std.proofs.lemmas.List.{map-append, take_more, length-map, length-take-le, take_all}
 use Rattle.std.proofs.lemmas.Nat.{pow-add}
+use Rattle.std.proofs.lemmas.Option.{none-some, same_Some}
 use Rattle.std.proofs.Math.Nat.{mul_assoc}
 use Rattle.hls_base.specs.ArrayAddress.{subscript_bits, address_bits}
 use Rattle.rtl_core.specs.declared.design.Atom.{Atom}
@@ -11,6 +12,8 @@ use Rattle.rtl_core.proofs.Stability.{Extends}
 use Rattle.rtl_core.specs.ClockStep.{seen}
 use Rattle.rtl_core.specs.Valid.{IsBetween}
 use Rattle.ir_core.specs.declared.body.Operand.{Operand}
+use Rattle.ir_core.specs.declared.cfg.Frame.{Frame}
+use Rattle.ir_core.specs.declared.cfg.Memory.{Memory}
 use Rattle.ir_core.specs.declared.body.Source.TheVariants as source
 use Rattle.block_meaning.specs.Bodies.{address_of}
 use Rattle.rtl_logic.specs.Making.{Makes}
@@ -20,7 +23,7 @@ use Rattle.datapath.specs.Cycles.{Register, Cycle, in_cycle}
 use Rattle.datapath.specs.Reading.{operand}
 use Rattle.circuit_wires.specs.Carrying.{IsBegun, Carries, MakesCarrying}
 use Rattle.circuit_wires.proofs.Combining.{carries_on, carries_as, there_already, made_carries}
-use Rattle.circuit_context.specs.Contexts.{MayCarry, MakesAddress, subscripted}
+use Rattle.circuit_context.specs.Contexts.{HasDimensions, MayCarry, MakesAddress, subscripted}
 use Rattle.circuit_context.proofs.Telling.{same_carries}
 
 -- ---- numbers side by side
@@ -147,6 +150,17 @@ low_made p names d e n m k of a X begun carries same made =
     (made_carries p names d e m a (λ v x. x ≡ v of % 2 ^ m) (λ c. X c % 2 ^ m) begun made (λ f s pins x signals moment is. is ∙ ap (λ y. y % 2 ^ m) (carries.value_ f s pins x signals moment)))
 
 -- ---- the array
+
+-- the array that stands at this number
+pub array_there : (f : Frame) (a n : ℕ) (m : Memory) → HasDimensions f a n → slice_get f.memories.items a ≡ Some m → length m.dims.items ≡ n
+array_there f a n m has at = ap (λ (x : Memory). length x.dims.items) (same_Some m has.memory (sym at ∙ has.stands)) ∙ has.length_
+
+pub not_found : {A : Type 0} (o : Option A) (P : Type 0) (Q : A → Type 0) → MatchOption o P Q → ((x : A) → o ≡ Some x → ⊥) → P
+not_found None P Q h never = h
+not_found (Some x) P Q h never = absurd (never x refl)
+
+pub array_missing : (f : Frame) (a n : ℕ) → HasDimensions f a n → slice_get f.memories.items a ≡ None → ⊥
+array_missing f a n has none = none-some has.memory (sym none ∙ has.stands)
 
 pub array_address : (p : Plan) (names : List Register) (d e : Netlist) (i time k : ℕ) (dims : List ℕ) (xs : List Operand) (o : Option Atom) (a : Atom) → MakesAddress p names d e i time dims xs o
     → dims ≡ (array_at p k).dims → o ≡ Some a → MakesCarrying p names d e (depth p k) a (subscripted p i time k xs)

@@ -1,5 +1,5 @@
 -- Where operands stand.
-use Rattle.std.proofs.Common.{◌≡◌, ◌<◌, ◌^◌, ℕ, List, Option, Some, None, Result, Ok, Err, refl, sym, ap, ◌∙◌, subst}
+use Rattle.std.proofs.Common.{◌≡◌, ◌<◌, ◌^◌, ℕ, ◌+◌, ◌-◌, ◌*◌, ◌/◌, List, Option, Some, None, Result, Ok, Err, refl, sym, ap, ◌∙◌, subst, arith}
 use Rattle.std.specs.Prelude.{IfOk}
 use Rattle.std.specs.declared.alloc.AllocError.{AllocError}
 use Rattle.std.specs.Option.{option_map}
@@ -29,6 +29,14 @@ chain_some (Some q) n op d h =
 pub chain_none : (o : Option OpId) (n : ℕ) → ◌≡◌ {A = Option (OpId × ℕ)} None (option_map (λ (q : OpId). (q, n)) o) → o ≡ None
 chain_none None n h = refl
 chain_none (Some q) n h = absurd (none-some (q, n) h)
+
+over_none : (n : ℕ) → n / 0 ≡ 0
+over_none n = omega arith
+
+-- without an interval each place is the first one
+pub no_interval : (interval a t distance : ℕ) → interval ≡ 0 → 0 ≡ place interval a t distance
+no_interval interval a t distance none =
+    sym (ap (λ n. (t + distance * interval - a) / n) none ∙ over_none (t + distance * interval - a))
 
 -- an operand that a chain of results holds
 pub chain_read : (p : Plan) (c : Cycle) (i t j : ℕ) (x : Operand) (op : OpId) (b : TimedBody) → body_at p i ≡ b → maker_of b.outs x ≡ Some op

@@ -3,3 +3,5 @@ pub mod Standing
 pub mod Chains
 pub mod Addresses
 pub mod Programs
+pub mod Early
+pub mod Named

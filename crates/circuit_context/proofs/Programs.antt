@@ -16,7 +16,7 @@ use Rattle.program_validity.specs.Programs.{is_consistent}
 use Rattle.program_validity.proofs.Parts.{few_nodes, few_variables, few_memories, frame_valid, memories_valid, short_address}
 use Rattle.reg_binding.specs.SmallTimes.{IsEarlyNode}
 use Rattle.small_numbers.specs.Small.{HasFewParts, ops_in}
-use Rattle.datapath.specs.Plans.{Plan, Array, array_of, cycles_for, initial_cycles}
+use Rattle.datapath.specs.Plans.{array_of, cycles_for, initial_cycles}
 use Rattle.register_bank.specs.Banks.{HasShortStart}
 use Rattle.circuit_context.specs.Programs.{IsBuildable}
 

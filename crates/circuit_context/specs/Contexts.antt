@@ -6,6 +6,8 @@ use Rattle.rtl_core.specs.Netlist.{Netlist}
 use Rattle.ir_core.specs.declared.body.Op.{Op}
 use Rattle.ir_core.specs.declared.body.Operand.{Operand}
 use Rattle.ir_core.specs.declared.cfg.Cfg.{Cfg}
+use Rattle.ir_core.specs.declared.cfg.Frame.{Frame}
+use Rattle.ir_core.specs.declared.cfg.Memory.{Memory}
 use Rattle.block_meaning.specs.Bodies.{address_of}
 use Rattle.clock_ir.specs.declared.timed.Timed.{Timed}
 use Rattle.clock_meaning.specs.Flows.{timed_op}
@@ -40,6 +42,12 @@ StandsAt p i k op = slice_get (body_at p i).ops k ≡ Some (timed_op op)
 
 abbrev pub placed : ℕ → ℕ → Op Timed → Placed
 placed i k op = record { node = i; number = k; op = timed_op op }
+
+-- the array is there, and has so many dimensions
+pub record HasDimensions (f : Frame) (a count : ℕ) : Type 0 where
+  pub memory : Memory
+  pub stands : slice_get f.memories.items a ≡ Some memory
+  pub length_ : length memory.dims.items ≡ count
 
 -- the address of an element in a cycle, from its subscripts
 abbrev pub subscripted : Plan → ℕ → ℕ → ℕ → List Operand → Cycle → ℕ

@@ -1,4 +1,5 @@
 //! A program with times, and what was found for its circuit.
+ghost use Rattle.std.specs.Prelude.{◌≤◌, length};
 ghost use Rattle.small_numbers.specs.Small.{HasFewParts};
 ghost use Rattle.register_bank.specs.Banks.{HasShortStart};
 ghost use Rattle.circuit_context.specs.Programs.{IsBuildable, Buildable-prop};
@@ -9,7 +10,6 @@ use circuit_log::role::Role;
 use clock_ir::timed::Timed;
 use held_places::places::Places;
 use hls_base::number::NodeId;
-use hls_base::refusal::impossible;
 use ir_core::cfg::{Cfg, Node};
 use live_variables::live::Live;
 use reg_binding::registers::Registers;
@@ -31,6 +31,7 @@ pub struct Context<'a> {
     ghost buildable: { IsBuildable cfg.now } by { Buildable-prop cfg.now },
     ghost few: { HasFewParts cfg.now },
     ghost start: { HasShortStart cfg.now },
+    ghost told: { length cfg.now.frame.variables.items ≤ length read.items },
     ghost numbered: { HasPlaces cfg.now.nodes.items cfg.now.frame.memories.items ports },
 }
 
@@ -42,7 +43,8 @@ pub struct Reading {
 }
 
 impl<'a> Context<'a> {
-    ghost use Rattle.std.specs.Prelude.{◌≡◌, List, IfOk, Some, slice_get};
+    ghost use Rattle.std.specs.Prelude.{◌≡◌, ◌<◌, List, IfOk, Some, length, slice_get};
+    ghost use Rattle.reg_binding.specs.SmallTimes.{IsEarlyNode};
     ghost use Rattle.datapath.specs.Plans.{Plan};
     ghost use Rattle.datapath.specs.Cycles.{Register};
     ghost use Rattle.circuit_wires.specs.Carrying.{IsRegister};
@@ -50,13 +52,12 @@ impl<'a> Context<'a> {
     ghost use Rattle.circuit_context.specs.Contexts.{IsContext};
 
     /// The node with this number.
-    pub fn node(&self, node: NodeId) -> Result<&Node<Timed>, AllocError>
-        ensures { IfOk result (λ n. slice_get self.now.cfg.now.nodes.items node.0 ≡ Some n.now) }
+    pub fn node(&self, node: NodeId) -> &Node<Timed>
+        requires { node.0 < length self.now.cfg.now.nodes.items }
+        ensures stands { slice_get self.now.cfg.now.nodes.items node.0 ≡ Some result.now }
+        ensures early { IsEarlyNode result.now }
     {
-        match self.cfg.nodes.get(node.0 as usize) {
-            Some(node) => Ok(node),
-            None => Err(impossible()),
-        }
+        &self.cfg.nodes[node.0 as usize]
     }
 
     /// The register for this.

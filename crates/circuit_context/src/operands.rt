@@ -1,5 +1,5 @@
 //! Where operands stand when they are read.
-ghost use Rattle.std.specs.Prelude.{◌≡◌, ◌+◌, ◌*◌, ℕ, List, IfOk};
+ghost use Rattle.std.specs.Prelude.{◌≡◌, ◌<◌, ◌+◌, ◌*◌, ℕ, List, IfOk, length};
 ghost use Rattle.rtl_core.specs.ClockStep.{widths};
 ghost use Rattle.rtl_core.specs.Netlist.{Netlist};
 ghost use Rattle.rtl_core.specs.Valid.{HasBits};
@@ -10,6 +10,7 @@ ghost use Rattle.datapath.specs.Plans as plans;
 ghost use Rattle.datapath.specs.Plans.{Plan};
 ghost use Rattle.datapath.specs.Cycles.{Register, Cycle};
 ghost use Rattle.datapath.specs.Reading as reading;
+ghost use Rattle.reg_binding.specs.SmallTimes.{IsEarlyNode};
 ghost use Rattle.circuit_wires.specs.Carrying.{IsBegun, Carries};
 ghost use Rattle.circuit_log.specs.Logs.{CarriesSome};
 ghost use Rattle.circuit_context.specs.Contexts.{IsContext};
@@ -58,25 +59,23 @@ fn time_read(interval: u32, time: u64, distance: u32) -> u128
 }
 
 /// The first time at which a result is there.
-fn first_time(node: &Node<Timed>, op: OpId) -> Result<u64, AllocError>
-    ensures { IfOk result (λ t. t ≡ ready (plans.body_of (timed_node node.now)) op) }
+fn first_time(node: &Node<Timed>, op: OpId) -> u64
+    requires { IsEarlyNode node.now }
+    ensures { result ≡ ready (plans.body_of (timed_node node.now)) op }
 {
-    let first = ready_at(body_of(node), op);
-    if first == u64::MAX {
-        return Err(impossible());
-    }
-    Ok(first)
+    ready_at(body_of(node), op)
 }
 
 /// The place of a chain at which a result is read, so many iterations after it was made.
 fn place_read(node: &Node<Timed>, op: OpId, time: u64, distance: u32) -> Result<u32, AllocError>
+    requires { IsEarlyNode node.now }
     ensures { IfOk result (λ j. j ≡ place (plans.body_of (timed_node node.now)).interval (ready (plans.body_of (timed_node node.now)) op) time distance) }
 {
     let interval = interval_of(node);
-    let first = first_time(node, op)?;
+    let first = first_time(node, op);
     let time = time_read(interval, time, distance);
     if interval == 0 {
-        return Err(impossible());
+        return Ok(0);
     }
     match u32::try_from(time.saturating_sub(first as u128) / interval as u128) {
         Ok(place) => Ok(place),
@@ -93,6 +92,7 @@ impl<'a> Context<'a> {
         operand: Operand,
         bits: u8,
     ) -> Result<Atom, AllocError>
+        requires { at.node.0 < length self.now.cfg.now.nodes.items }
         ensures { (p : Plan) (names : List Register) → IsContext p names self.now → IsBegun p names (circuit logic.now)
             → IfOk result (λ a. Carries p names (circuit logic.now) bits a (λ (c : Cycle). reading.operand p c at.node.0 at.time operand)) }
     {
@@ -108,10 +108,11 @@ impl<'a> Context<'a> {
         operand: Operand,
         bits: u8,
     ) -> Result<Atom, AllocError>
+        requires { at.node.0 < length self.now.cfg.now.nodes.items }
         ensures { (p : Plan) (names : List Register) → IsContext p names self.now → IsBegun p names (circuit logic.now)
             → IfOk result (λ a. CarriesSome p names (circuit logic.now) a (λ (c : Cycle). reading.operand p c at.node.0 at.time operand)) }
     {
-        let node = self.node(at.node)?;
+        let node = self.node(at.node);
         match chain_of(body_of(node), operand) {
             Some((op, distance)) => {
                 let place = place_read(node, op, at.time, distance)?;

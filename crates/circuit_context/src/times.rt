@@ -1,5 +1,5 @@
 //! Which time of a node has come.
-ghost use Rattle.std.specs.Prelude.{◌≡◌, ◌==◌, nat_lt, List, IfOk};
+ghost use Rattle.std.specs.Prelude.{◌≡◌, ◌<◌, ◌==◌, nat_lt, List, IfOk, length};
 ghost use Rattle.rtl_logic.specs.Making.{circuit};
 ghost use Rattle.datapath.specs.Plans.{Plan};
 ghost use Rattle.datapath.specs.Cycles.{Register, Cycle, Time, Active};
@@ -51,11 +51,12 @@ impl<'a> Context<'a> {
 
     /// The bit of the cycles with this time since a node's beginning; in a loop, of all cycles in which an iteration, if there is one, has this time.
     pub fn at(&self, logic: &mut Logic, at: Reading) -> Result<Atom, AllocError>
+        requires { at.node.0 < length self.now.cfg.now.nodes.items }
         ensures { (p : Plan) (names : List Register) → IsContext p names self.now → IsBegun p names (circuit logic.old)
             → IfOk result (λ a. MakesTelling p names (circuit logic.old) (circuit logic.new) a (λ (c : Cycle). reading.at p c at.node.0 at.time)) }
     {
         let active = self.active(at.node)?;
-        let cycles = span(self.node(at.node)?);
+        let cycles = span(self.node(at.node));
         if cycles <= 1 {
             return Ok(active);
         }
@@ -66,11 +67,12 @@ impl<'a> Context<'a> {
 
     /// The same, from the first iteration on.
     pub fn at_iteration(&self, logic: &mut Logic, at: Reading) -> Result<Atom, AllocError>
+        requires { at.node.0 < length self.now.cfg.now.nodes.items }
         ensures { (p : Plan) (names : List Register) → IsContext p names self.now → IsBegun p names (circuit logic.old)
             → IfOk result (λ a. MakesTelling p names (circuit logic.old) (circuit logic.new) a (λ (c : Cycle). reading.at_iteration p c at.node.0 at.time)) }
     {
         let now = self.at(logic, at)?;
-        let intervals = at.time / span(self.node(at.node)?);
+        let intervals = at.time / span(self.node(at.node));
         if intervals == 0 {
             return Ok(now);
         }

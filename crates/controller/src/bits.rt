@@ -1,5 +1,5 @@
 //! Bits that follow from others, and what registers take.
-ghost use Rattle.std.specs.Prelude.{◌<◌, ◌≡◌, ◌&&◌, ◌||◌, ◌+◌, ◌%◌, ◌^◌, [], ◌∷◌, ℕ, Bool, true, not, List, IfOk, OnOk, Some, slice_get};
+ghost use Rattle.std.specs.Prelude.{◌<◌, ◌≡◌, ◌&&◌, ◌||◌, ◌+◌, ◌%◌, ◌^◌, [], ◌∷◌, ℕ, Bool, true, not, List, IfOk, OnOk, Some, length, slice_get};
 ghost use Rattle.rtl_core.specs.Netlist.{Netlist};
 ghost use Rattle.rtl_core.specs.Valid.{IsBetween};
 ghost use Rattle.rtl_logic.specs.Making.{circuit};
@@ -20,7 +20,6 @@ use circuit_log::log::Log;
 use circuit_log::role::{Role, Target};
 use clock_ir::timed::Timed;
 use hls_base::number::NodeId;
-use hls_base::refusal::impossible;
 use ir_core::cfg::Node;
 use rtl_core::design::{Atom, Pair};
 use rtl_logic::logic::Logic;
@@ -110,14 +109,12 @@ pub fn node_with_number(number: usize) -> NodeId
 }
 
 /// The node with this number, as it stands in the program.
-pub fn node_at<'a>(of: &'a Context<'_>, number: usize) -> Result<&'a Node<Timed>, AllocError>
+pub fn node_at<'a>(of: &'a Context<'_>, number: usize) -> &'a Node<Timed>
+    requires { number < length of.now.cfg.now.nodes.items }
     ensures { (p : Plan) (names : List Register) (n : TimedNode) → IsContext p names of.now → slice_get p.program.nodes number ≡ Some n
-        → IfOk result (λ node. timed_node node.now ≡ n) }
+        → timed_node result.now ≡ n }
 {
-    if number >= of.cfg.nodes.len() {
-        return Err(impossible());
-    }
-    Ok(&of.cfg.nodes[number])
+    &of.cfg.nodes[number]
 }
 
 fn is_looped(node: &Node<Timed>) -> bool
@@ -130,10 +127,10 @@ fn is_looped(node: &Node<Timed>) -> bool
 }
 
 /// Whether the node with this number is a loop.
-pub fn is_loop(of: &Context<'_>, number: usize) -> Result<bool, AllocError>
+pub fn is_loop(of: &Context<'_>, number: usize) -> bool
+    requires { number < length of.now.cfg.now.nodes.items }
     ensures { (p : Plan) (names : List Register) (n : TimedNode) → IsContext p names of.now → slice_get p.program.nodes number ≡ Some n
-        → IfOk result (λ b. b ≡ control.is_loop (Some n)) }
+        → result ≡ control.is_loop (Some n) }
 {
-    let node = node_at(of, number)?;
-    Ok(is_looped(node))
+    is_looped(node_at(of, number))
 }

@@ -1,5 +1,5 @@
 //! The nodes, and where no run is under way. A reset wins over all else.
-ghost use Rattle.std.specs.Prelude.{◌^◌, ◌≡◌, ◌<◌, ◌∷◌, [], true, List, IfOk, OnOk, Some, slice_get};
+ghost use Rattle.std.specs.Prelude.{◌^◌, ◌≡◌, ◌<◌, ◌∷◌, [], true, List, IfOk, OnOk, Some, length, slice_get};
 ghost use Rattle.rtl_logic.specs.Making.{circuit};
 ghost use Rattle.clock_meaning.specs.ClockRuns.{TimedNode};
 ghost use Rattle.datapath.specs.Plans as plans;
@@ -73,14 +73,14 @@ fn write_state(
     groups: &Groups,
     number: usize,
 ) -> Result<(), AllocError>
-    requires { number < 2 ^ 32 }
+    requires { number < length of.now.cfg.now.nodes.items }
     ensures { (p : Plan) (names : List Register) (pushes : List Push) (n : TimedNode) → IsContext p names of.now → IsBegun p names (circuit logic.old)
         → ArePushes p names (circuit logic.old) pushes (moves_of p) → ((t : Target) → given groups.now t ≡ choices_of t pushes) → slice_get p.program.nodes number ≡ Some n
         → OnOk result (Logs p names (circuit logic.old) (circuit logic.new) log.old.pushes.items log.new.pushes.items (state_entries p (number, n))) }
 {
     let node = node_with_number(number);
     let entered = is_wanted(of.alloc, logic, groups, Target::Entered(node))?;
-    let looped = is_loop(of, number)?;
+    let looped = is_loop(of, number);
     if looped {
         write_load(of, logic, log, node, entered)?;
         let load = register_bit(of, Role::Load(node))?;
@@ -114,6 +114,7 @@ fn write_active(
     node: NodeId,
     begins: Atom,
 ) -> Result<(), AllocError>
+    requires { node.0 < length of.now.cfg.now.nodes.items }
     ensures { (p : Plan) (names : List Register) → IsContext p names of.now → IsBegun p names (circuit logic.old)
         → Tells p names (circuit logic.old) begins (λ (c : Cycle). control.begins p c node.0)
         → OnOk result (Logs p names (circuit logic.old) (circuit logic.new) log.old.pushes.items log.new.pushes.items (always_entry (role.Active node) (λ (c : Cycle). bit (control.next_active p c node.0)) ∷ [])) }

@@ -1,5 +1,5 @@
 //! When the tests of loops become known.
-ghost use Rattle.std.specs.Prelude.{◌<◌, ◌^◌, ◌≡◌, List, OnOk, Some, slice_get};
+ghost use Rattle.std.specs.Prelude.{◌<◌, ◌^◌, ◌≡◌, List, OnOk, Some, length, slice_get};
 ghost use Rattle.rtl_logic.specs.Making.{circuit};
 ghost use Rattle.clock_meaning.specs.ClockRuns.{TimedNode};
 ghost use Rattle.datapath.specs.Plans.{Plan};
@@ -38,11 +38,11 @@ fn write_exit(
     log: &mut Log,
     number: usize,
 ) -> Result<(), AllocError>
-    requires { number < 2 ^ 32 }
+    requires { number < length of.now.cfg.now.nodes.items }
     ensures { (p : Plan) (names : List Register) (n : TimedNode) → IsContext p names of.now → IsBegun p names (circuit logic.old) → slice_get p.program.nodes number ≡ Some n
         → OnOk result (Logs p names (circuit logic.old) (circuit logic.new) log.old.pushes.items log.new.pushes.items (exit_entries p (number, n))) }
 {
-    let looped = is_loop(of, number)?;
+    let looped = is_loop(of, number);
     if looped {
         let node = node_with_number(number);
         write_test(of, logic, log, node)
@@ -57,6 +57,7 @@ fn write_test(
     log: &mut Log,
     node: NodeId,
 ) -> Result<(), AllocError>
+    requires { node.0 < length of.now.cfg.now.nodes.items }
     ensures { (p : Plan) (names : List Register) → IsContext p names of.now → IsBegun p names (circuit logic.old)
         → OnOk result (Logs p names (circuit logic.old) (circuit logic.new) log.old.pushes.items log.new.pushes.items (test_entries p node.0)) }
 {

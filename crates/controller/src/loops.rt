@@ -1,5 +1,5 @@
 //! The registers that all loops share.
-ghost use Rattle.std.specs.Prelude.{◌<◌, ◌^◌, ◌≡◌, ◌||◌, ◌+◌, ◌-◌, ◌∷◌, [], ◌&&◌, true, false, List, Bool, IfOk, OnOk, MatchOption, Some, slice_get, map};
+ghost use Rattle.std.specs.Prelude.{◌<◌, ◌^◌, ◌≡◌, ◌||◌, ◌+◌, ◌-◌, ◌∷◌, [], ◌&&◌, true, false, List, Bool, IfOk, OnOk, MatchOption, Some, length, slice_get, map};
 ghost use Rattle.rtl_core.specs.Netlist.{Netlist};
 ghost use Rattle.rtl_logic.specs.Making.{circuit};
 ghost use Rattle.clock_meaning.specs.ClockRuns.{TimedNode};
@@ -67,12 +67,12 @@ fn loads(of: &Context<'_>) -> Result<Vec<Atom>, AllocError>
 
 /// Adds that of one node, if it is a loop.
 fn add_load(of: &Context<'_>, all: &mut Vec<Atom>, number: usize) -> Result<(), AllocError>
-    requires { number < 2 ^ 32 }
+    requires { number < length of.now.cfg.now.nodes.items }
     ensures { (p : Plan) (names : List Register) (d : Netlist) (n : TimedNode) (before : Cycle → Bool) → IsContext p names of.now → IsBegun p names d → slice_get p.program.nodes number ≡ Some n
         → TellTogether p names d all.old.items before
         → OnOk result (TellTogether p names d all.new.items (λ (c : Cycle). before c || (control.is_loop (Some n) && holds c (Load number)))) }
 {
-    let looped = is_loop(of, number)?;
+    let looped = is_loop(of, number);
     if !looped {
         return Ok(());
     }
@@ -142,13 +142,13 @@ fn add_end(
     all: &mut Vec<Atom>,
     number: usize,
 ) -> Result<(), AllocError>
-    requires { number < 2 ^ 32 }
+    requires { number < length of.now.cfg.now.nodes.items }
     ensures { (p : Plan) (names : List Register) (d : Netlist) (n : TimedNode) (before : Cycle → Bool) → IsContext p names of.now → slice_get p.program.nodes number ≡ Some n
         → MakesTogether p names d (circuit logic.old) all.old.items before
         → OnOk result (MakesTogether p names d (circuit logic.new) all.new.items
         (λ (c : Cycle). before c || (control.is_loop (Some n) && at p c number ((body_at p number).interval - 1)))) }
 {
-    let Some(interval) = interval_at(of, number)? else {
+    let Some(interval) = interval_at(of, number) else {
         return Ok(());
     };
     let node = node_with_number(number);
@@ -159,13 +159,14 @@ fn add_end(
 }
 
 /// The interval of a node that is a loop.
-fn interval_at(of: &Context<'_>, number: usize) -> Result<Option<u32>, AllocError>
+fn interval_at(of: &Context<'_>, number: usize) -> Option<u32>
+    requires { number < length of.now.cfg.now.nodes.items }
     ensures { (p : Plan) (names : List Register) (n : TimedNode) → IsContext p names of.now → slice_get p.program.nodes number ≡ Some n
-        → IfOk result (λ o. MatchOption o (control.is_loop (Some n) ≡ false) (λ k. (control.is_loop (Some n) ≡ true) × (k ≡ (body_at p number).interval))) }
+        → MatchOption result (control.is_loop (Some n) ≡ false) (λ k. (control.is_loop (Some n) ≡ true) × (k ≡ (body_at p number).interval)) }
 {
-    match node_at(of, number)? {
-        Node::Plain(_) => Ok(None),
-        Node::Looped(region) => Ok(Some(region.ii)),
+    match node_at(of, number) {
+        Node::Plain(_) => None,
+        Node::Looped(region) => Some(region.ii),
     }
 }
 

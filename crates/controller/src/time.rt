@@ -1,5 +1,5 @@
 //! The time within a node or the initial sequence, which begins again at 0 behind each.
-ghost use Rattle.std.specs.Prelude.{◌≡◌, ◌<◌, ◌≤◌, ◌^◌, ◌∷◌, [], List, IfOk, OnOk, Some, slice_get};
+ghost use Rattle.std.specs.Prelude.{◌≡◌, ◌<◌, ◌≤◌, ◌^◌, ◌∷◌, [], List, IfOk, OnOk, Some, length, slice_get};
 ghost use Rattle.std.specs.List.{All, flat_map};
 ghost use Rattle.std.specs.List.Sorted.{IsPermutation};
 ghost use Rattle.rtl_core.specs.ClockStep.{widths};
@@ -125,30 +125,30 @@ fn initial_span(of: &Context<'_>) -> Result<Vec<Spanned>, AllocError>
 
 /// A node, which in its last cycle goes on only where it is a block.
 fn node_span(of: &Context<'_>, logic: &mut Logic, number: usize) -> Result<Spanned, AllocError>
-    requires { number < 2 ^ 32 }
+    requires { number < length of.now.cfg.now.nodes.items }
     ensures { (p : Plan) (names : List Register) (n : TimedNode) → IsContext p names of.now → IsBegun p names (circuit logic.old) → slice_get p.program.nodes number ≡ Some n
         → IfOk result (λ s. (s.span ≡ plans.span p number) × MakesTelling p names (circuit logic.old) (circuit logic.new) s.active (λ (c : Cycle). control.stays_as p c number n)) }
 {
-    let span = span_at(of, number)?;
+    let span = span_at(of, number);
     let active = stays(of, logic, number)?;
     Ok(Spanned { span, active })
 }
 
-fn span_at(of: &Context<'_>, number: usize) -> Result<u64, AllocError>
-    ensures { (p : Plan) (names : List Register) (n : TimedNode) → IsContext p names of.now → slice_get p.program.nodes number ≡ Some n → IfOk result (λ k. k ≡ plans.span p number) }
+fn span_at(of: &Context<'_>, number: usize) -> u64
+    requires { number < length of.now.cfg.now.nodes.items }
+    ensures { (p : Plan) (names : List Register) (n : TimedNode) → IsContext p names of.now → slice_get p.program.nodes number ≡ Some n → result ≡ plans.span p number }
 {
-    let node = node_at(of, number)?;
-    Ok(span(node))
+    span(node_at(of, number))
 }
 
 fn stays(of: &Context<'_>, logic: &mut Logic, number: usize) -> Result<Atom, AllocError>
-    requires { number < 2 ^ 32 }
+    requires { number < length of.now.cfg.now.nodes.items }
     ensures { (p : Plan) (names : List Register) (n : TimedNode) → IsContext p names of.now → IsBegun p names (circuit logic.old) → slice_get p.program.nodes number ≡ Some n
         → IfOk result (λ a. MakesTelling p names (circuit logic.old) (circuit logic.new) a (λ (c : Cycle). control.stays_as p c number n)) }
 {
     let node = node_with_number(number);
     let active = register_bit(of, Role::Active(node))?;
-    let looped = is_loop(of, number)?;
+    let looped = is_loop(of, number);
     if looped {
         let leave = leaves(of, logic, node)?;
         except(logic, active, leave)

@@ -1,7 +1,8 @@
 //! The tests of loops, and the gates of their iterations.
-ghost use Rattle.std.specs.Prelude.{◌≡◌, ◌==◌, ◌&&◌, not, ℕ, List, IfOk, Some, slice_get};
+ghost use Rattle.std.specs.Prelude.{◌≡◌, ◌<◌, ◌==◌, ◌&&◌, not, ℕ, List, IfOk, Some, length, slice_get};
 ghost use Rattle.clock_meaning.specs.Flows.{known};
 ghost use Rattle.clock_meaning.specs.ClockRuns.{timed_node};
+ghost use Rattle.reg_binding.specs.SmallTimes.{IsEarlyNode};
 ghost use Rattle.rtl_logic.specs.Making.{circuit};
 ghost use Rattle.datapath.specs.Plans as plans;
 ghost use Rattle.datapath.specs.Plans.{Plan};
@@ -16,7 +17,6 @@ use circuit_context::numbers::{constant_bit, holds_number};
 use circuit_log::role::Role;
 use clock_ir::timed::Timed;
 use hls_base::number::NodeId;
-use hls_base::refusal::impossible;
 use ir_core::body::{Body, Op, Operand, Source};
 use ir_core::cfg::Node;
 use plan_sizes::sizes::{body_of, cycles_after_test, greatest_wait, span, test_known};
@@ -33,6 +33,7 @@ pub fn is_true(
     at: Reading,
     operand: Option<Operand>,
 ) -> Result<Atom, AllocError>
+    requires { at.node.0 < length of.now.cfg.now.nodes.items }
     ensures { (p : Plan) (names : List Register) → IsContext p names of.now → IsBegun p names (circuit logic.now)
         → IfOk result (λ a. Tells p names (circuit logic.now) a (λ (c : Cycle). reading.is_true p c at.node.0 at.time operand)) }
 {
@@ -59,41 +60,41 @@ pub fn has_test(body: &Body<Timed>) -> bool
 }
 
 /// The time of an iteration at which its test is known.
-fn known_at(node: &Node<Timed>) -> Result<u64, AllocError>
-    ensures { IfOk result (λ t. t ≡ known (plans.body_of (timed_node node.now))) }
+fn known_at(node: &Node<Timed>) -> u64
+    requires { IsEarlyNode node.now }
+    ensures { result ≡ known (plans.body_of (timed_node node.now)) }
 {
-    let time = test_known(body_of(node));
-    if time == u64::MAX {
-        return Err(impossible());
-    }
-    Ok(time)
+    test_known(body_of(node))
 }
 
 /// The bit of the cycles in which the test of an iteration becomes known.
 pub fn is_tested(of: &Context<'_>, logic: &mut Logic, node: NodeId) -> Result<Atom, AllocError>
+    requires { node.0 < length of.now.cfg.now.nodes.items }
     ensures { (p : Plan) (names : List Register) → IsContext p names of.now → IsBegun p names (circuit logic.old)
         → IfOk result (λ a. MakesTelling p names (circuit logic.old) (circuit logic.new) a (λ (c : Cycle). control.is_tested p c node.0)) }
 {
-    let itself = of.node(node)?;
+    let itself = of.node(node);
     if !has_test(body_of(itself)) {
         return Ok(constant_bit(false));
     }
-    let time = known_at(itself)?;
+    let time = known_at(itself);
     of.at_iteration(logic, Reading { node, time })
 }
 
 /// The bit of a loop's test.
 pub fn test_holds(of: &Context<'_>, logic: &Logic, node: NodeId) -> Result<Atom, AllocError>
+    requires { node.0 < length of.now.cfg.now.nodes.items }
     ensures { (p : Plan) (names : List Register) → IsContext p names of.now → IsBegun p names (circuit logic.now)
         → IfOk result (λ a. Tells p names (circuit logic.now) a (λ (c : Cycle). control.test_holds p c node.0)) }
 {
-    let itself = of.node(node)?;
-    let time = known_at(itself)?;
+    let itself = of.node(node);
+    let time = known_at(itself);
     is_true(of, logic, Reading { node, time }, body_of(itself).test)
 }
 
 /// Whether all tests so far were true, the one that may become known in this cycle among them.
 fn runs_on(of: &Context<'_>, logic: &mut Logic, node: NodeId) -> Result<Atom, AllocError>
+    requires { node.0 < length of.now.cfg.now.nodes.items }
     ensures { (p : Plan) (names : List Register) → IsContext p names of.now → IsBegun p names (circuit logic.old)
         → IfOk result (λ a. MakesTelling p names (circuit logic.old) (circuit logic.new) a (λ (c : Cycle). control.gate_after p c node.0 0 0)) }
 {
@@ -112,6 +113,7 @@ fn gate_after(
     tests: u64,
     rest: u64,
 ) -> Result<Atom, AllocError>
+    requires { node.0 < length of.now.cfg.now.nodes.items }
     ensures { (p : Plan) (names : List Register) → IsContext p names of.now → IsBegun p names (circuit logic.old)
         → IfOk result (λ a. MakesTelling p names (circuit logic.old) (circuit logic.new) a (λ (c : Cycle). control.gate_after p c node.0 tests rest)) }
 {
@@ -141,16 +143,17 @@ pub fn may_store(
     node: NodeId,
     op: &Op<Timed>,
 ) -> Result<Atom, AllocError>
+    requires { node.0 < length of.now.cfg.now.nodes.items }
     ensures { (p : Plan) (names : List Register) (k : ℕ) → IsContext p names of.now → IsBegun p names (circuit logic.old)
         → IfOk result (λ a. MakesTelling p names (circuit logic.old) (circuit logic.new) a (λ (c : Cycle). control.may_store p c (placed node.0 k op.now))) }
 {
     let time = op.stamp.start;
     let now = of.at_iteration(logic, Reading { node, time })?;
-    let itself = of.node(node)?;
+    let itself = of.node(node);
     if !is_gated(itself) {
         return Ok(now);
     }
-    let since = time.saturating_sub(known_at(itself)?);
+    let since = time.saturating_sub(known_at(itself));
     let cycles = span(itself);
     let gate = gate_after(of, logic, node, since / cycles, since % cycles)?;
     logic.and(now, gate)
@@ -183,6 +186,7 @@ fn has_failed(of: &Context<'_>, logic: &mut Logic, cycles: u64) -> Result<Atom, 
 
 /// The bit of the cycle in which the failing test becomes known.
 fn fails(of: &Context<'_>, logic: &mut Logic, node: NodeId) -> Result<Atom, AllocError>
+    requires { node.0 < length of.now.cfg.now.nodes.items }
     ensures { (p : Plan) (names : List Register) → IsContext p names of.now → IsBegun p names (circuit logic.old)
         → IfOk result (λ a. MakesTelling p names (circuit logic.old) (circuit logic.new) a (λ (c : Cycle). control.leaves_loop p c node.0 0)) }
 {
@@ -199,13 +203,14 @@ fn leaves_loop(
     node: NodeId,
     wait: u64,
 ) -> Result<Atom, AllocError>
+    requires { node.0 < length of.now.cfg.now.nodes.items }
     ensures { (p : Plan) (names : List Register) → IsContext p names of.now → IsBegun p names (circuit logic.old)
         → IfOk result (λ a. MakesTelling p names (circuit logic.old) (circuit logic.new) a (λ (c : Cycle). control.leaves_loop p c node.0 wait)) }
 {
     if wait == 0 {
         return fails(of, logic, node);
     }
-    if !has_test(body_of(of.node(node)?)) {
+    if !has_test(body_of(of.node(node))) {
         return Ok(constant_bit(false));
     }
     let active = of.active(node)?;
@@ -215,10 +220,11 @@ fn leaves_loop(
 
 /// The bit of the last cycle of a node.
 pub fn leaves(of: &Context<'_>, logic: &mut Logic, node: NodeId) -> Result<Atom, AllocError>
+    requires { node.0 < length of.now.cfg.now.nodes.items }
     ensures { (p : Plan) (names : List Register) → IsContext p names of.now → IsBegun p names (circuit logic.old)
         → IfOk result (λ a. MakesTelling p names (circuit logic.old) (circuit logic.new) a (λ (c : Cycle). control.leaves_if p c node.0 (slice_get p.program.nodes node.0))) }
 {
-    let itself = of.node(node)?;
+    let itself = of.node(node);
     match itself {
         Node::Plain(_) => {
             let time = span(itself) - 1;

@@ -3,3 +3,4 @@ pub mod Reading
 pub mod Owning
 pub mod Making
 pub mod Collecting
+pub mod Accessing

@@ -1,9 +1,10 @@
 -- Operations where they stand, and their arguments as wires.
-use Rattle.std.specs.Prelude.{◌≡◌, ◌<◌, ℕ, List, map, get_or, slice_get, Some, if◌then◌else◌}
+use Rattle.std.specs.Prelude.{◌≡◌, ◌⊎◌, ℕ, List, map, get_or, slice_get, Some, if◌then◌else◌}
 use Rattle.hls_base.specs.declared.number.ArrayId.{ArrayId}
 use Rattle.ir_core.specs.declared.body.Op.{Op}
 use Rattle.ir_core.specs.declared.body.OpKind.{OpKind}
 use Rattle.ir_core.specs.declared.body.OpKind.TheVariants as o
+use Rattle.ir_core.specs.declared.cfg.Node.{Node}
 use Rattle.rtl_core.specs.declared.design.Atom.{Atom}
 use Rattle.rtl_core.specs.Netlist.{Netlist}
 use Rattle.rtl_core.specs.ClockStep.{Widths, widths}
@@ -20,7 +21,7 @@ use Rattle.circuit_wires.specs.Carrying.{Carries}
 use Rattle.circuit_log.specs.declared.role.Target.TheVariants as t
 use Rattle.circuit_log.specs.Entries.{Entry, entry}
 use Rattle.circuit_log.specs.Logs.{CarriesSome}
-use Rattle.access_ports.specs.Numbers.{operations_of}
+use Rattle.access_ports.specs.Counting.{ops_in}
 use Rattle.circuit_context.specs.declared.context.Context.{Context}
 use Rattle.operation_wires.specs.Arguments.{missing, constant_bits, IsTakenFrom}
 use Rattle.operation_wires.specs.declared.operations.Arguments.{Arguments}
@@ -37,9 +38,16 @@ pub record IsStarted (p : Plan) (it : Started) : Type 0 where
   pub time : it.at.time ≡ it.op.now.stamp.start
   pub unit : unit_of p (placed_as it) ≡ it.op.now.stamp.bound
 
--- the program has an operation of this number in this node
-abbrev pub IsOfProgram : Context → Started → Type 0
-IsOfProgram of it = it.number < operations_of of.cfg.now.nodes.items it.at.node.0
+-- these are the operations of node i of the program
+pub record HasOps (of : Context) (i : ℕ) (ops : List (Op Timed)) : Type 0 where
+  pub node : Node Timed
+  pub stands : slice_get of.cfg.now.nodes.items i ≡ Some node
+  pub are : ops ≡ ops_in node
+
+-- the program has this operation in this node
+pub record IsOfProgram (of : Context) (it : Started) : Type 0 where
+  pub all : HasOps of it.at.node.0 it.ops.now
+  pub stands : slice_get it.ops.now it.number ≡ Some it.op.now
 
 -- ---- arguments
 
@@ -77,6 +85,11 @@ pub record AreRead (p : Plan) (names : List Register) (d : Netlist) (it : Starte
   pub third : Carries p names d (constant_bits it.op.now.kind it.op.now.bits 2) of.third (argument_of p it 2)
 
 -- ---- accesses
+
+-- the operation is an access to this array
+pub record IsAccessTo (it : Started) (array : ArrayId) : Type 0 where
+  pub kind : (it.op.now.kind ≡ o.Load) ⊎ (it.op.now.kind ≡ o.Store)
+  pub array_ : it.op.now.array ≡ Some array
 
 -- the access is to this array, at this port
 pub record IsPortOf (p : Plan) (it : Started) (port : Port) : Type 0 where

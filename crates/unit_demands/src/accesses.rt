@@ -1,5 +1,5 @@
 //! What loads and stores give to their ports.
-ghost use Rattle.std.specs.Prelude.{◌≡◌, ◌∷◌, [], ℕ, List, map, IfOk, OnOk, Some};
+ghost use Rattle.std.specs.Prelude.{◌≡◌, ◌<◌, ◌∷◌, [], ℕ, List, map, length, OnOk, Some};
 ghost use Rattle.ir_core.specs.declared.body.OpKind.TheVariants as o;
 ghost use Rattle.ir_core.specs.declared.body.Operand.{Operand};
 ghost use Rattle.rtl_logic.specs.Making.{circuit};
@@ -11,7 +11,7 @@ ghost use Rattle.access_ports.specs.Numbers.{IsAccess};
 ghost use Rattle.circuit_log.specs.Entries.{address_entry, refusal_entries, entries_as};
 ghost use Rattle.circuit_log.specs.Logs.{Logs};
 ghost use Rattle.circuit_context.specs.Contexts.{IsContext};
-ghost use Rattle.unit_demands.specs.Placing.{placed_as, IsOfProgram, IsStarted, IsPortOf, subscripts_as, stored_entry};
+ghost use Rattle.unit_demands.specs.Placing.{placed_as, IsOfProgram, IsAccessTo, IsStarted, IsPortOf, subscripts_as, stored_entry};
 
 use crate::started::Started;
 use circuit_context::context::Context;
@@ -19,7 +19,6 @@ use circuit_log::log::Log;
 use circuit_log::role::Target;
 use clock_ir::timed::Timed;
 use hls_base::number::ArrayId;
-use hls_base::refusal::impossible;
 use ir_core::body::{Op, OpKind, Operand};
 use loop_conditions::tests::{is_true, may_store};
 use rtl_logic::logic::Logic;
@@ -34,46 +33,45 @@ pub struct Port {
 }
 
 /// The subscripts of an access: all arguments, of a store all but the last.
-fn subscripts(op: &Op<Timed>) -> Result<&[Operand], AllocError>
-    ensures { (f : Operand → ℕ) → IfOk result (λ xs. map f xs.now ≡ subscripts_as op.now.kind (map f op.now.args.items)) }
+fn subscripts(op: &Op<Timed>) -> &[Operand]
+    requires { op.now.kind ≡ o.Store → 0 < length op.now.args.items }
+    ensures { (f : Operand → ℕ) → map f result.now ≡ subscripts_as op.now.kind (map f op.now.args.items) }
 {
     let args = op.args.as_slice();
     match op.kind {
         OpKind::Store => match args.split_last() {
-            Some((_, rest)) => Ok(rest),
-            None => Err(impossible()),
+            Some((_, rest)) => rest,
+            None => unreachable!(),
         },
-        _ => Ok(args),
+        _ => args,
     }
 }
 
 /// What a store stores.
-fn stored(op: &Op<Timed>) -> Result<Operand, AllocError>
-    ensures { (f : Operand → ℕ) → IfOk result (λ x. f x ≡ bodies.stored (map f op.now.args.items)) }
+fn stored(op: &Op<Timed>) -> Operand
+    requires { 0 < length op.now.args.items }
+    ensures { (f : Operand → ℕ) → f result ≡ bodies.stored (map f op.now.args.items) }
 {
     match op.args.as_slice().split_last() {
-        Some((last, _)) => Ok(*last),
-        None => Err(impossible()),
+        Some((last, _)) => *last,
+        None => unreachable!(),
     }
 }
 
 /// The bits of an array's words.
-fn word_bits(of: &Context<'_>, array: ArrayId) -> Result<u8, AllocError>
-    ensures { (p : Plan) (names : List Register) → IsContext p names of.now → IfOk result (λ bits. bits ≡ (array_at p array.0).bits) }
+fn word_bits(of: &Context<'_>, array: ArrayId) -> u8
+    requires { array.0 < length of.now.cfg.now.frame.memories.items }
+    ensures { (p : Plan) (names : List Register) → IsContext p names of.now → result ≡ (array_at p array.0).bits }
 {
     let memories = &of.cfg.frame.memories;
-    let k = array.0 as usize;
-    if k < memories.len() {
-        Ok(memories[k].bits)
-    } else {
-        Err(impossible())
-    }
+    memories[array.0 as usize].bits
 }
 
 /// The port of an access to an array.
 fn port_used(of: &Context<'_>, it: &Started<'_>, array: ArrayId) -> Port
     requires { IsOfProgram of.now it.now }
-    ensures { (p : Plan) (names : List Register) → IsContext p names of.now → IsStarted p it.now → IsAccess it.now.op.now.kind → it.now.op.now.array ≡ Some array
+    ensures array { result.array ≡ array }
+    ensures port { (p : Plan) (names : List Register) → IsContext p names of.now → IsStarted p it.now → IsAccess it.now.op.now.kind → it.now.op.now.array ≡ Some array
         → IsPortOf p it.now result }
 {
     let number = of.ports.port(it.at.node, it.number);
@@ -88,10 +86,12 @@ fn give_address(
     it: &Started<'_>,
     port: Port,
 ) -> Result<(), AllocError>
+    requires program { IsOfProgram of.now it.now }
+    requires access { IsAccessTo it.now port.array }
     ensures { (p : Plan) (names : List Register) → IsContext p names of.now → IsBegun p names (circuit logic.old) → IsPortOf p it.now port
         → OnOk result (Logs p names (circuit logic.old) (circuit logic.new) log.old.pushes.items log.new.pushes.items (address_entry p port.array (placed_as it.now) ∷ [])) }
 {
-    let subscripts = subscripts(it.op)?;
+    let subscripts = subscripts(it.op);
     let when = of.at(logic, it.at)?;
     let address = of.address(logic, it.at, port.array, subscripts)?;
     let Port { array, number } = port;
@@ -110,6 +110,7 @@ fn give_refusal(
     it: &Started<'_>,
     port: Port,
 ) -> Result<(), AllocError>
+    requires { IsOfProgram of.now it.now }
     ensures { (p : Plan) (names : List Register) → IsContext p names of.now → IsBegun p names (circuit logic.old) → IsPortOf p it.now port
         → OnOk result (Logs p names (circuit logic.old) (circuit logic.new) log.old.pushes.items log.new.pushes.items (refusal_entries p port.array (placed_as it.now))) }
 {
@@ -136,11 +137,14 @@ fn give_word(
     it: &Started<'_>,
     port: Port,
 ) -> Result<(), AllocError>
+    requires program { IsOfProgram of.now it.now }
+    requires access { IsAccessTo it.now port.array }
+    requires kind { it.now.op.now.kind ≡ o.Store }
     ensures { (p : Plan) (names : List Register) → IsContext p names of.now → IsBegun p names (circuit logic.old) → IsStarted p it.now → IsPortOf p it.now port
         → OnOk result (Logs p names (circuit logic.old) (circuit logic.new) log.old.pushes.items log.new.pushes.items (stored_entry p port.array (placed_as it.now) ∷ [])) }
 {
-    let bits = word_bits(of, port.array)?;
-    let word = of.operand(logic, it.at, stored(it.op)?, bits)?;
+    let bits = word_bits(of, port.array);
+    let word = of.operand(logic, it.at, stored(it.op), bits)?;
     let may = may_store(of, logic, it.at.node, it.op)?;
     let allowed = is_true(of, logic, it.at, it.op.guard)?;
     let when = logic.and(may, allowed)?;
@@ -159,12 +163,13 @@ pub fn give_load(
     log: &mut Log,
     it: &Started<'_>,
 ) -> Result<(), AllocError>
-    requires { IsOfProgram of.now it.now }
+    requires program { IsOfProgram of.now it.now }
+    requires kind { it.now.op.now.kind ≡ o.Load }
     ensures { (p : Plan) (names : List Register) → IsContext p names of.now → IsBegun p names (circuit logic.old) → IsStarted p it.now → it.now.op.now.kind ≡ o.Load
         → OnOk result (Logs p names (circuit logic.old) (circuit logic.new) log.old.pushes.items log.new.pushes.items (entries_as p o.Load it.now.op.now.array (placed_as it.now))) }
 {
     let Some(array) = it.op.array else {
-        return Err(impossible());
+        unreachable!()
     };
     let port = port_used(of, it, array);
     give_address(of, logic, log, it, port)?;
@@ -178,7 +183,8 @@ pub fn give_store(
     log: &mut Log,
     it: &Started<'_>,
 ) -> Result<(), AllocError>
-    requires { IsOfProgram of.now it.now }
+    requires program { IsOfProgram of.now it.now }
+    requires kind { it.now.op.now.kind ≡ o.Store }
     ensures { (p : Plan) (names : List Register) → IsContext p names of.now → IsBegun p names (circuit logic.old) → IsStarted p it.now → it.now.op.now.kind ≡ o.Store
         → OnOk result (Logs p names (circuit logic.old) (circuit logic.new) log.old.pushes.items log.new.pushes.items (entries_as p o.Store it.now.op.now.array (placed_as it.now))) }
 {

@@ -8,7 +8,7 @@ ghost use Rattle.datapath.specs.Cycles.{Register};
 ghost use Rattle.circuit_wires.specs.Carrying.{IsBegun};
 ghost use Rattle.operation_wires.specs.Arguments.{IsTakenFrom};
 ghost use Rattle.circuit_context.specs.Contexts.{IsContext};
-ghost use Rattle.unit_demands.specs.Placing.{trees, argument_of, CarriesWord, IsFirst, AreRead};
+ghost use Rattle.unit_demands.specs.Placing.{trees, argument_of, CarriesWord, IsFirst, AreRead, IsOfProgram};
 
 use crate::started::Started;
 use circuit_context::context::Context;
@@ -63,6 +63,7 @@ fn argument_of_any_width(
     logic: &Logic,
     it: &Started<'_>,
 ) -> Result<Atom, AllocError>
+    requires { IsOfProgram of.now it.now }
     ensures { (p : Plan) (names : List Register) → IsContext p names of.now → IsBegun p names (circuit logic.now)
         → IfOk result (λ a. CarriesWord p names (circuit logic.now) a (argument_of p it.now 0)) }
 {
@@ -84,6 +85,7 @@ fn is_taken_from(bits: u8, width: u8, from: u8) -> bool
 
 /// The argument of an operation that widens it.
 fn widened_argument(of: &Context<'_>, logic: &Logic, it: &Started<'_>) -> Result<Atom, AllocError>
+    requires { IsOfProgram of.now it.now }
     ensures { (p : Plan) (names : List Register) → IsContext p names of.now → IsBegun p names (circuit logic.now) → it.now.op.now.kind ≡ o.Widen
         → IfOk result (IsFirst p names (circuit logic.now) it.now) }
 {
@@ -98,6 +100,7 @@ fn widened_argument(of: &Context<'_>, logic: &Logic, it: &Started<'_>) -> Result
 
 /// The first argument of an operation.
 fn first_argument(of: &Context<'_>, logic: &Logic, it: &Started<'_>) -> Result<Atom, AllocError>
+    requires { IsOfProgram of.now it.now }
     ensures { (p : Plan) (names : List Register) → IsContext p names of.now → IsBegun p names (circuit logic.now)
         → IfOk result (IsFirst p names (circuit logic.now) it.now) }
 {
@@ -110,6 +113,7 @@ fn first_argument(of: &Context<'_>, logic: &Logic, it: &Started<'_>) -> Result<A
 
 /// The values of an operation's first arguments in the cycle in which it starts.
 pub fn arguments(of: &Context<'_>, logic: &Logic, it: &Started<'_>) -> Result<Arguments, AllocError>
+    requires { IsOfProgram of.now it.now }
     ensures { (p : Plan) (names : List Register) → IsContext p names of.now → IsBegun p names (circuit logic.now)
         → IfOk result (AreRead p names (circuit logic.now) it.now) }
 {

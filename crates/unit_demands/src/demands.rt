@@ -10,12 +10,11 @@ ghost use Rattle.datapath.specs.Plans.{Plan};
 ghost use Rattle.datapath.specs.Cycles.{Register};
 ghost use Rattle.circuit_wires.specs.Carrying.{IsBegun};
 ghost use Rattle.access_ports.specs.Counting.{ops_in};
-ghost use Rattle.access_ports.specs.Numbers.{operations_of};
 ghost use Rattle.circuit_log.specs.Entries.{demands_of, all_demands};
 ghost use Rattle.circuit_log.specs.Logs.{Logs};
 ghost use Rattle.circuit_context.specs.Contexts.{IsContext};
 ghost use Rattle.unit_demands.specs.Computed.{AreComputed};
-ghost use Rattle.unit_demands.specs.Placing.{placed_as, IsOfProgram, IsStarted};
+ghost use Rattle.unit_demands.specs.Placing.{placed_as, HasOps, IsOfProgram, IsStarted};
 ghost use Rattle.unit_demands.specs.Collected.{AreOpsOf, Collects, CollectsOps, CollectsNodes};
 
 use crate::accesses::{give_load, give_store};
@@ -82,7 +81,7 @@ fn collect_node(
     node: NodeId,
     ops: &[Op<Timed>],
 ) -> Result<Vec<Option<Atom>>, AllocError>
-    requires { length ops.now ≡ operations_of of.now.cfg.now.nodes.items node.0 }
+    requires { HasOps of.now node.0 ops.now }
     ensures { (p : Plan) (names : List Register) → IsContext p names of.now → IsBegun p names (circuit logic.old) → AreOpsOf p node.0 ops.now
         → IfOk result (λ wires. CollectsOps p names (circuit logic.old) (circuit logic.new) log.old.pushes.items log.new.pushes.items node.0 ops.now wires.items) }
 {

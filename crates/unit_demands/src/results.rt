@@ -7,13 +7,12 @@ ghost use Rattle.datapath.specs.Cycles.{Register, Cycle};
 ghost use Rattle.datapath.specs.Values.{computed};
 ghost use Rattle.circuit_wires.specs.Carrying.{IsBegun, MakesCarrying};
 ghost use Rattle.circuit_context.specs.Contexts.{IsContext};
-ghost use Rattle.unit_demands.specs.Placing.{placed_as, IsStarted, HasWire};
+ghost use Rattle.unit_demands.specs.Placing.{placed_as, IsStarted, HasWire, IsOfProgram};
 ghost use Rattle.unit_demands.specs.Collected.{IsWireOf};
 
 use crate::arguments::arguments;
 use crate::started::Started;
 use circuit_context::context::Context;
-use hls_base::refusal::impossible;
 use ir_core::body::OpKind;
 use operation_wires::operations::value_of;
 use rtl_core::design::Atom;
@@ -22,13 +21,10 @@ use std::alloc::AllocError;
 
 /// The wire of the result of an operation that has neither a shared unit nor a port.
 fn result_of(of: &Context<'_>, logic: &mut Logic, it: &Started<'_>) -> Result<Atom, AllocError>
+    requires { IsOfProgram of.now it.now }
     ensures { (p : Plan) (names : List Register) → IsContext p names of.now → IsBegun p names (circuit logic.old) → IsStarted p it.now → HasWire it.now.op.now.kind
         → IfOk result (λ a. MakesCarrying p names (circuit logic.old) (circuit logic.new) (timing.result_bits it.now.op.now.kind it.now.op.now.bits) a (λ (c : Cycle). computed p c (placed_as it.now))) }
 {
-    let bits = it.op.bits;
-    if bits < 1 || bits > 64 {
-        return Err(impossible());
-    }
     let arguments = arguments(of, logic, it)?;
     value_of(logic, it.op, arguments)
 }
@@ -39,6 +35,7 @@ pub fn wire_of(
     logic: &mut Logic,
     it: &Started<'_>,
 ) -> Result<Option<Atom>, AllocError>
+    requires { IsOfProgram of.now it.now }
     ensures { (p : Plan) (names : List Register) → IsContext p names of.now → IsBegun p names (circuit logic.old) → IsStarted p it.now
         → IfOk result (λ wire. Appends (circuit logic.old) (circuit logic.new) × IsBegun p names (circuit logic.new) × IsWireOf p names (circuit logic.new) it.now wire) }
 {

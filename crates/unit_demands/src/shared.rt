@@ -7,7 +7,7 @@ ghost use Rattle.circuit_wires.specs.Carrying.{IsBegun};
 ghost use Rattle.circuit_log.specs.Entries.{shared_entries, unit_at};
 ghost use Rattle.circuit_log.specs.Logs.{Logs};
 ghost use Rattle.circuit_context.specs.Contexts.{IsContext};
-ghost use Rattle.unit_demands.specs.Placing.{placed_as, IsStarted};
+ghost use Rattle.unit_demands.specs.Placing.{placed_as, IsStarted, IsOfProgram};
 
 use crate::started::Started;
 use circuit_context::context::Context;
@@ -26,6 +26,7 @@ pub fn give_operands(
     it: &Started<'_>,
     kind: UnitKind,
 ) -> Result<(), AllocError>
+    requires { IsOfProgram of.now it.now }
     ensures { (p : Plan) (names : List Register) → IsContext p names of.now → IsBegun p names (circuit logic.old) → IsStarted p it.now
         → OnOk result (Logs p names (circuit logic.old) (circuit logic.new) log.old.pushes.items log.new.pushes.items (shared_entries p (unit_at p kind (placed_as it.now)) (placed_as it.now))) }
 {

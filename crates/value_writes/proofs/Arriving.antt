@@ -1,6 +1,6 @@
 -- What results are, by the kinds of their operations.
-use Rattle.std.proofs.Common.{◌≡◌, ◌≢◌, ◌<◌, ◌≤◌, ℕ, ◌-◌, ◌^◌, true, false, [], get_or, slice_get, Some, refl, sym, ap, ◌∙◌, arith}
-use Rattle.std.specs.Prelude.{min, if◌then◌else◌}
+use Rattle.std.proofs.Common.{◌≡◌, ◌≢◌, ◌<◌, ◌≤◌, ℕ, ◌-◌, true, false, [], get_or, slice_get, Some, refl, sym, ap, ◌∙◌}
+use Rattle.std.specs.Prelude.{if◌then◌else◌}
 use Rattle.std.proofs.lemmas.Bool.{lt-ltb, le-ltb}
 use Rattle.hls_base.specs.declared.number.ArrayId.{ArrayId}
 use Rattle.hls_base.specs.declared.number.OpId.{OpId}
@@ -24,10 +24,6 @@ use Rattle.unit_circuits.specs.Units.{answer_of}
 
 abbrev placed : ℕ → ℕ → TimedOp → Placed
 placed i k it = record { node = i; number = k; op = it }
-
--- a number that stops at a greatest one is exact below it
-pub below_cap : (x r s : ℕ) → x ≡ min r (2 ^ 64 - 1) → r ≡ s → x ≢ 2 ^ 64 - 1 → x ≡ s
-below_cap x r s is same below = omega (arith, is, same, below)
 
 pub load_arrives : (p : Plan) (i k : ℕ) (it : TimedOp) (array : ArrayId) (port : ℕ) → slice_get (body_at p i).ops k ≡ Some it → it.op.kind ≡ o.Load → it.op.array ≡ Some array
     → port ≡ port_of p array.0 (placed i k it) → (x : Cycle) → x.regs (Word array.0 port) ≡ arriving p x i k

@@ -1,7 +1,9 @@
 -- Arguments and first values as atoms.
-use Rattle.std.proofs.Common.{◌≡◌, ◌<◌, ◌≤◌, ℕ, zero, suc, ◌+◌, ◌*◌, ◌/◌, ◌%◌, ◌^◌, List, [], ◌∷◌, ◌++◌, length, map, slice_get, slice_index, Some, refl, sym, ap, ◌∙◌, subst, arith}
-use Rattle.std.proofs.Math.Nat.{lt-div-mul-add, mod-eq_of_lt}
-use Rattle.std.proofs.lemmas.Nat.{pow_pos}
+use Rattle.std.proofs.Common.{◌≡◌, ◌<◌, ◌≤◌, ℕ, zero, suc, ◌+◌, ◌%◌, ◌^◌, true, ◌&&◌, List, [], ◌∷◌, ◌++◌, length, map, get_or, slice_get, slice_index, Option, Some, None, refl, sym, ap, ◌∙◌, subst, arith}
+use Rattle.std.specs.Prelude.{not, nat_lt}
+use Rattle.std.proofs.Math.Nat.{mod-eq_of_lt}
+use Rattle.std.proofs.lemmas.Bool.{ltb-true, false≢true}
+use Rattle.std.proofs.lemmas.Option.{slice_get_within, get_or_from_slice_get}
 use Rattle.std.proofs.lemmas.List.{length-map}
 use Rattle.hls_base.specs.declared.number.VarId.{VarId}
 use Rattle.rtl_core.specs.declared.design.Atom.{Atom}
@@ -14,7 +16,15 @@ use Rattle.datapath.specs.Cycles.{Register, starts}
 use Rattle.datapath.specs.Control.{is_taken}
 use Rattle.rtl_core.specs.ClockStep.{input_widths}
 use Rattle.rtl_core.proofs.Fits.{fit_get}
-use Rattle.std.specs.List.{enumerate_from}
+use Rattle.std.specs.List.{enumerate_from, list_all}
+use Rattle.ir_core.specs.declared.cfg.Cfg.{Cfg}
+use Rattle.ir_core.specs.declared.cfg.Frame.{Frame}
+use Rattle.clock_ir.specs.declared.timed.Timed.{Timed}
+use Rattle.program_validity.specs.Widths.{is_width, is_word_of}
+use Rattle.program_validity.specs.Frames.{is_among, is_result_width, are_params, are_kept, is_kept, keep_different, is_frame}
+use Rattle.program_validity.specs.Programs.{is_consistent}
+use Rattle.program_validity.proofs.Parts.{first_of_both, second_of_both, holds_at, frame_valid}
+use Rattle.program_validity.proofs.EachOperation.{width_between}
 use Rattle.hls_base.specs.declared.number.Kept.{Kept}
 use Rattle.hls_base.specs.declared.number.NodeId.{NodeId}
 use Rattle.circuit_log.specs.declared.role.Target.TheVariants as t
@@ -49,12 +59,42 @@ argument_carries p names d k begun low =
       };
     }
 
--- no bit of the number is above
-pub no_high_bits : (number bits : ℕ) → number / 2 ^ bits ≡ 0 → number < 2 ^ bits
-no_high_bits number bits none =
-    let whole : number < number / 2 ^ bits * 2 ^ bits + 2 ^ bits = lt-div-mul-add (pow_pos bits) in
-    let past : number < 0 * 2 ^ bits + 2 ^ bits = subst (λ q. number < q * 2 ^ bits + 2 ^ bits) none whole in
-    omega (arith, past)
+-- ---- kept variables
+
+kept_valid : (f : Frame) → is_frame f ≡ true → list_all (is_kept f) f.kept.items ≡ true
+kept_valid f h =
+    let few = nat_lt (length f.variables.items) (2 ^ 32) && nat_lt (length f.memories.items) (2 ^ 32) in
+    let widths = list_all is_width f.variables.items && is_result_width f.ret in
+    let both = first_of_both (are_params f && are_kept f) _ (second_of_both widths _ (second_of_both few _ h)) in
+    first_of_both (list_all (is_kept f) f.kept.items) (keep_different f.kept.items) (second_of_both (are_params f) (are_kept f) both)
+
+pub all_kept : (cfg : Cfg Timed) → is_consistent cfg ≡ true → list_all (is_kept cfg.frame) cfg.frame.kept.items ≡ true
+all_kept cfg h = kept_valid cfg.frame (frame_valid cfg h)
+
+variables_valid : (f : Frame) → is_frame f ≡ true → list_all is_width f.variables.items ≡ true
+variables_valid f h =
+    let few = nat_lt (length f.variables.items) (2 ^ 32) && nat_lt (length f.memories.items) (2 ^ 32) in
+    let widths = list_all is_width f.variables.items && is_result_width f.ret in
+    first_of_both (list_all is_width f.variables.items) (is_result_width f.ret) (first_of_both widths _ (second_of_both few _ h))
+
+-- the variable is there, and its first value has its width
+kept_there : (f : Frame) (k : Kept) → is_kept f k ≡ true → (bits : ℕ) × (slice_get f.variables.items k.variable.0 ≡ Some bits) × (k.value < 2 ^ bits)
+kept_there f k h = at (slice_get f.variables.items k.variable.0) refl (first_of_both (is_word_of (slice_get f.variables.items k.variable.0) k.value) (not (is_among k.variable f.params.items)) h) where
+  at : (o : Option ℕ) → slice_get f.variables.items k.variable.0 ≡ o → is_word_of o k.value ≡ true → (bits : ℕ) × (slice_get f.variables.items k.variable.0 ≡ Some bits) × (k.value < 2 ^ bits)
+  at None none h = absurd (false≢true h)
+  at (Some bits) there h = (bits, there, ltb-true k.value (2 ^ bits) h)
+
+pub kept_inside : (f : Frame) (k : Kept) → is_kept f k ≡ true → k.variable.0 < length f.variables.items
+kept_inside f k h = let there = kept_there f k h in slice_get_within f.variables.items k.variable.0 there.0 there.1
+
+pub kept_fits : (cfg : Cfg Timed) (k : Kept) (bits : ℕ) → is_consistent cfg ≡ true → is_kept cfg.frame k ≡ true → bits ≡ get_or cfg.frame.variables.items k.variable.0 bits
+    → (1 ≤ bits) × (bits ≤ 64) × (k.value < 2 ^ bits)
+kept_fits cfg k bits h kept is =
+    let vars = cfg.frame.variables.items in
+    let there = kept_there cfg.frame k kept in
+    let same : bits ≡ there.0 = is ∙ get_or_from_slice_get vars k.variable.0 there.0 bits there.1 in
+    let between = width_between there.0 (holds_at is_width vars k.variable.0 there.0 (variables_valid cfg.frame (frame_valid cfg h)) there.1) in
+    (subst (λ n. 1 ≤ n) (sym same) between.0, subst (λ n. n ≤ 64) (sym same) between.1, subst (λ n. k.value < 2 ^ n) (sym same) there.2)
 
 pub number_carries : (p : Plan) (names : List Register) (d : Netlist) (number bits : ℕ) (a : Atom) → 1 ≤ bits → bits ≤ 64 → number < 2 ^ bits → a ≡ atom.Constant bits (number % 2 ^ bits)
     → CarriesSome p names d a (λ c. number)

@@ -5,3 +5,4 @@ pub mod Beginning
 pub mod Choosing
 pub mod Arriving
 pub mod Placing
+pub mod Outs

@@ -1,7 +1,7 @@
 -- Nodes of a program as they stand in its plan.
 use Rattle.std.proofs.Common.{◌≡◌, ℕ, List, [], length, map, get_or, slice_get, Option, Some, None, sym, ap, ◌∙◌}
 use Rattle.std.proofs.Common.{Vec, Global, ◌<◌, ◌-◌}
-use Rattle.std.specs.Prelude.{filter}
+use Rattle.std.specs.Prelude.{filter, IfSome}
 use Rattle.std.proofs.lemmas.List.{length-map}
 use Rattle.std.proofs.lemmas.Option.{same_Some}
 use Rattle.hls_base.specs.declared.number.NodeId.{NodeId}
@@ -32,6 +32,10 @@ use Rattle.datapath.specs.Plans.{Plan, span, body_of, body_if, body_at, node_uni
 use Rattle.datapath.specs.Cycles.{Register, Cycle}
 use Rattle.circuit_context.specs.declared.context.Context.{Context}
 use Rattle.circuit_context.specs.Contexts.{IsContext}
+
+pub some_weaker : {A : Type 0} (o : Option A) (P Q : A → Type 0) → ((a : A) → P a → Q a) → IfSome o P → IfSome o Q
+some_weaker None P Q f h = tt
+some_weaker (Some a) P Q f h = f a h
 
 -- a node of the program is one of the plan
 pub node_stands : (p : Plan) (names : List Register) (of : Context) (i : ℕ) (node : Node Timed) → IsContext p names of → slice_get of.cfg.now.nodes.items i ≡ Some node

@@ -1,7 +1,8 @@
 //! The first values of variables.
-ghost use Rattle.std.specs.Prelude.{◌≡◌, ◌<◌, ◌+◌, ◌^◌, List, map, IfOk, OnOk, [], ◌∷◌, Some};
-ghost use Rattle.std.specs.List.{enumerate_from};
+ghost use Rattle.std.specs.Prelude.{◌≡◌, ◌<◌, ◌≤◌, ◌+◌, ◌^◌, List, map, IfOk, OnOk, [], ◌∷◌, true};
+ghost use Rattle.std.specs.List.{enumerate_from, list_all};
 ghost use Rattle.rtl_core.specs.Netlist.{Netlist};
+ghost use Rattle.program_validity.specs.Frames.{is_kept};
 ghost use Rattle.rtl_logic.specs.Making.{circuit};
 ghost use Rattle.datapath.specs.Plans.{Plan};
 ghost use Rattle.datapath.specs.Cycles.{Register};
@@ -16,7 +17,6 @@ use circuit_context::context::Context;
 use circuit_log::log::Log;
 use circuit_log::role::Role;
 use hls_base::number::{Kept, VarId};
-use hls_base::refusal::impossible;
 use plan_sizes::pins::{FIRST_ARGUMENT, START};
 use rtl_core::design::Atom;
 use rtl_logic::logic::Logic;
@@ -60,27 +60,25 @@ fn write_arguments(
 }
 
 /// A number of so many bits.
-fn number_in_bits(bits: u8, number: u64) -> Result<Atom, AllocError>
-    ensures { (p : Plan) (names : List Register) (d : Netlist) → IfOk result (λ a. CarriesSome p names d a (λ c. number)) }
+fn number_in_bits(bits: u8, number: u64) -> Atom
+    requires some { 1 ≤ bits }
+    requires few { bits ≤ 64 }
+    requires fits { number < 2 ^ bits }
+    ensures { (p : Plan) (names : List Register) (d : Netlist) → CarriesSome p names d result (λ c. number) }
 {
-    if bits == 0 || bits > 64 {
-        return Err(impossible());
-    }
-    if number as u128 >> bits as u32 != 0 {
-        return Err(impossible());
-    }
-    Ok(constant(bits, number as u128))
+    constant(bits, number as u128)
 }
 
 /// The first value of a kept variable, in the initial sequence.
 fn write_first(of: &Context<'_>, logic: &Logic, log: &mut Log, kept: Kept) -> Result<(), AllocError>
+    requires { is_kept of.now.cfg.now.frame kept ≡ true }
     ensures { (p : Plan) (names : List Register) → IsContext p names of.now → IsBegun p names (circuit logic.now)
         → OnOk result (Logs p names (circuit logic.now) (circuit logic.now) log.old.pushes.items log.new.pushes.items (kept_entry kept ∷ [])) }
 {
     let when = of.bank.register(Role::Initial)?;
     let role = Role::Variable(kept.variable);
-    let bits = logic.width(of.bank.register(role)?);
-    let value = number_in_bits(bits, kept.value)?;
+    let bits = of.cfg.frame.variables[kept.variable.0 as usize];
+    let value = number_in_bits(bits, kept.value);
     take(of, logic, log, role, Choice { when, value })
 }
 
@@ -91,6 +89,7 @@ fn write_kept(
     log: &mut Log,
     all: &[Kept],
 ) -> Result<(), AllocError>
+    requires { list_all (is_kept of.now.cfg.now.frame) all.now ≡ true }
     ensures { (p : Plan) (names : List Register) → IsContext p names of.now → IsBegun p names (circuit logic.now)
         → OnOk result (Logs p names (circuit logic.now) (circuit logic.now) log.old.pushes.items log.new.pushes.items (map kept_entry all.now)) }
 {

@@ -1,5 +1,5 @@
 //! What happens at the end of each node.
-ghost use Rattle.std.specs.Prelude.{◌<◌, ◌^◌, ◌≡◌, ℕ, List, Some, IfOk, OnOk, filter, slice_get};
+ghost use Rattle.std.specs.Prelude.{◌<◌, ◌^◌, ◌≡◌, ℕ, List, Some, IfOk, OnOk, filter, length, slice_get};
 ghost use Rattle.rtl_logic.specs.Making.{circuit};
 ghost use Rattle.clock_meaning.specs.ClockRuns as runs;
 ghost use Rattle.clock_meaning.specs.ClockRuns.{TimedNode};
@@ -11,10 +11,12 @@ ghost use Rattle.datapath.specs.Reading as reading;
 ghost use Rattle.datapath.specs.Values as values;
 ghost use Rattle.circuit_wires.specs.Carrying.{IsBegun, Tells};
 ghost use Rattle.circuit_log.specs.Logs.{CarriesSome, Logs};
+ghost use Rattle.reg_binding.specs.SmallTimes.{IsNear};
 ghost use Rattle.circuit_context.specs.Contexts.{IsContext};
 ghost use Rattle.circuit_log.specs.Entries.{all_ends, end_entries, out_entries};
 ghost use Rattle.unit_circuits.specs.Units.{HasAnswers};
 ghost use Rattle.unit_demands.specs.Computed.{AreComputed};
+ghost use Rattle.value_writes.specs.Outs.{HasOut};
 
 use crate::nodes::{last_cycle, node_at, there_at};
 use crate::pushes::take;
@@ -24,7 +26,6 @@ use circuit_context::context::{Context, Reading};
 use circuit_log::log::Log;
 use circuit_log::role::Role;
 use hls_base::number::{NodeId, VarId};
-use hls_base::refusal::impossible;
 use ir_core::body::{Operand, Out, Source};
 use ir_core::cfg::Node;
 use live_variables::var_set::VarSet;
@@ -50,13 +51,14 @@ fn last_value(
     node: NodeId,
     out: Out,
 ) -> Result<Atom, AllocError>
+    requires { HasOut of.now node.0 out }
     ensures { (p : Plan) (names : List Register) → IsContext p names of.now → IsBegun p names (circuit logic.now)
         → AreComputed p names (circuit logic.now) sources.now.computed.now → HasAnswers p names (circuit logic.now) sources.now.units.now
         → IfOk result (λ a. CarriesSome p names (circuit logic.now) a (λ (c : Cycle). values.last_value p c node.0 out.value out.value.value)) }
 {
-    let at = last_cycle(of, node)?;
+    let at = last_cycle(of, node);
     if let Source::Result(op) = out.value.value {
-        if there_at(of, node, op)? > at.time {
+        if there_at(of, node, op) > at.time {
             return arriving(of, sources, node, op);
         }
     }
@@ -65,25 +67,25 @@ fn last_value(
 }
 
 /// The operand one iteration later.
-fn later(operand: Operand) -> Result<Operand, AllocError>
-    ensures { IfOk result (λ x. x ≡ runs.later operand) }
+fn later(operand: Operand) -> Operand
+    requires { IsNear operand }
+    ensures { result ≡ runs.later operand }
 {
-    match operand.distance.checked_add(1) {
-        Some(distance) => Ok(Operand {
-            value: operand.value,
-            distance,
-        }),
-        None => Err(impossible()),
+    let distance = operand.distance + 1;
+    Operand {
+        value: operand.value,
+        distance,
     }
 }
 
 /// What a variable takes as a loop is left: the value of the iteration before the one that does not run.
 fn exit_value(of: &Context<'_>, logic: &Logic, exit: Reading, out: Out) -> Result<Atom, AllocError>
+    requires { HasOut of.now exit.node.0 out }
     ensures { (p : Plan) (names : List Register) → IsContext p names of.now → IsBegun p names (circuit logic.now)
         → IfOk result (λ a. CarriesSome p names (circuit logic.now) a (λ (c : Cycle). reading.operand p c exit.node.0 exit.time (runs.later out.value))) }
 {
     let bits = bits_of(of, logic, out.variable)?;
-    of.operand(logic, exit, later(out.value)?, bits)
+    of.operand(logic, exit, later(out.value), bits)
 }
 
 /// What a variable takes as a node is left.
@@ -94,12 +96,13 @@ fn out_value(
     node: NodeId,
     out: Out,
 ) -> Result<Atom, AllocError>
+    requires { HasOut of.now node.0 out }
     ensures { (p : Plan) (names : List Register) (n : TimedNode) → IsContext p names of.now → IsBegun p names (circuit logic.now)
         → AreComputed p names (circuit logic.now) sources.now.computed.now → HasAnswers p names (circuit logic.now) sources.now.units.now
         → slice_get p.program.nodes node.0 ≡ Some n
         → IfOk result (λ a. CarriesSome p names (circuit logic.now) a (λ (c : Cycle). values.out_value p c node.0 n out)) }
 {
-    match node_at(of, node)? {
+    match node_at(of, node) {
         Node::Plain(_) => last_value(of, logic, sources, node, out),
         Node::Looped(region) => {
             let time = region.exit as u64;
@@ -110,9 +113,10 @@ fn out_value(
 
 /// The variables that are live behind a node.
 fn live_behind(of: &Context<'_>, node: NodeId) -> Result<VarSet, AllocError>
+    requires { node.0 < length of.now.cfg.now.nodes.items }
     ensures { (p : Plan) (names : List Register) → IsContext p names of.now → IfOk result (λ set. (v : ℕ) → has set v ≡ p.savings.behind node.0 v) }
 {
-    of.live.behind(of.alloc, node_at(of, node)?)
+    of.live.behind(of.alloc, node_at(of, node))
 }
 
 /// The outs whose variables are in the set.
@@ -136,12 +140,13 @@ fn write_outs(
     sources: &Sources<'_>,
     leaving: Leaving,
 ) -> Result<(), AllocError>
+    requires { leaving.node.0 < length of.now.cfg.now.nodes.items }
     ensures { (p : Plan) (names : List Register) (n : TimedNode) → IsContext p names of.now → IsBegun p names (circuit logic.now)
         → AreComputed p names (circuit logic.now) sources.now.computed.now → HasAnswers p names (circuit logic.now) sources.now.units.now
         → slice_get p.program.nodes leaving.node.0 ≡ Some n → Tells p names (circuit logic.now) leaving.when (λ (c : Cycle). leaves_as p c leaving.node.0 n)
         → OnOk result (Logs p names (circuit logic.now) (circuit logic.now) log.old.pushes.items log.new.pushes.items (out_entries p (leaving.node.0, n))) }
 {
-    let node = node_at(of, leaving.node)?;
+    let node = node_at(of, leaving.node);
     let behind = live_behind(of, leaving.node)?;
     let live = live_outs(of.alloc, &body_of(node).outs, &behind)?;
     for out in &live {
@@ -163,6 +168,7 @@ fn write_node(
     sources: &Sources<'_>,
     node: NodeId,
 ) -> Result<(), AllocError>
+    requires { node.0 < length of.now.cfg.now.nodes.items }
     ensures { (p : Plan) (names : List Register) (n : TimedNode) → IsContext p names of.now → IsBegun p names (circuit logic.old)
         → AreComputed p names (circuit logic.old) sources.now.computed.now → HasAnswers p names (circuit logic.old) sources.now.units.now
         → slice_get p.program.nodes node.0 ≡ Some n

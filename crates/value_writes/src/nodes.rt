@@ -1,5 +1,5 @@
 //! The nodes of a program, and their operations and times.
-ghost use Rattle.std.specs.Prelude.{◌≡◌, ◌<◌, ◌-◌, List, IfOk, Some, [], get_or, map, slice_get};
+ghost use Rattle.std.specs.Prelude.{◌≡◌, ◌<◌, ◌≤◌, ◌-◌, ◌^◌, List, IsTrue, Some, [], get_or, length, map, slice_get};
 ghost use Rattle.clock_meaning.specs.ClockRuns.{timed_node};
 ghost use Rattle.clock_meaning.specs.Flows.{ready, timed_op};
 ghost use Rattle.datapath.specs.Plans as plans;
@@ -14,23 +14,17 @@ ghost use Rattle.circuit_context.specs.Contexts.{IsContext};
 use circuit_context::context::{Context, Reading};
 use clock_ir::timed::Timed;
 use hls_base::number::{NodeId, OpId};
-use hls_base::refusal::impossible;
 use ir_core::body::Op;
 use ir_core::cfg::Node;
 use plan_sizes::sizes::{body_of, ready_at, span};
-use std::alloc::AllocError;
 
 /// A node of the program.
-pub fn node_at<'a>(of: &Context<'a>, node: NodeId) -> Result<&'a Node<Timed>, AllocError>
-    ensures stands { IfOk result (λ n. slice_get of.now.cfg.now.nodes.items node.0 ≡ Some n.now) }
-    ensures timed { (p : Plan) (names : List Register) → IsContext p names of.now → IfOk result (λ n. slice_get p.program.nodes node.0 ≡ Some (timed_node n.now)) }
+pub fn node_at<'a>(of: &Context<'a>, node: NodeId) -> &'a Node<Timed>
+    requires { node.0 < length of.now.cfg.now.nodes.items }
+    ensures stands { slice_get of.now.cfg.now.nodes.items node.0 ≡ Some result.now }
+    ensures timed { (p : Plan) (names : List Register) → IsContext p names of.now → slice_get p.program.nodes node.0 ≡ Some (timed_node result.now) }
 {
-    let number = node.0 as usize;
-    if number < of.cfg.nodes.len() {
-        Ok(&of.cfg.nodes[number])
-    } else {
-        Err(impossible())
-    }
+    &of.cfg.nodes[node.0 as usize]
 }
 
 fn ops_of(node: &Node<Timed>) -> &[Op<Timed>]
@@ -45,46 +39,52 @@ fn ops_of(node: &Node<Timed>) -> &[Op<Timed>]
 }
 
 /// An operation of a node.
-pub fn operation<'a>(of: &Context<'a>, node: NodeId, op: OpId) -> Result<&'a Op<Timed>, AllocError>
-    ensures stands { (p : Plan) (names : List Register) → IsContext p names of.now → IfOk result (λ o. slice_get (body_at p node.0).ops op.0 ≡ Some (timed_op o.now)) }
-    ensures there { IfOk result (λ o. op.0 < operations_of of.now.cfg.now.nodes.items node.0) }
-    ensures unit { (p : Plan) (names : List Register) → IsContext p names of.now → IfOk result (λ o. get_or (get_or p.units node.0 []) op.0 0 ≡ o.now.stamp.bound) }
+pub fn operation<'a>(of: &Context<'a>, node: NodeId, op: OpId) -> &'a Op<Timed>
+    requires { op.0 < operations_of of.now.cfg.now.nodes.items node.0 }
+    ensures stands { (p : Plan) (names : List Register) → IsContext p names of.now → slice_get (body_at p node.0).ops op.0 ≡ Some (timed_op result.now) }
+    ensures unit { (p : Plan) (names : List Register) → IsContext p names of.now → get_or (get_or p.units node.0 []) op.0 0 ≡ result.now.stamp.bound }
 {
-    let ops = ops_of(node_at(of, node)?);
-    let number = op.0 as usize;
-    if number < ops.len() {
-        Ok(&ops[number])
-    } else {
-        Err(impossible())
+    let ops = ops_of(node_at(of, node));
+    &ops[op.0 as usize]
+}
+
+/// Whether a node has an operation with this number.
+pub fn has_operation(of: &Context<'_>, node: NodeId, op: OpId) -> bool
+    ensures { IsTrue result → op.0 < operations_of of.now.cfg.now.nodes.items node.0 }
+{
+    if node.0 as usize >= of.cfg.nodes.len() {
+        return false;
     }
+    let ops = ops_of(node_at(of, node));
+    (op.0 as usize) < ops.len()
 }
 
 /// The time of an iteration from which the value of an operation is there.
-pub fn there_at(of: &Context<'_>, node: NodeId, op: OpId) -> Result<u64, AllocError>
-    ensures { (p : Plan) (names : List Register) → IsContext p names of.now → IfOk result (λ t. t ≡ ready (body_at p node.0) op) }
+pub fn there_at(of: &Context<'_>, node: NodeId, op: OpId) -> u64
+    requires { node.0 < length of.now.cfg.now.nodes.items }
+    ensures early { result ≤ 2 ^ 32 }
+    ensures ready { (p : Plan) (names : List Register) → IsContext p names of.now → result ≡ ready (body_at p node.0) op }
 {
-    let time = ready_at(body_of(node_at(of, node)?), op);
-    if time == u64::MAX {
-        return Err(impossible());
-    }
-    Ok(time)
+    ready_at(body_of(node_at(of, node)), op)
 }
 
 /// The last cycle of a block.
-pub fn last_cycle(of: &Context<'_>, node: NodeId) -> Result<Reading, AllocError>
-    ensures node { IfOk result (λ at. at.node ≡ node) }
-    ensures time { (p : Plan) (names : List Register) → IsContext p names of.now → IfOk result (λ at. at.time ≡ plans.span p node.0 - 1) }
+pub fn last_cycle(of: &Context<'_>, node: NodeId) -> Reading
+    requires { node.0 < length of.now.cfg.now.nodes.items }
+    ensures node { result.node ≡ node }
+    ensures time { (p : Plan) (names : List Register) → IsContext p names of.now → result.time ≡ plans.span p node.0 - 1 }
 {
-    let time = span(node_at(of, node)?) - 1;
-    Ok(Reading { node, time })
+    let time = span(node_at(of, node)) - 1;
+    Reading { node, time }
 }
 
 /// The cycles between the iterations of a loop; of a block its length.
-pub fn interval(of: &Context<'_>, node: NodeId) -> Result<u32, AllocError>
-    ensures { (p : Plan) (names : List Register) → IsContext p names of.now → IfOk result (λ cycles. cycles ≡ (body_at p node.0).interval) }
+pub fn interval(of: &Context<'_>, node: NodeId) -> u32
+    requires { node.0 < length of.now.cfg.now.nodes.items }
+    ensures { (p : Plan) (names : List Register) → IsContext p names of.now → result ≡ (body_at p node.0).interval }
 {
-    match node_at(of, node)? {
-        Node::Plain(block) => Ok(block.length),
-        Node::Looped(region) => Ok(region.ii),
+    match node_at(of, node) {
+        Node::Plain(block) => block.length,
+        Node::Looped(region) => region.ii,
     }
 }

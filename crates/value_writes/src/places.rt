@@ -1,5 +1,5 @@
 //! Results in their registers.
-ghost use Rattle.std.specs.Prelude.{◌≡◌, ℕ, true, false, nat_lt, List, flat_map, Option, IfOk, OnOk, [], ◌∷◌, slice_get, if◌then◌else◌};
+ghost use Rattle.std.specs.Prelude.{◌≡◌, ◌<◌, ◌≤◌, ◌^◌, ℕ, true, false, nat_lt, List, length, flat_map, Option, IfOk, OnOk, [], ◌∷◌, slice_get, if◌then◌else◌};
 ghost use Rattle.rtl_core.specs.Netlist.{Netlist};
 ghost use Rattle.rtl_logic.specs.Making.{circuit};
 ghost use Rattle.rtl_logic.specs.Choosing.{where_};
@@ -11,13 +11,14 @@ ghost use Rattle.datapath.specs.Reading as reading;
 ghost use Rattle.datapath.specs.Values as values;
 ghost use Rattle.circuit_wires.specs.Carrying.{IsBegun, MakesTelling};
 ghost use Rattle.circuit_log.specs.Logs.{CarriesSome, Logs};
+ghost use Rattle.access_ports.specs.Numbers.{operations_of};
 ghost use Rattle.circuit_context.specs.Contexts.{IsContext};
 ghost use Rattle.circuit_log.specs.Entries.{all_places, held_entries, load_entries, register_entry};
 ghost use Rattle.unit_circuits.specs.Units.{HasAnswers};
 ghost use Rattle.unit_demands.specs.Computed.{AreComputed};
 ghost use Rattle.value_writes.specs.Steps.{made_first, number_of, entry_count, loop_entries};
 
-use crate::nodes::{interval, node_at, there_at};
+use crate::nodes::{has_operation, interval, node_at, there_at};
 use crate::pushes::take;
 use crate::sources::{Sources, arriving};
 use circuit_context::context::{Context, Reading};
@@ -58,53 +59,50 @@ fn variable_made(outs: &[Out], op: OpId) -> Option<VarId>
 }
 
 /// Whether a variable is read.
-fn is_read(of: &Context<'_>, variable: VarId) -> Result<bool, AllocError>
-    ensures { (p : Plan) (names : List Register) → IsContext p names of.now → IfOk result (λ r. r ≡ p.savings.read variable.0) }
+fn is_read(of: &Context<'_>, variable: VarId) -> bool
+    requires { variable.0 < length of.now.cfg.now.frame.variables.items }
+    ensures { (p : Plan) (names : List Register) → IsContext p names of.now → result ≡ p.savings.read variable.0 }
 {
-    let number = variable.0 as usize;
-    if number < of.cfg.frame.variables.len() && number < of.read.len() {
-        Ok(of.read[number])
-    } else {
-        Err(impossible())
-    }
+    of.read[variable.0 as usize]
 }
 
 /// The variable whose next value a place of a loop holds, if it is read.
-fn entry_of(of: &Context<'_>, held: Held) -> Result<Option<VarId>, AllocError>
+fn entry_of(of: &Context<'_>, held: Held) -> Option<VarId>
+    requires { held.node.0 < length of.now.cfg.now.nodes.items }
     ensures { (p : Plan) (names : List Register) → IsContext p names of.now → is_loop (slice_get p.program.nodes held.node.0) ≡ true
-        → IfOk result (λ o. number_of o ≡ values.entry_of p held) }
+        → number_of result ≡ values.entry_of p held }
 {
-    let node = node_at(of, held.node)?;
+    let node = node_at(of, held.node);
     let Some(variable) = variable_made(&body_of(node).outs, held.op) else {
-        return Ok(None);
+        return None;
     };
-    if is_read(of, variable)? {
-        Ok(Some(variable))
+    if is_read(of, variable) {
+        Some(variable)
     } else {
-        Ok(None)
+        None
     }
 }
 
 // ---- times
 
 /// The cycle before the result of the operation is there.
-fn arrival(of: &Context<'_>, held: Held) -> Result<u64, AllocError>
-    ensures { (p : Plan) (names : List Register) → IsContext p names of.now → IfOk result (λ t. t ≡ values.arrival p held) }
+fn arrival(of: &Context<'_>, held: Held) -> u64
+    requires { held.node.0 < length of.now.cfg.now.nodes.items }
+    ensures early { result ≤ 2 ^ 32 }
+    ensures arrival { (p : Plan) (names : List Register) → IsContext p names of.now → result ≡ values.arrival p held }
 {
-    Ok(there_at(of, held.node, held.op)?.saturating_sub(1))
+    there_at(of, held.node, held.op).saturating_sub(1)
 }
 
 /// The same of a place further back; so many places hold what was there before the first iteration.
-fn place_arrival(of: &Context<'_>, held: Held, entries: u32) -> Result<u64, AllocError>
-    ensures { (p : Plan) (names : List Register) → IsContext p names of.now → IfOk result (λ t. t ≡ values.place_arrival p held entries) }
+fn place_arrival(of: &Context<'_>, held: Held, entries: u32) -> u64
+    requires { held.node.0 < length of.now.cfg.now.nodes.items }
+    ensures { (p : Plan) (names : List Register) → IsContext p names of.now → result ≡ values.place_arrival p held entries }
 {
-    let first = arrival(of, held)?;
+    let first = arrival(of, held);
     let places = held.place.saturating_sub(entries) as u64;
-    let later = places * interval(of, held.node)? as u64;
-    match first.checked_add(later) {
-        Some(time) => Ok(time),
-        None => Err(impossible()),
-    }
+    let later = places * interval(of, held.node) as u64;
+    first + later
 }
 
 /// How many places hold what was there before the first iteration: the first one, where there is a variable whose values it holds.
@@ -129,15 +127,16 @@ fn is_free(of: &Context<'_>, held: Held, entries: u32) -> Result<bool, AllocErro
 
 /// When a place takes its next value: once in each interval, and only real values where the register holds something else before.
 fn moves(of: &Context<'_>, logic: &mut Logic, held: Held, entries: u32) -> Result<Atom, AllocError>
+    requires { held.node.0 < length of.now.cfg.now.nodes.items }
     ensures { (p : Plan) (names : List Register) (entry : Option ℕ) → IsContext p names of.now → IsBegun p names (circuit logic.old) → entry_count entry ≡ entries
         → IfOk result (λ a. MakesTelling p names (circuit logic.old) (circuit logic.new) a (λ c. values.moves p c held entry)) }
 {
     let node = held.node;
     if is_free(of, held, entries)? {
-        let time = arrival(of, held)?;
+        let time = arrival(of, held);
         of.at(logic, Reading { node, time })
     } else {
-        let time = place_arrival(of, held, entries)?;
+        let time = place_arrival(of, held, entries);
         of.at_iteration(logic, Reading { node, time })
     }
 }
@@ -146,6 +145,7 @@ fn moves(of: &Context<'_>, logic: &mut Logic, held: Held, entries: u32) -> Resul
 
 /// What a place of a loop takes: the result, or what the place before has.
 fn moved(of: &Context<'_>, sources: &Sources<'_>, held: Held) -> Result<Atom, AllocError>
+    requires { held.op.0 < operations_of of.now.cfg.now.nodes.items held.node.0 }
     ensures { (p : Plan) (names : List Register) (d : Netlist) → IsContext p names of.now → IsBegun p names d → AreComputed p names d sources.now.computed.now → HasAnswers p names d sources.now.units.now
         → IfOk result (λ a. CarriesSome p names d a (λ c. values.moved p c held held.place)) }
 {
@@ -187,13 +187,14 @@ fn write_block_place(
     sources: &Sources<'_>,
     held: Held,
 ) -> Result<(), AllocError>
+    requires { held.op.0 < operations_of of.now.cfg.now.nodes.items held.node.0 }
     ensures { (p : Plan) (names : List Register) → IsContext p names of.now → IsBegun p names (circuit logic.old)
         → AreComputed p names (circuit logic.old) sources.now.computed.now → HasAnswers p names (circuit logic.old) sources.now.units.now
         → OnOk result (Logs p names (circuit logic.old) (circuit logic.new) log.old.pushes.items log.new.pushes.items
         (register_entry (Role.Value held.register) (λ c. where_ (reading.at p c held.node.0 (values.arrival p held)) (values.arriving p c held.node.0 held.op.0)) ∷ [])) }
 {
     let (node, op) = (held.node, held.op);
-    let time = arrival(of, held)?;
+    let time = arrival(of, held);
     let when = of.at(logic, Reading { node, time })?;
     let value = arriving(of, sources, node, op)?;
     let choice = Choice { when, value };
@@ -207,12 +208,13 @@ fn write_loop_place(
     sources: &Sources<'_>,
     held: Held,
 ) -> Result<(), AllocError>
+    requires { held.op.0 < operations_of of.now.cfg.now.nodes.items held.node.0 }
     ensures { (p : Plan) (names : List Register) → IsContext p names of.now → IsBegun p names (circuit logic.old)
         → AreComputed p names (circuit logic.old) sources.now.computed.now → HasAnswers p names (circuit logic.old) sources.now.units.now
         → is_loop (slice_get p.program.nodes held.node.0) ≡ true
         → OnOk result (Logs p names (circuit logic.old) (circuit logic.new) log.old.pushes.items log.new.pushes.items (loop_entries p held)) }
 {
-    let entry = entry_of(of, held)?;
+    let entry = entry_of(of, held);
     write_entry(of, logic, log, held, entry)?;
     let when = moves(of, logic, held, entries_of(entry))?;
     let value = moved(of, sources, held)?;
@@ -231,7 +233,10 @@ fn write_place(
         → AreComputed p names (circuit logic.old) sources.now.computed.now → HasAnswers p names (circuit logic.old) sources.now.units.now
         → OnOk result (Logs p names (circuit logic.old) (circuit logic.new) log.old.pushes.items log.new.pushes.items (held_entries p held)) }
 {
-    match node_at(of, held.node)? {
+    if !has_operation(of, held.node, held.op) {
+        return Err(impossible());
+    }
+    match node_at(of, held.node) {
         Node::Plain(_) => write_block_place(of, logic, log, sources, held),
         Node::Looped(_) => write_loop_place(of, logic, log, sources, held),
     }

@@ -1,5 +1,5 @@
 //! Where results come from.
-ghost use Rattle.std.specs.Prelude.{◌≡◌, ◌<◌, List, IfOk, Some, slice_get};
+ghost use Rattle.std.specs.Prelude.{◌≡◌, ◌<◌, List, IfOk, IfSome, Some, slice_get};
 ghost use Rattle.hls_base.specs.declared.number.ArrayId.{ArrayId};
 ghost use Rattle.clock_meaning.specs.Flows.{TimedOp};
 ghost use Rattle.rtl_core.specs.Netlist.{Netlist};
@@ -55,26 +55,24 @@ fn word(of: &Context<'_>, node: NodeId, op: OpId, array: ArrayId) -> Result<Atom
 }
 
 /// The wire of an operation that has no unit and no port.
-fn wire(computed: &Computed, node: NodeId, op: OpId) -> Result<Atom, AllocError>
-    ensures { (p : Plan) (names : List Register) (d : Netlist) → AreComputed p names d computed.now → IfOk result (λ a. CarriesSome p names d a (λ c. arriving p c node.0 op.0)) }
+fn wire(computed: &Computed, node: NodeId, op: OpId) -> Option<Atom>
+    ensures { (p : Plan) (names : List Register) (d : Netlist) → AreComputed p names d computed.now → IfSome result (λ a. CarriesSome p names d a (λ c. arriving p c node.0 op.0)) }
 {
     let number = node.0 as usize;
     if number >= computed.wires.len() {
-        return Err(impossible());
+        return None;
     }
     wire_in(&computed.wires[number], op)
 }
 
-fn wire_in(wires: &[Option<Atom>], op: OpId) -> Result<Atom, AllocError>
-    ensures { IfOk result (λ a. slice_get wires.now op.0 ≡ Some (Some a)) }
+fn wire_in(wires: &[Option<Atom>], op: OpId) -> Option<Atom>
+    ensures { IfSome result (λ a. slice_get wires.now op.0 ≡ Some (Some a)) }
 {
     let number = op.0 as usize;
-    if number >= wires.len() {
-        return Err(impossible());
-    }
-    match wires[number] {
-        Some(atom) => Ok(atom),
-        None => Err(impossible()),
+    if number < wires.len() {
+        wires[number]
+    } else {
+        None
     }
 }
 
@@ -85,16 +83,19 @@ pub fn arriving(
     node: NodeId,
     op: OpId,
 ) -> Result<Atom, AllocError>
+    requires { op.0 < operations_of of.now.cfg.now.nodes.items node.0 }
     ensures { (p : Plan) (names : List Register) (d : Netlist) → IsContext p names of.now → IsBegun p names d → AreComputed p names d sources.now.computed.now → HasAnswers p names d sources.now.units.now
         → IfOk result (λ a. CarriesSome p names d a (λ c. arriving p c node.0 op.0)) }
 {
-    let it = operation(of, node, op)?;
+    let it = operation(of, node, op);
     match (it.kind, it.array) {
         (OpKind::Mul, _) => sources.units.answer(unit(UnitKind::Multiplier, it), false),
         (OpKind::Div, _) => sources.units.answer(unit(UnitKind::Divider, it), false),
         (OpKind::Rem, _) => sources.units.answer(unit(UnitKind::Divider, it), true),
         (OpKind::Load, Some(array)) => word(of, node, op, array),
-        (OpKind::Load | OpKind::Store, _) => Err(impossible()),
-        _ => wire(sources.computed, node, op),
+        _ => match wire(sources.computed, node, op) {
+            Some(atom) => Ok(atom),
+            None => Err(impossible()),
+        },
     }
 }

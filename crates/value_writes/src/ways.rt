@@ -1,5 +1,5 @@
 //! Where control goes from a node.
-ghost use Rattle.std.specs.Prelude.{◌≡◌, ◌&&◌, ◌==◌, not, Bool, List, [], ◌∷◌, Some, IfOk, OnOk, slice_get};
+ghost use Rattle.std.specs.Prelude.{◌≡◌, ◌<◌, ◌&&◌, ◌==◌, not, Bool, List, [], ◌∷◌, Some, IfOk, OnOk, length, slice_get};
 ghost use Rattle.rtl_logic.specs.Making.{circuit};
 ghost use Rattle.clock_meaning.specs.Flows.{TimedBody};
 ghost use Rattle.clock_meaning.specs.ClockRuns.{TimedNode, block};
@@ -45,10 +45,11 @@ fn holds_last(
     node: NodeId,
     test: Operand,
 ) -> Result<Atom, AllocError>
+    requires { node.0 < length of.now.cfg.now.nodes.items }
     ensures { (p : Plan) (names : List Register) → IsContext p names of.now → IsBegun p names (circuit logic.now)
         → IfOk result (λ a. Tells p names (circuit logic.now) a (λ (c : Cycle). not (last_operand p node.0 c test == 0))) }
 {
-    is_true(of, logic, last_cycle(of, node)?, Some(test))
+    is_true(of, logic, last_cycle(of, node), Some(test))
 }
 
 /// The node is entered where both bits are 1.
@@ -87,6 +88,7 @@ fn write_ordered(
     leaving: Leaving,
     cases: &[(Operand, NodeId)],
 ) -> Result<Atom, AllocError>
+    requires { leaving.node.0 < length of.now.cfg.now.nodes.items }
     ensures { (p : Plan) (names : List Register) (n : TimedNode) → IsContext p names of.now → IsBegun p names (circuit logic.old)
         → Tells p names (circuit logic.old) leaving.when (λ (c : Cycle). leaves_as p c leaving.node.0 n)
         → IfOk result (λ a. Logs p names (circuit logic.old) (circuit logic.new) log.old.pushes.items log.new.pushes.items (ordered_cases p (leaving.node.0, n) [] cases.now)
@@ -109,6 +111,7 @@ fn write_exclusive(
     leaving: Leaving,
     cases: &[(Operand, NodeId)],
 ) -> Result<Vec<Atom>, AllocError>
+    requires { leaving.node.0 < length of.now.cfg.now.nodes.items }
     ensures { (p : Plan) (names : List Register) (n : TimedNode) → IsContext p names of.now → IsBegun p names (circuit logic.old)
         → Tells p names (circuit logic.old) leaving.when (λ (c : Cycle). leaves_as p c leaving.node.0 n)
         → IfOk result (λ tests. Logs p names (circuit logic.old) (circuit logic.new) log.old.pushes.items log.new.pushes.items (exclusive_cases p (leaving.node.0, n) cases.now)
@@ -146,13 +149,14 @@ fn write_cases(
     leaving: Leaving,
     cases: &[(Operand, NodeId)],
 ) -> Result<Atom, AllocError>
+    requires { leaving.node.0 < length of.now.cfg.now.nodes.items }
     ensures { (p : Plan) (names : List Register) (n : TimedNode) → IsContext p names of.now → IsBegun p names (circuit logic.old)
         → slice_get p.program.nodes leaving.node.0 ≡ Some n → Tells p names (circuit logic.old) leaving.when (λ (c : Cycle). leaves_as p c leaving.node.0 n)
         → IfOk result (λ a. Logs p names (circuit logic.old) (circuit logic.new) log.old.pushes.items log.new.pushes.items
         (choice_cases p (leaving.node.0, n) (all_differ (plans.body_of n) cases.now) cases.now)
         × Tells p names (circuit logic.new) a (none_left p (leaving.node.0, n) cases.now)) }
 {
-    let node = node_at(of, leaving.node)?;
+    let node = node_at(of, leaving.node);
     if are_exclusive(of.alloc, body_of(node), cases)? {
         let tests = write_exclusive(of, logic, log, leaving, cases)?;
         none_of(of, logic, leaving, &tests)
@@ -171,6 +175,7 @@ fn write_result(
     leaving: Leaving,
     value: Option<Operand>,
 ) -> Result<(), AllocError>
+    requires { leaving.node.0 < length of.now.cfg.now.nodes.items }
     ensures { (p : Plan) (names : List Register) (n : TimedNode) → IsContext p names of.now → IsBegun p names (circuit logic.now)
         → Tells p names (circuit logic.now) leaving.when (λ (c : Cycle). leaves_as p c leaving.node.0 n)
         → OnOk result (Logs p names (circuit logic.now) (circuit logic.now) log.old.pushes.items log.new.pushes.items (result_entries p (leaving.node.0, n) value)) }
@@ -178,7 +183,7 @@ fn write_result(
     let Some(value) = value else {
         return Ok(());
     };
-    let at = last_cycle(of, leaving.node)?;
+    let at = last_cycle(of, leaving.node);
     let value = of.operand(logic, at, value, of.cfg.frame.ret)?;
     let when = leaving.when;
     take(of, logic, log, Role::Result, Choice { when, value })
@@ -192,6 +197,7 @@ fn write_end(
     leaving: Leaving,
     end: &End,
 ) -> Result<(), AllocError>
+    requires { leaving.node.0 < length of.now.cfg.now.nodes.items }
     ensures { (p : Plan) (names : List Register) (body : TimedBody) → IsContext p names of.now → IsBegun p names (circuit logic.old)
         → slice_get p.program.nodes leaving.node.0 ≡ Some (block body end.now) → Tells p names (circuit logic.old) leaving.when (λ (c : Cycle). leaves_as p c leaving.node.0 (block body end.now))
         → OnOk result (Logs p names (circuit logic.old) (circuit logic.new) log.old.pushes.items log.new.pushes.items (ways p (leaving.node.0, block body end.now) end.now)) }
@@ -222,11 +228,12 @@ pub fn write_ways(
     log: &mut Log,
     leaving: Leaving,
 ) -> Result<(), AllocError>
+    requires { leaving.node.0 < length of.now.cfg.now.nodes.items }
     ensures { (p : Plan) (names : List Register) (n : TimedNode) → IsContext p names of.now → IsBegun p names (circuit logic.old)
         → slice_get p.program.nodes leaving.node.0 ≡ Some n → Tells p names (circuit logic.old) leaving.when (λ (c : Cycle). leaves_as p c leaving.node.0 n)
         → OnOk result (Logs p names (circuit logic.old) (circuit logic.new) log.old.pushes.items log.new.pushes.items (ways_as p (leaving.node.0, n) n)) }
 {
-    match node_at(of, leaving.node)? {
+    match node_at(of, leaving.node) {
         Node::Plain(block) => write_end(of, logic, log, leaving, &block.end),
         Node::Looped(region) => enter(log, region.next, leaving.when),
     }

@@ -1,11 +1,13 @@
-use Rattle.std.proofs.Common.{◌<◌, [], length, slice_index_or, refl, sym, subst, arith}
+use Rattle.std.proofs.Common.{◌≡◌, ◌<◌, ◌≤◌, ℕ, zero, suc, Bool, List, [], Some, length, slice_get, slice_index_or, refl, sym, subst, arith}
 use Rattle.std.specs.Prelude.{◌^◌}
 use Rattle.std.proofs.lemmas.List.{append-nil}
+use Rattle.std.proofs.lemmas.Option.{slice_get_within}
 use Rattle.ir_core.specs.declared.cfg.Node.{Node}
 use Rattle.ir_core.specs.declared.cfg.Node.TheVariants as node
 use Rattle.clock_ir.specs.declared.timed.Timed.{Timed}
 use Rattle.small_numbers.specs.Small as small
 use Rattle.access_ports.specs.Counting as ports
+use Rattle.datapath.specs.LeftOut.{is_read}
 use Rattle.register_bank.specs.Banks.{names_of, ArePortCounts}
 use Rattle.held_places.specs.Tables.{ArePlaces}
 use Rattle.circuit_context.proofs.Programs.{few_parts, short_start}
@@ -15,6 +17,10 @@ use Rattle.circuit_build.proofs.parts.context_of.Goals as goal
 fewer : (n : Node Timed) → length (small.ops_in n) < 2 ^ 25 → length (ports.ops_in n) < 2 ^ 32
 fewer (node.Plain b) few = omega (arith, few)
 fewer (node.Looped r) few = omega (arith, few)
+
+covered : (n : ℕ) (xs : List Bool) (f : ℕ → Bool) → ((v : ℕ) → v < n → slice_get xs v ≡ Some (f v)) → n ≤ length xs
+covered zero xs f h = omega arith
+covered (suc n) xs f h = let last = slice_get_within xs n (f n) (h n (omega arith)) in omega (arith, last)
 
 pub ports_of-requires : goal.ports_of-requires
 ports_of-requires c = λ k d inside. fewer (slice_index_or c.args.cfg.now.nodes.items k d) ((few_parts c.args.cfg.now c.requires.buildable).operations k d inside)
@@ -36,6 +42,11 @@ invariant_of-result-clause-few c = few_parts c.args.cfg.now c.requires.buildable
 
 pub invariant_of-result-clause-start : goal.invariant_of-result-clause-start
 invariant_of-result-clause-start c = short_start c.args.cfg.now c.requires.buildable.valid
+
+pub invariant_of-result-clause-told : goal.invariant_of-result-clause-told
+invariant_of-result-clause-told c =
+    let cfg = c.args.cfg.now in
+    covered (length cfg.frame.variables.items) c.in_ok-read.read.items (is_read cfg c.args.live) (c.in_ok-read.ensures c.requires.live.sized (sym c.requires.live.count))
 
 pub returns : goal.returns
 returns c =

@@ -4,4 +4,4 @@ use Rattle.datapath.specs.Control.{is_loop}
 use Rattle.controller.proofs.bits.is_loop.Goals as goal
 
 pub returns : goal.returns
-returns c = λ p names n context stands. c.is_looped.ensures ∙ ap (λ (m : TimedNode). is_loop (Some m)) (c.in_ok-node.ensures p names n context stands)
+returns c = λ p names n context stands. c.is_looped.ensures ∙ ap (λ (m : TimedNode). is_loop (Some m)) (c.node_at.ensures p names n context stands)

@@ -1,4 +1,4 @@
-use Rattle.std.proofs.Common.{◌≡◌, [], ◌∷◌, Some, slice_get, refl, sym, ap, ◌∙◌, subst}
+use Rattle.std.proofs.Common.{◌≡◌, [], ◌∷◌, Some, slice_get, refl, sym, ap, ◌∙◌, subst, arith, length, ◌<◌}
 use Rattle.std.proofs.lemmas.Result.{on_ok_weaker}
 use Rattle.hls_base.specs.declared.number.NodeId.{NodeId}
 use Rattle.rtl_logic.specs.Making.{circuit}
@@ -25,7 +25,7 @@ returns-in_ok-load c = λ p names pushes n context begun are holds_ stands.
     let after = c.write_active.new.log.pushes.items in
     let node = c.node_with_number-node.result in
     let i = node.0 in
-    let is = sym (c.in_ok-looped.ensures p names n context stands) ∙ c.if-looped.true in
+    let is = sym (c.is_loop-looped.ensures p names n context stands) ∙ c.if-looped.true in
     let here : slice_get p.program.nodes i ≡ Some n = subst (λ (m : NodeId). slice_get p.program.nodes m.0 ≡ Some n) (sym c.node_with_number-node.ensures) stands in
     let asked = c.in_ok-entered.ensures p names pushes (moves_of p) begun are (holds_ (t.Entered node)) in
     let entered = tells_as p names e c.in_ok-entered.entered (is_asked (t.Entered node) (moves_of p)) (λ (x : Cycle). is_entered p x i) (entered_asked p i) asked.carries in
@@ -47,7 +47,7 @@ returns-else-looped c = λ p names pushes n context begun are holds_ stands.
     let after = c.write_active-else-looped.new.log.pushes.items in
     let node = c.node_with_number-node.result in
     let i = node.0 in
-    let is = sym (c.in_ok-looped.ensures p names n context stands) ∙ c.if-looped.false in
+    let is = sym (c.is_loop-looped.ensures p names n context stands) ∙ c.if-looped.false in
     let here : slice_get p.program.nodes i ≡ Some n = subst (λ (m : NodeId). slice_get p.program.nodes m.0 ≡ Some n) (sym c.node_with_number-node.ensures) stands in
     let asked = c.in_ok-entered.ensures p names pushes (moves_of p) begun are (holds_ (t.Entered node)) in
     let entered = tells_as p names e c.in_ok-entered.entered (is_asked (t.Entered node) (moves_of p)) (λ (x : Cycle). is_entered p x i) (entered_asked p i) asked.carries in
@@ -56,3 +56,12 @@ returns-else-looped c = λ p names pushes n context begun are holds_ stands.
     on_ok_weaker c.write_active-else-looped.result
     (λ second. logs_as p names d g before after _ _ (ap (λ (m : NodeId). actives m ∷ []) c.node_with_number-node.ensures ∙ block_state p c.args.number n is) (logs_behind p names d e g before after _ asked.appends second))
     (c.write_active-else-looped.ensures p names context asked.begun begins_)
+
+pub node_with_number-node-requires : goal.node_with_number-node-requires
+node_with_number-node-requires c = omega (arith, c.requires, c.args.of.now.few.nodes)
+
+pub write_active-requires : goal.write_active-requires
+write_active-requires c = subst (λ (m : NodeId). m.0 < length c.args.of.now.cfg.now.nodes.items) (sym c.node_with_number-node.ensures) c.requires
+
+pub write_active-requires-else-looped : goal.write_active-requires-else-looped
+write_active-requires-else-looped c = subst (λ (m : NodeId). m.0 < length c.args.of.now.cfg.now.nodes.items) (sym c.node_with_number-node.ensures) c.requires

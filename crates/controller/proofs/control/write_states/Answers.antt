@@ -33,4 +33,4 @@ returns c = λ p names pushes context begun are holds_.
     (ap (flat_map (state_entries p)) (all_taken p i (subst (λ m. m ≤ i) (sym (count_is p names c.args.of.now context)) past))) (c.loop-number.invariant p names pushes context begun are holds_)
 
 pub write_state-requires : goal.write_state-requires
-write_state-requires c = omega (arith, c.loop-number-test.true, c.len-number-end.ensures, c.args.of.now.few.nodes)
+write_state-requires c = omega (arith, c.loop-number-test.true, c.len-number-end.ensures)

@@ -29,4 +29,4 @@ returns c = λ p names context begun.
     (ap (flat_map (exit_entries p)) (all_taken p i (subst (λ m. m ≤ i) (sym (count_is p names c.args.of.now context)) past))) (c.loop-number.invariant p names context begun)
 
 pub write_exit-requires : goal.write_exit-requires
-write_exit-requires c = omega (arith, c.loop-number-test.true, c.len-number-end.ensures, c.args.of.now.few.nodes)
+write_exit-requires c = omega (arith, c.loop-number-test.true, c.len-number-end.ensures)

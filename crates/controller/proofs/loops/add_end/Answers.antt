@@ -1,4 +1,4 @@
-use Rattle.std.proofs.Common.{◌≡◌, ℕ, true, false, Option, Some, None, refl, sym, ap, ◌∙◌, subst, arith}
+use Rattle.std.proofs.Common.{◌≡◌, ℕ, true, false, Option, Some, None, refl, sym, ap, ◌∙◌, subst, arith, length, ◌<◌}
 use Rattle.std.specs.Prelude.{◌&&◌, ◌||◌, ◌-◌, MatchOption}
 use Rattle.std.proofs.Math.Bool.{or-false}
 use Rattle.hls_base.specs.declared.number.NodeId.{NodeId}
@@ -17,8 +17,8 @@ at_none (Some k) P Q h never = absurd (never k refl)
 pub returns-in_default : goal.returns-in_default
 returns-in_default c = λ p names d n before context stands h.
     let i = c.args.number in
-    let found = c.in_ok-interval.ensures p names n context stands in
-    let is = at_none c.in_ok-interval.field-0 (is_loop (Some n) ≡ false) (λ (k : ℕ). (is_loop (Some n) ≡ true) × (k ≡ (body_at p i).interval)) found c.in_default.not-Some in
+    let found = c.interval_at.ensures p names n context stands in
+    let is = at_none c.interval_at.result (is_loop (Some n) ≡ false) (λ (k : ℕ). (is_loop (Some n) ≡ true) × (k ≡ (body_at p i).interval)) found c.in_default.not-Some in
     made_as p names d (circuit c.args.logic.now) c.args.all.now.items before _
     (λ (x : Cycle). sym (ap (λ b. before x || (b && at p x i ((body_at p i).interval - 1))) is ∙ or-false (before x))) h
 
@@ -28,9 +28,15 @@ returns c = λ p names d n before context stands h.
     let e = circuit c.args.logic.now in
     let f = circuit c.at.new.logic in
     let time = c.saturating_sub-time.result in
-    let found = subst (λ o. MatchOption o (is_loop (Some n) ≡ false) (λ (k : ℕ). (is_loop (Some n) ≡ true) × (k ≡ (body_at p i).interval))) c.in-Some.is (c.in_ok-interval.ensures p names n context stands) in
+    let found = subst (λ o. MatchOption o (is_loop (Some n) ≡ false) (λ (k : ℕ). (is_loop (Some n) ≡ true) × (k ≡ (body_at p i).interval))) c.in-Some.is (c.interval_at.ensures p names n context stands) in
     let when_ : time ≡ (body_at p i).interval - 1 = omega (arith, c.saturating_sub-time.ensures, found.1) in
     let made = c.in_ok-end.ensures p names context h.begun in
     made_as p names d f c.push.new.self.items (λ (x : Cycle). before x || at p x c.node_with_number-node.result.0 time) _
     (λ (x : Cycle). ap (λ (m : NodeId). before x || at p x m.0 time) c.node_with_number-node.ensures ∙ (ap (λ k. before x || at p x i k) when_ ∙ ap (λ b. before x || (b && at p x i ((body_at p i).interval - 1))) (sym found.0)))
     (last_made p names d e f c.args.all.now.items c.push.new.self.items c.in_ok-end.end before (λ (x : Cycle). at p x c.node_with_number-node.result.0 time) h made c.in_ok-push.ensures.items)
+
+pub node_with_number-node-requires : goal.node_with_number-node-requires
+node_with_number-node-requires c = omega (arith, c.requires, c.args.of.now.few.nodes)
+
+pub at-requires : goal.at-requires
+at-requires c = subst (λ (m : NodeId). m.0 < length c.args.of.now.cfg.now.nodes.items) (sym c.node_with_number-node.ensures) c.requires

@@ -37,4 +37,4 @@ returns c = λ p names context begun.
     (c.loop-number.invariant p names context begun)
 
 pub add_end-requires : goal.add_end-requires
-add_end-requires c = omega (arith, c.loop-number-test.true, c.len-number-end.ensures, c.args.of.now.few.nodes)
+add_end-requires c = omega (arith, c.loop-number-test.true, c.len-number-end.ensures)

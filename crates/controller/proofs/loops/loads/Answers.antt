@@ -30,4 +30,4 @@ returns c = λ p names d context begun.
     (λ (x : Cycle). ap (list_any (λ (m : ℕ × TimedNode). is_loop (Some m.1) && holds x (Load m.0))) (all_taken p i (subst (λ m. m ≤ i) (sym (count_is p names c.args.of.now context)) past))) (c.loop-number.invariant p names d context begun)
 
 pub add_load-requires : goal.add_load-requires
-add_load-requires c = omega (arith, c.loop-number-test.true, c.len-number-end.ensures, c.args.of.now.few.nodes)
+add_load-requires c = omega (arith, c.loop-number-test.true, c.len-number-end.ensures)

@@ -40,4 +40,4 @@ returns c = λ p names context begun.
     (λ (x : Cycle). ap (λ l. initial_goes p x || list_any (node_goes p x) l) (all_taken p i (subst (λ m. m ≤ i) (sym (count_is p names c.args.of.now context)) past))) (c.loop-number.invariant p names context begun)
 
 pub node_span-requires : goal.node_span-requires
-node_span-requires c = omega (arith, c.loop-number-test.true, c.len-number-end.ensures, c.args.of.now.few.nodes)
+node_span-requires c = omega (arith, c.loop-number-test.true, c.len-number-end.ensures)

@@ -13,8 +13,8 @@ returns-then-not-has_test c = λ p names h begun.
     let d = circuit c.args.logic.now in
     let a = c.constant_bit.result in
     let i = c.args.node.0 in
-    let n = c.in_ok-itself.itself.now in
-    let none = test_is p names c.args.of.now i n c.body_of.result.now c.has_test.result false h c.in_ok-itself.ensures c.body_of.ensures c.has_test.ensures c.if-not-has_test.true in
+    let n = c.node-itself.result.now in
+    let none = test_is p names c.args.of.now i n c.body_of.result.now c.has_test.result false h c.node-itself.ensures.stands c.body_of.ensures c.has_test.ensures c.if-not-has_test.true in
     carries_as p names d d 1 a (λ (x : Cycle). bit false) (λ (x : Cycle). bit (control.is_tested p x i)) (λ x. ap bit (not_tested p x i none))
     (there_already p names d 1 a (λ (x : Cycle). bit false) begun (c.constant_bit.ensures p names d))
 
@@ -23,10 +23,10 @@ returns c = λ p names h begun.
     let d = circuit c.args.logic.now in
     let e = circuit c.at_iteration.new.logic in
     let i = c.args.node.0 in
-    let t = c.in_ok-time.time in
-    let n = c.in_ok-itself.itself.now in
-    let some = test_is p names c.args.of.now i n c.body_of.result.now c.has_test.result true h c.in_ok-itself.ensures c.body_of.ensures c.has_test.ensures c.if-not-has_test.false in
-    let time = known_there p names c.args.of.now i t n h c.in_ok-itself.ensures c.in_ok-time.ensures in
+    let t = c.known_at-time.result in
+    let n = c.node-itself.result.now in
+    let some = test_is p names c.args.of.now i n c.body_of.result.now c.has_test.result true h c.node-itself.ensures.stands c.body_of.ensures c.has_test.ensures c.if-not-has_test.false in
+    let time = known_there p names c.args.of.now i t n h c.node-itself.ensures.stands c.known_at-time.ensures in
     IfOk-weaker c.at_iteration.result _ _
     (λ a made. carries_as p names d e 1 a (λ (x : Cycle). bit (reading.at_iteration p x i t)) (λ (x : Cycle). bit (control.is_tested p x i)) (λ x. ap bit (tested_at p x i t some time)) made)
     (c.at_iteration.ensures p names h begun)

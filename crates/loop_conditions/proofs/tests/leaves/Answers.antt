@@ -13,19 +13,19 @@ pub returns-in-Plain : goal.returns-in-Plain
 returns-in-Plain c = λ p names h begun.
     let i = c.args.node.0 in
     let k = c.span-time.result in
-    let n = c.in_ok-itself.itself.now in
-    let same = span_there p names c.args.of.now i k n h c.in_ok-itself.ensures c.span-time.ensures.value in
+    let n = c.node-itself.result.now in
+    let same = span_there p names c.args.of.now i k n h c.node-itself.ensures.stands c.span-time.ensures.value in
     IfOk-weaker c.at.result _ _
     (λ a made. carries_as p names (circuit c.args.logic.now) (circuit c.at.new.logic) 1 a (λ (x : Cycle). bit (reading.at p x i (k - 1))) (λ (x : Cycle). bit (control.leaves_if p x i (slice_get p.program.nodes i)))
-    (λ x. ap bit (block_left p names c.args.of.now x i k n c.in-Plain.field-0 h c.in_ok-itself.ensures c.in-Plain.is same)) made) (c.at.ensures p names h begun)
+    (λ x. ap bit (block_left p names c.args.of.now x i k n c.in-Plain.field-0 h c.node-itself.ensures.stands c.in-Plain.is same)) made) (c.at.ensures p names h begun)
 
 pub returns-in-Looped : goal.returns-in-Looped
 returns-in-Looped c = λ p names h begun.
     let i = c.args.node.0 in
     let w = c.cycles_after_test-wait.result in
-    let n = c.in_ok-itself.itself.now in
+    let n = c.node-itself.result.now in
     let r = c.in-Looped.region in
     IfOk-weaker c.leaves_loop.result _ _
     (λ a made. carries_as p names (circuit c.args.logic.now) (circuit c.leaves_loop.new.logic) 1 a (λ (x : Cycle). bit (control.leaves_loop p x i w))
-    (λ (x : Cycle). bit (control.leaves_if p x i (slice_get p.program.nodes i))) (λ x. ap bit (loop_left p names c.args.of.now x i w n r h c.in_ok-itself.ensures c.in-Looped.is (c.cycles_after_test-wait.ensures r.ii))) made)
+    (λ (x : Cycle). bit (control.leaves_if p x i (slice_get p.program.nodes i))) (λ x. ap bit (loop_left p names c.args.of.now x i w n r h c.node-itself.ensures.stands c.in-Looped.is (c.cycles_after_test-wait.ensures r.ii))) made)
     (c.leaves_loop.ensures p names h begun)

@@ -23,7 +23,7 @@ returns-then-not-has_test c = λ p names h begun.
     let a = c.constant_bit.result in
     let i = c.args.node.0 in
     let w = c.args.wait in
-    let none = test_is p names c.args.of.now i c.in_ok-node.field-0.now c.body_of.result.now c.has_test.result false h c.in_ok-node.ensures c.body_of.ensures c.has_test.ensures c.if-not-has_test.true in
+    let none = test_is p names c.args.of.now i c.node.result.now c.body_of.result.now c.has_test.result false h c.node.ensures.stands c.body_of.ensures c.has_test.ensures c.if-not-has_test.true in
     carries_as p names d d 1 a (λ (x : Cycle). bit false) (λ (x : Cycle). bit (control.leaves_loop p x i w)) (λ x. ap bit (never_leaves p x i w none))
     (there_already p names d 1 a (λ (x : Cycle). bit false) begun (c.constant_bit.ensures p names d))
 
@@ -36,7 +36,7 @@ returns c = λ p names h begun.
     let w = c.args.wait in
     let l = c.in_ok-active.active in
     let r = c.in_ok-over.over in
-    let some = test_is p names c.args.of.now i c.in_ok-node.field-0.now c.body_of.result.now c.has_test.result true h c.in_ok-node.ensures c.body_of.ensures c.has_test.ensures c.if-not-has_test.false in
+    let some = test_is p names c.args.of.now i c.node.result.now c.body_of.result.now c.has_test.result true h c.node.ensures.stands c.body_of.ensures c.has_test.ensures c.if-not-has_test.false in
     let active = holds_tells p names d l (Active i) begun refl (c.in_ok-active.ensures p names h) in
     let over = c.in_ok-over.ensures p names h begun in
     IfOk-weaker c.and.result _ _

@@ -18,7 +18,7 @@ pub returns-then-not-is_gated : goal.returns-then-not-is_gated
 returns-then-not-is_gated c = λ p names k h begun.
     let i = c.args.node.0 in
     let it : Placed = placed i k c.args.op.now in
-    let none = gated_there p names c.args.of.now i c.in_ok-itself.itself.now c.is_gated.result false h c.in_ok-itself.ensures c.is_gated.ensures c.if-not-is_gated.true in
+    let none = gated_there p names c.args.of.now i c.node-itself.result.now c.is_gated.result false h c.node-itself.ensures.stands c.is_gated.ensures c.if-not-is_gated.true in
     carries_as p names (circuit c.args.logic.now) (circuit c.at_iteration.new.logic) 1 c.in_ok-now.now (λ (x : Cycle). bit (reading.at_iteration p x i it.op.start)) (λ (x : Cycle). bit (control.may_store p x it))
     (λ x. ap bit (stores_always p x it none)) (c.in_ok-now.ensures p names h begun)
 
@@ -29,16 +29,16 @@ returns c = λ p names k h begun.
     let f = circuit c.gate_after.new.logic in
     let g = circuit c.and.new.self in
     let i = c.args.node.0 in
-    let n = c.in_ok-itself.itself.now in
+    let n = c.node-itself.result.now in
     let it : Placed = placed i k c.args.op.now in
     let since = c.saturating_sub-since.result in
     let cycles = c.span-cycles.result in
     let l = c.in_ok-now.now in
     let r = c.in_ok-gate.gate in
-    let some = gated_there p names c.args.of.now i n c.is_gated.result true h c.in_ok-itself.ensures c.is_gated.ensures c.if-not-is_gated.false in
-    let known_ = known_there p names c.args.of.now i c.in_ok-known_at.field-0 n h c.in_ok-itself.ensures c.in_ok-known_at.ensures in
+    let some = gated_there p names c.args.of.now i n c.is_gated.result true h c.node-itself.ensures.stands c.is_gated.ensures c.if-not-is_gated.false in
+    let known_ = known_there p names c.args.of.now i c.known_at.result n h c.node-itself.ensures.stands c.known_at.ensures in
     let time : since ≡ it.op.start - known (body_at p i) = c.saturating_sub-since.ensures ∙ ap (λ t. it.op.start - t) known_ in
-    let same = span_there p names c.args.of.now i cycles n h c.in_ok-itself.ensures c.span-cycles.ensures.value in
+    let same = span_there p names c.args.of.now i cycles n h c.node-itself.ensures.stands c.span-cycles.ensures.value in
     let now = c.in_ok-now.ensures p names h begun in
     let gate = c.in_ok-gate.ensures p names h now.begun in
     IfOk-weaker c.and.result _ _

@@ -3,6 +3,7 @@ use Rattle.std.proofs.lemmas.Result.{IfOk-weaker}
 use Rattle.rtl_logic.specs.Making.{circuit}
 use Rattle.rtl_logic.proofs.Making.{appended, fits_later}
 use Rattle.unit_demands.proofs.Pushing.{refusal_logged, is_there}
+use Rattle.unit_demands.proofs.Accessing.{node_inside}
 use Rattle.unit_demands.proofs.accesses.give_refusal.Goals as goal
 
 pub returns : goal.returns
@@ -19,3 +20,9 @@ returns c = λ p names context begun port.
     c.in_ok-starts.starts c.in_ok-allowed.allowed c.in_ok-against.against c.in_ok-refused.refused c.constant.result port (is_there c.args.it.now.op.now.guard c.is_none.result c.is_none.ensures c.if-is_none.false)
     starts allowed against refused c.constant.ensures is)
     c.push.ensures
+
+pub at-requires : goal.at-requires
+at-requires c = node_inside c.args.of.now c.args.it.now c.requires
+
+pub is_true-requires : goal.is_true-requires
+is_true-requires c = node_inside c.args.of.now c.args.it.now c.requires

@@ -1,4 +1,4 @@
-use Rattle.std.proofs.Common.{◌≡◌, Option, Some, None, inr, refl, sym, ap, subst}
+use Rattle.std.proofs.Common.{◌≡◌, Option, Some, None, inr, refl, sym, ap, subst, ◌∙◌}
 use Rattle.std.proofs.lemmas.Result.{IfOk-weaker}
 use Rattle.rtl_logic.specs.Making.{circuit}
 use Rattle.datapath.specs.Ports.{is_store}
@@ -13,7 +13,7 @@ use Rattle.unit_demands.proofs.accesses.give_store.Goals as goal
 
 pub returns : goal.returns
 returns c = λ p names context begun there kind.
-    let port = c.port_used-port.ensures p names context there (inr (ap is_store kind)) c.in-Some.is in
+    let port = c.port_used-port.ensures.port p names context there (inr (ap is_store kind)) c.in-Some.is in
     let first = c.in_ok-give_address.ensures p names context begun port in
     IfOk-weaker c.give_word.result _ _
     (λ u second.
@@ -31,3 +31,9 @@ returns-in_default c = λ p names context begun there kind.
     let l = c.args.log.now.pushes.items in
     let none = not_some c.args.it.now.op.now.array c.in_default.not-Some in
     subst (λ (q : Option ArrayId). Logs p names d d l l (entries_as p o.Store q (placed_as c.args.it.now))) (sym none) (logs_none p names d l begun)
+
+pub give_address-requires-clause-access : goal.give_address-requires-clause-access
+give_address-requires-clause-access c = record { kind = inr c.requires.kind; array_ = c.in-Some.is ∙ ap Some (sym c.port_used-port.ensures.array) }
+
+pub give_word-requires-clause-access : goal.give_word-requires-clause-access
+give_word-requires-clause-access c = record { kind = inr c.requires.kind; array_ = c.in-Some.is ∙ ap Some (sym c.port_used-port.ensures.array) }

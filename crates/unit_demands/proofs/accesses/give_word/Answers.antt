@@ -1,6 +1,7 @@
 use Rattle.std.proofs.lemmas.Result.{IfOk-weaker}
 use Rattle.rtl_logic.specs.Making.{circuit}
 use Rattle.unit_demands.proofs.Pushing.{word_logged}
+use Rattle.unit_demands.proofs.Accessing.{node_inside, some_stored, array_stands}
 use Rattle.unit_demands.proofs.accesses.give_word.Goals as goal
 
 pub returns : goal.returns
@@ -11,6 +12,21 @@ returns c = λ p names context begun there port.
     IfOk-weaker c.push.result _ _
     (λ u is.
     word_logged p names (circuit c.args.logic.now) (circuit c.may_store.new.logic) (circuit c.and.new.self) c.args.log.now.pushes.items c.push.new.self.pushes.items c.args.it.now c.args.port
-    c.in_ok-bits.bits c.in_ok-stored.field-0 c.in_ok-word.word c.in_ok-may.may c.in_ok-allowed.allowed c.in_ok-when.when begun there port (c.in_ok-bits.ensures p names context) (λ f. c.in_ok-stored.ensures f)
+    c.word_bits-bits.result c.stored.result c.in_ok-word.word c.in_ok-may.may c.in_ok-allowed.allowed c.in_ok-when.when begun there port (c.word_bits-bits.ensures p names context) (λ f. c.stored.ensures f)
     (c.in_ok-word.ensures p names context begun) may allowed both is)
     c.push.ensures
+
+pub operand-requires : goal.operand-requires
+operand-requires c = node_inside c.args.of.now c.args.it.now c.requires.program
+
+pub may_store-requires : goal.may_store-requires
+may_store-requires c = node_inside c.args.of.now c.args.it.now c.requires.program
+
+pub is_true-requires : goal.is_true-requires
+is_true-requires c = node_inside c.args.of.now c.args.it.now c.requires.program
+
+pub stored-requires : goal.stored-requires
+stored-requires c = some_stored c.args.of.now c.args.it.now c.requires.program c.requires.kind
+
+pub word_bits-bits-requires : goal.word_bits-bits-requires
+word_bits-bits-requires c = array_stands c.args.of.now c.args.it.now c.args.port.array c.requires.program c.requires.kind c.requires.access.array_

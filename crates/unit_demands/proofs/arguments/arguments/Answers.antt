@@ -3,6 +3,7 @@ use Rattle.rtl_logic.specs.Making.{circuit}
 use Rattle.circuit_wires.specs.Carrying.{Carries}
 use Rattle.unit_demands.specs.Placing.{argument_of}
 use Rattle.unit_demands.proofs.Reading.{argument_carries}
+use Rattle.unit_demands.proofs.Accessing.{node_inside}
 use Rattle.unit_demands.proofs.arguments.arguments.Goals as goal
 
 pub returns : goal.returns
@@ -17,3 +18,9 @@ returns c = λ p names context begun.
       third = subst (λ n. Carries p names d n c.in_ok-operand-2.field-0 (argument_of p it 2)) widths.ensures.third
           (argument_carries p names d widths.result.2 2 it c.argument-2.result c.in_ok-operand-2.field-0 c.argument-2.ensures (c.in_ok-operand-2.ensures p names context begun));
     }
+
+pub operand-requires : goal.operand-requires
+operand-requires c = node_inside c.args.of.now c.args.it.now c.requires
+
+pub operand-requires-2 : goal.operand-requires-2
+operand-requires-2 c = node_inside c.args.of.now c.args.it.now c.requires

@@ -2,6 +2,7 @@ use Rattle.std.proofs.lemmas.Result.{IfOk-weaker}
 use Rattle.rtl_logic.specs.Making.{circuit}
 use Rattle.unit_demands.proofs.Reading.{argument_carries}
 use Rattle.unit_demands.proofs.Making.{narrow_first, other_first}
+use Rattle.unit_demands.proofs.Accessing.{node_inside}
 use Rattle.unit_demands.proofs.arguments.first_argument.Goals as goal
 
 pub returns-in-Narrow : goal.returns-in-Narrow
@@ -16,3 +17,6 @@ returns-in_default c = λ p names context begun.
     other_first p names d c.args.it.now a c.constant_widths.result.0 c.in_default.not-Widen c.in_default.not-Narrow c.constant_widths.ensures.first
     (argument_carries p names d c.constant_widths.result.0 0 c.args.it.now c.argument.result a c.argument.ensures h))
     (c.operand.ensures p names context begun)
+
+pub operand-requires : goal.operand-requires
+operand-requires c = node_inside c.args.of.now c.args.it.now c.requires

@@ -1,12 +1,10 @@
 use Rattle.std.proofs.Common.{◌≡◌, ◌≤◌, ◌<◌, ◌+◌, ◌++◌, List, [], ◌∷◌, length, map, take, slice_get, slice_index_or, Some, sym, ap, ◌∙◌, subst, arith}
-use Rattle.std.proofs.lemmas.List.{take_all, take_more, length-take-le, map-append, get_or-map}
+use Rattle.std.proofs.lemmas.List.{take_all, take_more, length-take-le, map-append}
 use Rattle.std.proofs.lemmas.Option.{slice_get-get_or}
 use Rattle.ir_core.specs.declared.cfg.Node.{Node}
 use Rattle.rtl_logic.specs.Making.{circuit}
 use Rattle.clock_ir.specs.declared.timed.Timed.{Timed}
 use Rattle.datapath.specs.Plans.{Plan}
-use Rattle.access_ports.specs.Counting.{ops_in}
-use Rattle.access_ports.specs.Numbers.{operations_of}
 use Rattle.unit_demands.specs.Collected.{AreOpsOf, CollectsNodes}
 use Rattle.unit_demands.proofs.Collecting.{no_nodes, node_ops, one_node, all_logged}
 use Rattle.unit_demands.proofs.demands.collect.Goals as goal
@@ -59,9 +57,8 @@ collect_node-requires c =
     let node = c.node-item.result in
     let inside : k < length nodes = subst (λ (ns : List (Node Timed)). k < length ns) c.deref-node-items.ensures.value c.loop-number-test.true in
     let node_is : node ≡ slice_index_or nodes k node = rw c.deref-node-items.ensures.value at c.node-item.is in
-    ap length c.ops_of.ensures.own
-    ∙ (ap (λ n. length (ops_in n)) node_is
-    ∙ (sym (get_or-map (λ n. length (ops_in n)) nodes k node 0 inside) ∙ ap (operations_of nodes) (sym c.node_named-name.ensures)))
+    let stands : slice_get nodes k ≡ Some node = slice_get-get_or nodes k node inside ∙ ap Some (sym node_is) in
+    record { node = node; stands = ap (slice_get nodes) c.node_named-name.ensures ∙ stands; are = c.ops_of.ensures.own }
 
 pub loop-number-init : goal.loop-number-init
 loop-number-init c = λ p names context begun.

@@ -33,3 +33,9 @@ loop-number-init c = λ p names context begun are.
     let d = circuit c.args.logic.now in
     let l = c.args.log.now.pushes.items in
     subst (CollectsOps p names d d l l c.args.node.0 []) (sym c.in_ok-wires.ensures.items) (no_operations p names d l c.args.node.0 begun)
+
+pub collect_operation-requires : goal.collect_operation-requires
+collect_operation-requires c =
+    let ops = c.args.ops.now in
+    let op = c.index-ops-number.result in
+    record { all = c.requires; stands = slice_get-get_or ops c.loop-number.number op c.loop-number-test.true ∙ ap Some (sym c.index-ops-number.is) }

@@ -1,9 +1,9 @@
-use Rattle.std.proofs.Common.{arith}
 use Rattle.std.proofs.lemmas.Result.{IfOk-weaker}
 use Rattle.rtl_core.specs.ClockStep.{widths}
 use Rattle.rtl_core.specs.Valid.{IsBetween}
 use Rattle.rtl_logic.specs.Making.{circuit}
 use Rattle.unit_demands.specs.Placing.{width_before}
+use Rattle.unit_demands.proofs.Accessing.{bits_between}
 use Rattle.unit_demands.proofs.Owning.{arguments_fit}
 use Rattle.unit_demands.proofs.Making.{result_made}
 use Rattle.unit_demands.proofs.results.result_of.Goals as goal
@@ -15,6 +15,6 @@ returns c = λ p names context begun there wire.
     let of = c.in_ok-arguments.arguments in
     let bits = it.op.now.bits in
     let read = c.in_ok-arguments.ensures p names context begun in
-    let between : IsBetween 1 64 bits = (omega (arith, c.if-bits-lt1.false), omega (arith, c.if-bits-gt64.false)) in
+    let between : IsBetween 1 64 bits = bits_between c.args.of.now it c.requires in
     let fit = arguments_fit (widths d) it.op.now.kind bits (width_before p it) of wire read.first.fits read.second.fits read.third.fits in
     IfOk-weaker c.value_of.result _ _ (λ a made. result_made p names d (circuit c.value_of.new.logic) it of a begun there read made) (c.value_of.ensures (width_before p it) begun.sound between fit)

@@ -2,6 +2,7 @@ use Rattle.std.proofs.lemmas.Result.{IfOk-weaker}
 use Rattle.rtl_logic.specs.Making.{circuit}
 use Rattle.unit_demands.proofs.Reading.{argument_carries}
 use Rattle.unit_demands.proofs.Pushing.{shared_logged}
+use Rattle.unit_demands.proofs.Accessing.{node_inside}
 use Rattle.unit_demands.proofs.shared.give_operands.Goals as goal
 
 pub returns : goal.returns
@@ -18,3 +19,12 @@ returns c = λ p names context begun there.
     shared_logged p names d e c.args.log.now.pushes.items c.push.new.self.pushes.items c.push-2.new.self.pushes.items c.push-3.new.self.pushes.items it c.args.kind c.in_ok-when.when c.in_ok-left.left
     c.in_ok-right.right c.constant-signed.result starts left right c.constant-signed.ensures there c.in_ok-push.ensures c.in_ok-push-2.ensures is)
     c.push-3.ensures
+
+pub at-requires : goal.at-requires
+at-requires c = node_inside c.args.of.now c.args.it.now c.requires
+
+pub operand-requires : goal.operand-requires
+operand-requires c = node_inside c.args.of.now c.args.it.now c.requires
+
+pub operand-requires-2 : goal.operand-requires-2
+operand-requires-2 c = node_inside c.args.of.now c.args.it.now c.requires

@@ -6,6 +6,10 @@ use Rattle.datapath.specs.Control.{is_taken}
 use Rattle.circuit_log.proofs.Joining.{logs_then, logs_behind}
 use Rattle.value_writes.proofs.Beginning.{beginnings_joined}
 use Rattle.value_writes.proofs.Listing.{logs_as}
+use Rattle.std.proofs.Common.{◌≡◌, true, subst}
+use Rattle.std.specs.List.{list_all}
+use Rattle.program_validity.specs.Frames.{is_kept}
+use Rattle.value_writes.proofs.Beginning.{all_kept}
 use Rattle.value_writes.proofs.beginnings.write_beginnings.Goals as goal
 
 pub returns : goal.returns
@@ -19,3 +23,8 @@ returns c = λ p names h begun.
     on_ok_weaker c.write_kept.result
     (λ kept. logs_behind p names d e e _ _ _ made.appends (logs_as p names e e _ _ _ _ all (logs_then p names e e e _ _ _ _ _ entered (logs_then p names e e e _ _ _ _ _ arguments kept))))
     (c.write_kept.ensures p names h made.begun)
+
+pub write_kept-requires : goal.write_kept-requires
+write_kept-requires c =
+    let cfg = c.args.of.now.cfg.now in
+    subst (λ all. list_all (is_kept cfg.frame) all ≡ true) (sym c.deref-2.ensures.value) (all_kept cfg c.args.of.now.buildable.valid)

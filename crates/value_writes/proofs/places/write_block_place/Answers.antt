@@ -7,6 +7,7 @@ use Rattle.datapath.specs.Reading as reading
 use Rattle.datapath.specs.Values as values
 use Rattle.circuit_log.proofs.Joining.{logs_behind}
 use Rattle.value_writes.proofs.Pushing.{tells_as, computed_on, answers_on}
+use Rattle.circuit_context.proofs.Named.{node_of_operation}
 use Rattle.value_writes.proofs.places.write_block_place.Goals as goal
 
 pub returns : goal.returns
@@ -16,7 +17,13 @@ returns c = λ p names h begun computed answers.
     let held = c.args.held in
     let made = c.in_ok-when.ensures p names h begun in
     let longer = appended d e made.appends in
-    let when = tells_as p names e c.in_ok-when.when _ (λ (x : Cycle). reading.at p x held.node.0 (values.arrival p held)) (λ x. ap (reading.at p x held.node.0) (c.in_ok-time.ensures p names h)) made.carries in
+    let when = tells_as p names e c.in_ok-when.when _ (λ (x : Cycle). reading.at p x held.node.0 (values.arrival p held)) (λ x. ap (reading.at p x held.node.0) (c.arrival-time.ensures.arrival p names h)) made.carries in
     let value = c.in_ok-value.ensures p names e h made.begun (computed_on p names d e c.args.sources.now.computed.now longer computed) (answers_on p names d e c.args.sources.now.units.now longer answers) in
     on_ok_weaker c.take.result (logs_behind p names d e e _ _ _ made.appends)
     (c.take.ensures p names (λ (x : Cycle). reading.at p x held.node.0 (values.arrival p held)) (λ (x : Cycle). values.arriving p x held.node.0 held.op.0) h made.begun when value)
+
+pub arrival-time-requires : goal.arrival-time-requires
+arrival-time-requires c = node_of_operation c.args.of.now.cfg.now.nodes.items c.args.held.node.0 c.args.held.op.0 c.requires
+
+pub at-requires : goal.at-requires
+at-requires c = node_of_operation c.args.of.now.cfg.now.nodes.items c.args.held.node.0 c.args.held.op.0 c.requires

@@ -11,6 +11,7 @@ use Rattle.circuit_log.specs.Logs.{Logs}
 use Rattle.circuit_log.proofs.Joining.{logs_then, logs_behind}
 use Rattle.value_writes.specs.Steps.{number_of}
 use Rattle.value_writes.proofs.Pushing.{computed_on, answers_on}
+use Rattle.circuit_context.proofs.Named.{node_of_operation}
 use Rattle.value_writes.proofs.places.write_loop_place.Goals as goal
 
 pub returns : goal.returns
@@ -18,7 +19,7 @@ returns c = λ p names h begun computed answers loop.
     let d = circuit c.args.logic.now in
     let e = circuit c.moves.new.logic in
     let held = c.args.held in
-    let entry = number_of c.in_ok-entry.entry in
+    let entry = number_of c.entry_of-entry.result in
     let first = c.in_ok-write_entry.ensures p names h begun in
     let made = c.in_ok-when.ensures p names entry h begun (sym c.entries_of.ensures) in
     let longer = appended d e made.appends in
@@ -27,5 +28,11 @@ returns c = λ p names h begun computed answers loop.
     let moved_ = λ (x : Cycle). values.moved p x held held.place in
     subst
     (λ (o : Option ℕ). OnOk c.take.result (Logs p names d e c.args.log.now.pushes.items c.take.new.log.pushes.items
-    (load_entries held o ++ register_entry (role.Value held.register) (λ (x : Cycle). where_ (values.moves p x held o) (values.moved p x held held.place)) ∷ []))) (c.in_ok-entry.ensures p names h loop)
+    (load_entries held o ++ register_entry (role.Value held.register) (λ (x : Cycle). where_ (values.moves p x held o) (values.moved p x held held.place)) ∷ []))) (c.entry_of-entry.ensures p names h loop)
     (on_ok_weaker c.take.result (λ logs. logs_then p names d d e _ _ _ _ _ first (logs_behind p names d e e _ _ _ made.appends logs)) (c.take.ensures p names moves_ moved_ h made.begun made.carries value))
+
+pub entry_of-entry-requires : goal.entry_of-entry-requires
+entry_of-entry-requires c = node_of_operation c.args.of.now.cfg.now.nodes.items c.args.held.node.0 c.args.held.op.0 c.requires
+
+pub moves-requires : goal.moves-requires
+moves-requires c = node_of_operation c.args.of.now.cfg.now.nodes.items c.args.held.node.0 c.args.held.op.0 c.requires

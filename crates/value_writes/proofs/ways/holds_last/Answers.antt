@@ -12,8 +12,8 @@ use Rattle.value_writes.proofs.ways.holds_last.Goals as goal
 pub returns : goal.returns
 returns c = λ p names h begun.
     let d = circuit c.args.logic.now in
-    let at = c.in_ok-last_cycle.field-0 in
+    let at = c.last_cycle.result in
     IfOk-weaker c.is_true.result _ _
     (λ a tells. tells_as p names d a (λ (x : Cycle). not (operand p x at.node.0 at.time c.args.test == 0)) (λ (x : Cycle). not (last_operand p c.args.node.0 x c.args.test == 0))
-    (λ x. ap (λ (i : NodeId). not (operand p x i.0 at.time c.args.test == 0)) c.in_ok-last_cycle.ensures.node
-    ∙ ap (λ (t : ℕ). not (operand p x c.args.node.0 t c.args.test == 0)) (c.in_ok-last_cycle.ensures.time p names h)) tells) (c.is_true.ensures p names h begun)
+    (λ x. ap (λ (i : NodeId). not (operand p x i.0 at.time c.args.test == 0)) c.last_cycle.ensures.node
+    ∙ ap (λ (t : ℕ). not (operand p x c.args.node.0 t c.args.test == 0)) (c.last_cycle.ensures.time p names h)) tells) (c.is_true.ensures p names h begun)

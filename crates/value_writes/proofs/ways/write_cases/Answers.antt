@@ -22,8 +22,8 @@ returns-in_ok-tests c = λ p names n h begun stands leaving.
     let d = circuit c.args.logic.now in
     let e = circuit c.write_exclusive.new.logic in
     let f = circuit c.none_of.new.logic in
-    let m = timed_node c.in_ok-node.node.now in
-    let body = c.body_of.ensures ∙ ap plans.body_of (same_node p i m n (c.in_ok-node.ensures.timed p names h) stands) in
+    let m = timed_node c.node_at-node.result.now in
+    let body = c.body_of.ensures ∙ ap plans.body_of (same_node p i m n (c.node_at-node.ensures.timed p names h) stands) in
     let differ : true ≡ all_differ (plans.body_of n) cases = sym c.if-branch.true ∙ (c.in_ok-are_exclusive.ensures (plans.body_of m).interval ∙ ap (λ (b : TimedBody). all_differ b cases) body) in
     let first = c.in_ok-tests.ensures p names n h begun leaving in
     let leave = carries_on p names d e 1 c.args.leaving.when (λ (x : Cycle). bit (leaves_as p x i n)) (appended d e first.0.appends) leaving in
@@ -36,7 +36,7 @@ pub returns-else-branch : goal.returns-else-branch
 returns-else-branch c = λ p names n h begun stands leaving.
     let i = c.args.leaving.node.0 in
     let cases = c.args.cases.now in
-    let m = timed_node c.in_ok-node.node.now in
-    let body = c.body_of.ensures ∙ ap plans.body_of (same_node p i m n (c.in_ok-node.ensures.timed p names h) stands) in
+    let m = timed_node c.node_at-node.result.now in
+    let body = c.body_of.ensures ∙ ap plans.body_of (same_node p i m n (c.node_at-node.ensures.timed p names h) stands) in
     let differ : false ≡ all_differ (plans.body_of n) cases = sym c.if-branch.false ∙ (c.in_ok-are_exclusive.ensures (plans.body_of m).interval ∙ ap (λ (b : TimedBody). all_differ b cases) body) in
     IfOk-weaker c.write_ordered.result _ _ (λ a whole. (logs_as p names _ _ _ _ _ _ (ap (λ b. choice_cases p (i, n) b cases) differ) whole.0, whole.1)) (c.write_ordered.ensures p names n h begun leaving)

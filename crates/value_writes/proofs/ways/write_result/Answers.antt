@@ -19,7 +19,7 @@ returns c = λ p names n h begun leaving.
     let d = circuit c.args.logic.now in
     let bits = c.args.of.now.cfg.now.frame.ret in
     let v = c.in-Some.value in
-    let carries = read_at p names d bits c.in_ok-value.value c.in_ok-at.at c.args.leaving.node v (λ (x : Cycle). last_operand p i x v) c.in_ok-at.ensures.node (c.in_ok-at.ensures.time p names h) (λ x. refl)
+    let carries = read_at p names d bits c.in_ok-value.value c.last_cycle-at.result c.args.leaving.node v (λ (x : Cycle). last_operand p i x v) c.last_cycle-at.ensures.node (c.last_cycle-at.ensures.time p names h) (λ x. refl)
     (c.in_ok-value.ensures p names h begun) in
     on_ok_weaker c.take.result (logs_as p names d d _ _ _ _ (ap (result_entries p (i, n)) (sym c.in-Some.is)))
     (c.take.ensures p names (λ (x : Cycle). leaves_as p x i n) (λ (x : Cycle). last_operand p i x v) h begun leaving (record { bits = bits; carries = carries }))

@@ -16,7 +16,7 @@ returns-in-Plain c = λ p names n h begun stands leaving.
     let d = circuit c.args.logic.now in
     let b = c.in-Plain.block in
     let body = timed_body b.length b.body in
-    let same : block body b.end ≡ n = ap timed_node (sym c.in-Plain.is) ∙ same_node p i (timed_node c.in_ok-block.field-0.now) n (c.in_ok-block.ensures.timed p names h) stands in
+    let same : block body b.end ≡ n = ap timed_node (sym c.in-Plain.is) ∙ same_node p i (timed_node c.node_at.result.now) n (c.node_at.ensures.timed p names h) stands in
     let leaving_ = subst (λ (m : TimedNode). Tells p names d c.args.leaving.when (λ (x : Cycle). leaves_as p x i m)) (sym same) leaving in
     subst
     (λ (m : TimedNode). OnOk c.write_end.result (Logs p names d (circuit c.write_end.new.logic) c.args.log.now.pushes.items c.write_end.new.log.pushes.items (ways_as p (i, m) m))) same
@@ -27,7 +27,7 @@ returns-in-Looped c = λ p names n h begun stands leaving.
     let i = c.args.leaving.node.0 in
     let d = circuit c.args.logic.now in
     let r = c.in-Looped.region in
-    let same : overlapped (timed_body r.ii r.body) r.exit r.next.0 ≡ n = ap timed_node (sym c.in-Looped.is) ∙ same_node p i (timed_node c.in_ok-block.field-0.now) n (c.in_ok-block.ensures.timed p names h) stands in
+    let same : overlapped (timed_body r.ii r.body) r.exit r.next.0 ≡ n = ap timed_node (sym c.in-Looped.is) ∙ same_node p i (timed_node c.node_at.result.now) n (c.node_at.ensures.timed p names h) stands in
     let leaving_ = subst (λ (m : TimedNode). Tells p names d c.args.leaving.when (λ (x : Cycle). leaves_as p x i m)) (sym same) leaving in
     subst (λ (m : TimedNode). OnOk c.enter.result (Logs p names d d c.args.log.now.pushes.items c.enter.new.log.pushes.items (ways_as p (i, m) m))) same
     (c.enter.ensures p names d (λ (x : Cycle). leaves_as p x i (overlapped (timed_body r.ii r.body) r.exit r.next.0)) begun leaving_)

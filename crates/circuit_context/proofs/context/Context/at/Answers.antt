@@ -16,7 +16,7 @@ returns-then-cycles-le1 c = λ p names h begun.
     let i = c.args.at.node.0 in
     let k = c.span-cycles.result in
     let a = c.in_ok-active.active in
-    let same = span_there p names c.args.self.now i k c.in_ok-node.field-0.now h c.in_ok-node.ensures c.span-cycles.ensures.value in
+    let same = span_there p names c.args.self.now i k c.node.result.now h c.node.ensures.stands c.span-cycles.ensures.value in
     let active = holds_tells p names d a (Active i) begun refl (c.in_ok-active.ensures p names h) in
     carries_as p names d d 1 a (λ (x : Cycle). bit (holds x (Active i))) (λ (x : Cycle). bit (reading.at p x i c.args.at.time)) (λ x. ap bit (at_each p x i c.args.at.time k same c.if-cycles-le1.true))
     (there_already p names d 1 a (λ (x : Cycle). bit (holds x (Active i))) begun active)
@@ -31,7 +31,7 @@ returns c = λ p names h begun.
     let k = c.span-cycles.result in
     let l = c.in_ok-active.active in
     let long : 1 < k = omega (arith, c.if-cycles-le1.false) in
-    let same = span_there p names c.args.self.now i k c.in_ok-node.field-0.now h c.in_ok-node.ensures c.span-cycles.ensures.value in
+    let same = span_there p names c.args.self.now i k c.node.result.now h c.node.ensures.stands c.span-cycles.ensures.value in
     let active = holds_tells p names d l (Active i) begun refl (c.in_ok-active.ensures p names h) in
     let time = c.in_ok-time.ensures p names Time (c.in_ok-register.ensures p names h) begun in
     IfOk-weaker c.and.result _ _

@@ -16,7 +16,7 @@ returns-then-intervals-eq0 c = λ p names h begun.
     let i = c.args.at.node.0 in
     let t = c.args.at.time in
     let k = c.span.result in
-    let same = span_there p names c.args.self.now i k c.in_ok-node.field-0.now h c.in_ok-node.ensures c.span.ensures.value in
+    let same = span_there p names c.args.self.now i k c.node.result.now h c.node.ensures.stands c.span.ensures.value in
     carries_as p names d e 1 c.in_ok-now.now (λ (x : Cycle). bit (reading.at p x i t)) (λ (x : Cycle). bit (reading.at_iteration p x i t))
     (λ x. ap bit (at_first p x i t k same c.if-intervals-eq0.true)) (c.in_ok-now.ensures p names h begun)
 
@@ -30,7 +30,7 @@ returns c = λ p names h begun.
     let k = c.span.result in
     let r = c.in_ok-reached.reached in
     let some : 0 < t / k = omega (arith, c.if-intervals-eq0.false) in
-    let same = span_there p names c.args.self.now i k c.in_ok-node.field-0.now h c.in_ok-node.ensures c.span.ensures.value in
+    let same = span_there p names c.args.self.now i k c.node.result.now h c.node.ensures.stands c.span.ensures.value in
     let now = c.in_ok-now.ensures p names h begun in
     let reached = holds_tells p names e r (Passed (t / k)) now.begun refl (c.in_ok-reached.ensures p names h) in
     IfOk-weaker c.and.result _ _
