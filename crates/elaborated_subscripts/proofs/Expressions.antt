@@ -1,6 +1,7 @@
--- Expressions without faults have no element with more subscripts than its array has dimensions.
-use Rattle.std.proofs.Common.{◌≡◌, ◌≤◌, ℕ, suc, ◌==◌, ◌||◌, not, sym, refl, ap, Bool, true, false, true≢false, List, [], ◌∷◌, ◌++◌, map, drop, take, length, slice_get, Option, Some, None, option_map, if◌then◌else◌, eqb-true, arith}
+-- In expressions without faults each element has as many subscripts as its array has dimensions.
+use Rattle.std.proofs.Common.{◌≡◌, ℕ, suc, ◌==◌, ◌||◌, not, sym, refl, ap, subst, Bool, true, false, true≢false, List, [], ◌∷◌, ◌++◌, map, drop, take, length, slice_get, Option, Some, None, option_map, if◌then◌else◌, eqb-true, arith}
 use Rattle.hls_base.specs.declared.place.Place.{Place}
+use Rattle.hls_base.specs.declared.refusal.Refusal.{Refusal}
 use Rattle.c_token.specs.declared.ctype.CType.{CType}
 use Rattle.c_token.specs.Replacement.{is_in, same_type}
 use Rattle.c_tree.specs.Tree as tree
@@ -65,10 +66,6 @@ called_as b names (Some (function result params)) args at h =
       (result, params, refl, holds (all_fit names params args) (unbroken (not (all_fit names params args)) 11 at (right_nil second third (right_nil first (second ++ third) h)))),
     )
 
-either_way : (y z : Bool) → (not y || z) ≡ true → y ≡ true → z ≡ true
-either_way true z h e = h
-either_way false z h e = absurd (true≢false (sym e))
-
 not_some : (n : ℕ) → not (n == 0) ≡ false → n ≡ 0
 not_some n h = eqb-true n 0 (holds (n == 0) h)
 
@@ -86,8 +83,8 @@ module _ (functions : List CoreFunctionTree) (dimensions : Cell → ℕ) (fs : L
     count_elaborated tree.none = refl
     count_elaborated (tree.more first rest) = let e = count_elaborated rest in omega (arith, e)
 
-    below : (text : List ℕ) (ts : Trees) (at : Place) → use_faults (sense_of text names) (count ts) at ≡ [] → fitting.count (all_elaborated fs rs ts) ≤ dimensions (object_named rs text).cell
-    below text ts at h =
+    as_many : (text : List ℕ) (ts : Trees) (at : Place) → use_faults (sense_of text names) (count ts) at ≡ [] → fitting.count (all_elaborated fs rs ts) ≡ dimensions (object_named rs text).cell
+    as_many text ts at h =
         let u = used_as (sense_of text names) (count ts) at h in
         let d = seen.objects text u.0 u.1 in
         let e = count_elaborated ts in
@@ -96,52 +93,66 @@ module _ (functions : List CoreFunctionTree) (dimensions : Cell → ℕ) (fs : L
 
     -- ---- arguments
 
-    given_below : (text : List ℕ) (x : Shape) (o : CoreObjectTree) → length o.lengths ≡ length x.lengths → (not (is_array x) || same_elements x (sense_of text names)) ≡ true → length o.lengths ≤ dimensions (object_named rs text).cell
-    given_below text x o e h = by (is_array x) refl
+    -- what is found at an argument for the first of these parameters
+    abbrev given_faults_of : List Shape → Tree → List Refusal
+    given_faults_of params t = if is_given params t then name_given_faults names t else expression_faults true bodies names t
+
+    -- a name that is given for a scalar is one of a scalar
+    given_as_many : (text : List ℕ) (x : Shape) (xs : List Shape) (at : Place) (o : CoreObjectTree) → length o.lengths ≡ length x.lengths → fits names x (tree.name text at) ≡ true → given_faults_of (x ∷ xs) (tree.name text at) ≡ [] → length o.lengths ≡ dimensions (object_named rs text).cell
+    given_as_many text x xs at o e h clean = by (is_array x) refl h clean
       where
-        by : (y : Bool) → is_array x ≡ y → length o.lengths ≤ dimensions (object_named rs text).cell
-        by true is =
-            let g = given_as x (sense_of text names) (either_way (is_array x) (same_elements x (sense_of text names)) h is) in
+        by : (y : Bool) → is_array x ≡ y → (not y || same_elements x (sense_of text names)) ≡ true → (if y then name_given_faults names (tree.name text at) else use_faults (sense_of text names) 0 at) ≡ [] → length o.lengths ≡ dimensions (object_named rs text).cell
+        by true is f none =
+            let g = given_as x (sense_of text names) f in
             let d = seen.objects text g.0 g.1 in
             let n = g.2 in
             omega (arith, d, e, n)
-        by false is = let none = not_some (length x.lengths) is in omega (arith, e, none)
+        by false is f none =
+            let u = used_as (sense_of text names) 0 at none in
+            let d = seen.objects text u.0 u.1 in
+            let n = u.2 in
+            let scalar = not_some (length x.lengths) is in
+            omega (arith, d, e, n, scalar)
 
     -- the first of these parameters is given this argument
-    one_array : (o : CoreObjectTree) (os : List CoreObjectTree) (x : Shape) (arg : Tree) (rest : Trees) → length o.lengths ≡ length x.lengths → fits names x arg ≡ true → ArraysFit dimensions os (arguments_elaborated fs rs rest)
+    one_array : (o : CoreObjectTree) (os : List CoreObjectTree) (x : Shape) (xs : List Shape) (arg : Tree) (rest : Trees) → length o.lengths ≡ length x.lengths → fits names x arg ≡ true → given_faults_of (x ∷ xs) arg ≡ [] → ArraysFit dimensions os (arguments_elaborated fs rs rest)
         → ArraysFit dimensions (o ∷ os) (arguments_elaborated fs rs (tree.more arg rest))
-    one_array o os x (tree.name text at) rest e h more = by (object_named rs text).is_array
+    one_array o os x xs (tree.name text at) rest e h clean more = by (object_named rs text).is_array
       where
         by : (y : Bool) → ArraysFit dimensions (o ∷ os) (core.more_arguments (argument_of (if y then Some (object_named rs text).cell else None) (elaborated fs rs (tree.name text at))) (arguments_elaborated fs rs rest))
-        by true = (given_below text x o e h, more)
+        by true = (given_as_many text x xs at o e h clean, more)
         by false = more
-    one_array o os x (tree.number value kind at) rest e h more = more
-    one_array o os x (tree.index array subscripts at) rest e h more = more
-    one_array o os x (tree.call callee args at) rest e h more = more
-    one_array o os x (tree.unary op arg at) rest e h more = more
-    one_array o os x (tree.binary op left right at) rest e h more = more
-    one_array o os x (tree.choice test left right at colon) rest e h more = more
-    one_array o os x (tree.cast to arg at) rest e h more = more
-    one_array o os x (tree.assign place op value at) rest e h more = more
-    one_array o os x (tree.bump place up post at) rest e h more = more
-    one_array o os x (tree.comma left right at) rest e h more = more
+    one_array o os x xs (tree.number value kind at) rest e h clean more = more
+    one_array o os x xs (tree.index array subscripts at) rest e h clean more = more
+    one_array o os x xs (tree.call callee args at) rest e h clean more = more
+    one_array o os x xs (tree.unary op arg at) rest e h clean more = more
+    one_array o os x xs (tree.binary op left right at) rest e h clean more = more
+    one_array o os x xs (tree.choice test left right at colon) rest e h clean more = more
+    one_array o os x xs (tree.cast to arg at) rest e h clean more = more
+    one_array o os x xs (tree.assign place op value at) rest e h clean more = more
+    one_array o os x xs (tree.bump place up post at) rest e h clean more = more
+    one_array o os x xs (tree.comma left right at) rest e h clean more = more
 
-    arrays_fit : (os : List CoreObjectTree) (xs : List Shape) (args : Trees) → AreSized xs os → all_fit names xs args ≡ true → ArraysFit dimensions os (arguments_elaborated fs rs args)
-    arrays_fit [] xs args s h = tt
-    arrays_fit (o ∷ os) [] args s h = absurd s
-    arrays_fit (o ∷ os) (x ∷ xs) tree.none s h = tt
-    arrays_fit (o ∷ os) (x ∷ xs) (tree.more arg args) s h = let b = both_true (fits names x arg) (all_fit names xs args) h in one_array o os x arg args s.0 b.0 (arrays_fit os xs args s.1 b.1)
+    arrays_fit : (os : List CoreObjectTree) (xs : List Shape) (args : Trees) → AreSized xs os → all_fit names xs args ≡ true → operand_faults bodies names xs args ≡ [] → ArraysFit dimensions os (arguments_elaborated fs rs args)
+    arrays_fit [] xs args s h clean = tt
+    arrays_fit (o ∷ os) [] args s h clean = absurd s
+    arrays_fit (o ∷ os) (x ∷ xs) tree.none s h clean = tt
+    arrays_fit (o ∷ os) (x ∷ xs) (tree.more arg args) s h clean =
+        let b = both_true (fits names x arg) (all_fit names xs args) h in
+        let a = given_faults_of (x ∷ xs) arg in
+        let rest = operand_faults bodies names xs args in
+        one_array o os x xs arg args s.0 b.0 (left_nil a rest clean) (arrays_fit os xs args s.1 b.1 (right_nil a rest clean))
 
-    call_fits : (q : Option CoreFunctionTree) (xs : List Shape) (args : Trees) → IsSized xs q → all_fit names xs args ≡ true → CallFits dimensions q (arguments_elaborated fs rs args)
-    call_fits None xs args s h = tt
-    call_fits (Some fn) xs args s h = arrays_fit (take fn.params fn.objects) xs args s h
+    call_fits : (q : Option CoreFunctionTree) (xs : List Shape) (args : Trees) → IsSized xs q → all_fit names xs args ≡ true → operand_faults bodies names xs args ≡ [] → CallFits dimensions q (arguments_elaborated fs rs args)
+    call_fits None xs args s h clean = tt
+    call_fits (Some fn) xs args s h clean = arrays_fit (take fn.params fn.objects) xs args s h clean
 
     argument_fits : (q : Option Cell) (x : CoreTree) → Fits x → ArgumentFits functions dimensions (argument_of q x)
     argument_fits (Some cell) x h = tt
     argument_fits None x h = h
 
     -- an argument is the name of an array, or a value
-    operand_fits : (params : List Shape) (t : Tree) → (if is_given params t then name_given_faults names t else expression_faults true bodies names t) ≡ [] → (expression_faults true bodies names t ≡ [] → Fits (elaborated fs rs t)) → Fits (elaborated fs rs t)
+    operand_fits : (params : List Shape) (t : Tree) → given_faults_of params t ≡ [] → (expression_faults true bodies names t ≡ [] → Fits (elaborated fs rs t)) → Fits (elaborated fs rs t)
     operand_fits params (tree.name text at) h value = tt
     operand_fits [] t h value = value h
     operand_fits (x ∷ xs) (tree.number n kind at) h value = value h
@@ -181,7 +192,7 @@ module _ (functions : List CoreFunctionTree) (dimensions : Cell → ℕ) (fs : L
           let b = conflicts_among names [] subscripts in
           let c = conflicts_inside (read_of names array (count subscripts)) (all_accesses names subscripts) in
           let d = operand_faults bodies names [] subscripts in
-          (below array subscripts at (left_nil a (b ++ (c ++ d)) h), each_fits [] subscripts (fourth a b c d h))
+          (as_many array subscripts at (left_nil a (b ++ (c ++ d)) h), each_fits [] subscripts (fourth a b c d h))
       expression_fits u (tree.call callee args at) h =
           let a = if u then void_faults names callee at else [] in
           let b = call_faults bodies names callee args at in
@@ -189,7 +200,10 @@ module _ (functions : List CoreFunctionTree) (dimensions : Cell → ℕ) (fs : L
           let d = operand_faults bodies names (params_of (sense_of callee names)) args in
           let is = called_as (is_in callee bodies) names (sense_of callee names) args at (left_nil b (c ++ d) (right_nil a (b ++ (c ++ d)) h)) in
           let sized = seen.functions_ callee is.1.0 is.1.1 is.1.2 is.0 in
-          (call_fits (slice_get functions (function_number fs callee)) is.1.1 args sized is.1.3, arguments_fit (params_of (sense_of callee names)) args (fourth a b c d h))
+          let clean = fourth a b c d h in (
+            call_fits (slice_get functions (function_number fs callee)) is.1.1 args sized is.1.3 (subst (λ σ. operand_faults bodies names (params_of σ) args ≡ []) is.1.2 clean),
+            arguments_fit (params_of (sense_of callee names)) args clean,
+          )
       expression_fits u (tree.unary op arg at) h = expression_fits true arg h
       expression_fits u (tree.binary op left right at) h =
           let a = operand_conflicts op (accesses names left) (accesses names right) in
@@ -208,8 +222,8 @@ module _ (functions : List CoreFunctionTree) (dimensions : Cell → ℕ) (fs : L
           let a = changed_faults bodies names (tree.target text subscripts place) at (accesses names value) in
           let b = expression_faults true bodies names value in
           let parts = target_parts text subscripts place at (accesses names value) (left_nil a b h) in
-          ((below text subscripts place parts.0, each_fits [] subscripts parts.1), expression_fits true value (right_nil a b h))
-      expression_fits u (tree.bump (tree.target text subscripts place) up post at) h = let parts = target_parts text subscripts place at [] h in (below text subscripts place parts.0, each_fits [] subscripts parts.1)
+          ((as_many text subscripts place parts.0, each_fits [] subscripts parts.1), expression_fits true value (right_nil a b h))
+      expression_fits u (tree.bump (tree.target text subscripts place) up post at) h = let parts = target_parts text subscripts place at [] h in (as_many text subscripts place parts.0, each_fits [] subscripts parts.1)
       expression_fits u (tree.comma left right at) h =
           let l = expression_faults false bodies names left in
           let r = expression_faults true bodies names right in
@@ -218,14 +232,14 @@ module _ (functions : List CoreFunctionTree) (dimensions : Cell → ℕ) (fs : L
       each_fits : (params : List Shape) (ts : Trees) → operand_faults bodies names params ts ≡ [] → EachFits functions dimensions (all_elaborated fs rs ts)
       each_fits params tree.none h = tt
       each_fits params (tree.more first rest) h =
-          let a = if is_given params first then name_given_faults names first else expression_faults true bodies names first in
+          let a = given_faults_of params first in
           let b = operand_faults bodies names (drop 1 params) rest in
           (operand_fits params first (left_nil a b h) (λ e. expression_fits true first e), each_fits (drop 1 params) rest (right_nil a b h))
 
       arguments_fit : (params : List Shape) (ts : Trees) → operand_faults bodies names params ts ≡ [] → ArgumentsFit functions dimensions (arguments_elaborated fs rs ts)
       arguments_fit params tree.none h = tt
       arguments_fit params (tree.more first rest) h =
-          let a = if is_given params first then name_given_faults names first else expression_faults true bodies names first in
+          let a = given_faults_of params first in
           let b = operand_faults bodies names (drop 1 params) rest in
           (argument_fits (array_given rs first) (elaborated fs rs first) (operand_fits params first (left_nil a b h) (λ e. expression_fits true first e)), arguments_fit (drop 1 params) rest (right_nil a b h))
 

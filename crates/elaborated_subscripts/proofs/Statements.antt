@@ -1,4 +1,4 @@
--- Statements without faults have no element with more subscripts than its array has dimensions.
+-- In statements without faults each element has as many subscripts as its array has dimensions.
 use Rattle.std.proofs.Common.{◌≡◌, ℕ, zero, suc, ◌+◌, ◌-◌, ◌*◌, ◌∙◌, sym, refl, ap, subst, true, false, append-nil, List, [], ◌∷◌, ◌++◌, map, length, replicate, slice_get, Option, Some, None, option_map}
 use Rattle.std.proofs.lemmas.List.{map-append}
 use Rattle.hls_base.specs.ArrayAddress.{element_count}

@@ -11,7 +11,7 @@ use Rattle.elaborated_programs.specs.Written.{NumbersFit}
 use Rattle.sound_trees.specs.Subscripts.{PiecesSubscriptsFit}
 use Rattle.fitting_subscripts.specs.Programs.{ProgramSubscriptsFit}
 
--- In the core program of a program without faults no element has more subscripts than its array has dimensions, and arrays that calls are given have the dimensions of the parameters.
+-- In the core program of a program without faults each element has as many subscripts as its array has dimensions, and arrays that calls are given have as many dimensions as the parameters.
 abbrev pub ElaboratedSubscriptsFit : Type 0
 ElaboratedSubscriptsFit = (tokens : List Terminal) (end : Place) (p : ProgramTree) (top : ℕ) (name : List ℕ) → DerivesProgram tokens end p → program_faults p name ≡ [] → ProgramSubscriptsFit (program_elaborated p top)
 

@@ -1,5 +1,5 @@
 -- Actions, declarations and returns make pieces whose subscripts fit.
-use Rattle.std.proofs.Common.{◌≡◌, ◌∙◌, ◌≤◌, inl, inr, ℕ, suc, ◌+◌, Bool, false, refl, ap, sym, subst, arith, List, [], ◌∷◌, length, slice_get, Option, Some, None}
+use Rattle.std.proofs.Common.{◌≡◌, ◌∙◌, inl, inr, ℕ, suc, ◌+◌, Bool, false, refl, ap, sym, subst, List, [], ◌∷◌, length, slice_get, Option, Some, None}
 use Rattle.hls_base.specs.declared.place.Place.{Place}
 use Rattle.hls_base.specs.declared.number.VarId.{VarId}
 use Rattle.hls_base.specs.declared.number.ArrayId.{ArrayId}
@@ -24,10 +24,11 @@ use Rattle.c_expand.specs.Statements.{marked, valued, changed, action, actions, 
 use Rattle.expand_statements.specs.Scopes.{Setting, Reach, IsSoundIn, TestSound, ReturnSound, ActionsSound, ItemsSound, InitSound, objects_in, reach}
 use Rattle.expand_statements.specs.Each.{IfThere, EachItem, InInit, EachAction}
 use Rattle.sound_trees.specs.Subscripts as pure
-use Rattle.sound_trees.specs.Subscripts.{SubscriptsFit, AllSubscriptsFit}
+use Rattle.sound_trees.specs.Subscripts.{HasDimensions, SubscriptsFit, AllSubscriptsFit}
 use Rattle.fitting_subscripts.specs.Programs.{ElementsFit}
-use Rattle.fitting_subscripts.specs.Worlds.{World, Knows, Makes, Value, HasDimensions, IsNoted, Anything}
+use Rattle.fitting_subscripts.specs.Worlds.{World, Knows, Makes, Value, IsNoted, Anything}
 use Rattle.fitting_subscripts.specs.Standing.{OwnFits, Stands, CallsFit, dimensions_at}
+use Rattle.fitting_subscripts.proofs.Fitting.{dimensions_same}
 use Rattle.fitting_subscripts.proofs.Parts.{later_both, array_later, then_makes, gives_makes, known, if_makes, emit_makes, declared_makes, array_makes, note_makes}
 use Rattle.fitting_subscripts.proofs.Changes.{IsChange, change_later, store_makes, new_fits, discarded_makes}
 use Rattle.fitting_subscripts.proofs.Expressions.{expression_makes, target_makes}
@@ -44,9 +45,6 @@ subscripts_count (len ∷ lengths) n = ap suc (subscripts_count lengths n)
 numbers_fit : (arrays : List ArrayTree) (lengths : List ℕ) (n : ℕ) → AllSubscriptsFit arrays (subscripts_at lengths n)
 numbers_fit arrays [] n = tt
 numbers_fit arrays (len ∷ lengths) n = (tt, numbers_fit arrays lengths n)
-
-filled_below : (lengths : List ℕ) (n most : ℕ) → length lengths ≤ most → pure.count (subscripts_at lengths n) ≤ most
-filled_below lengths n most h = let e = subscripts_count lengths n in omega (arith, e, h)
 
 pub marked_makes : (c : Call) (kind : PointKind) (at : Place) (s : State) (w : World s) → Makes Anything s w (marked c kind at s)
 marked_makes c kind at s w = emit_makes (tree.mark (point_in c kind at)) s w tt
@@ -117,7 +115,7 @@ module _ (S : Setting) (c : Call) (g : Callee) (calls : CalleesFit S c g) where
       then_makes (item_makes r item s w h sound.0 t.0)
       (λ x s1 w1 l v.
       (let a1 = array_later l array (length lengths) a in
-      then_makes (emit_makes (tree.put array (subscripts_at lengths n) x c.body_at) s1 w1 (filled_below lengths n _ a1, numbers_fit s1.arrays lengths n, v))
+      then_makes (emit_makes (tree.put array (subscripts_at lengths n) x c.body_at) s1 w1 (dimensions_same s1.arrays array (length lengths) (pure.count (subscripts_at lengths n)) (subscripts_count lengths n) a1, numbers_fit s1.arrays lengths n, v))
       (λ u s2 w2 l2 b. filled_makes r array lengths (n + 1) items s2 w2 (stands_later S c r s w s2 w2 h (later_both l l2)) (array_later l2 array (length lengths) a1) sound.1 t.1)))
 
   initialised_makes : (r : Reach) (array : ArrayId) (o : CoreObjectTree) (init : CoreInitTree) (s : State) (w : World s) → Stands S c r s w → HasDimensions s.arrays array (length o.lengths) → InitSound S r o init → InInit (FitsIn S) Nowhere init

@@ -1,5 +1,5 @@
 -- Forks, assignments and values that are not used make pieces whose subscripts fit.
-use Rattle.std.proofs.Common.{◌≤◌, le_trans, ℕ, Bool, ◌&&◌, List, Option, Some, None, if◌then◌else◌}
+use Rattle.std.proofs.Common.{◌≡◌, ℕ, Bool, ◌&&◌, List, Option, Some, None, if◌then◌else◌}
 use Rattle.hls_base.specs.declared.place.Place.{Place}
 use Rattle.hls_base.specs.declared.point.PointKind.TheVariants as point
 use Rattle.hls_base.specs.declared.number.VarId.{VarId}
@@ -22,7 +22,7 @@ use Rattle.sound_trees.specs.Subscripts as pure
 use Rattle.sound_trees.specs.Subscripts.{SubscriptsFit, AllSubscriptsFit, PiecesSubscriptsFit}
 use Rattle.fitting_subscripts.specs.Worlds.{World, Later, Makes, MakesLater, Value, Inside, Anything}
 use Rattle.fitting_subscripts.specs.Standing.{Names}
-use Rattle.fitting_subscripts.proofs.Fitting.{read_fits}
+use Rattle.fitting_subscripts.proofs.Fitting.{dimensions_same, read_fits}
 use Rattle.fitting_subscripts.proofs.Parts.{later_same, later_both, fits_later, each_later, pieces_later, then_makes, gives_makes, if_makes, emit_makes, fresh_makes, own_makes, inside_makes}
 use Rattle.fitting_subscripts.proofs.Saved.{save_makes}
 
@@ -99,26 +99,27 @@ module _ (dimensions : Cell → ℕ) (o : Objects) (c : Call) (Scene : (s : Stat
 
   pub record IsChange (s : State) (t : Change) : Type 0 where
     pub subscripts : AllSubscriptsFit s.arrays t.subscripts
-    pub below : pure.count t.subscripts ≤ dimensions t.cell
+    pub count : pure.count t.subscripts ≡ dimensions t.cell
     pub target : TargetAs t.cell t.subscripts t.kind
 
   pub change_later : {s s1 : State} {w : World s} {w1 : World s1} {t : Change} → Later s w s1 w1 → IsChange s t → IsChange s1 t
-  change_later {t = t} l h = record { subscripts = each_later l t.subscripts h.subscripts; below = h.below; target = h.target }
+  change_later {t = t} l h = record { subscripts = each_later l t.subscripts h.subscripts; count = h.count; target = h.target }
 
-  read_at_fits : (cell : Cell) (k : CType) (at : Place) (given : PureTrees) (s : State) (w : World s) → Scene s w → AllSubscriptsFit s.arrays given → pure.count given ≤ dimensions cell → TargetAs cell given k → SubscriptsFit s.arrays (read_at c cell k at given s)
-  read_at_fits cell k at tree.none s w scene h below t = read_fits s.arrays (home_of c cell) k
-  read_at_fits cell k at (tree.more first rest) s w scene h below t = (le_trans below (N.arrays s w scene cell k t), h)
+  read_at_fits : (cell : Cell) (k : CType) (at : Place) (given : PureTrees) (s : State) (w : World s) → Scene s w → AllSubscriptsFit s.arrays given → pure.count given ≡ dimensions cell → TargetAs cell given k → SubscriptsFit s.arrays (read_at c cell k at given s)
+  read_at_fits cell k at tree.none s w scene h count t = read_fits s.arrays (home_of c cell) k
+  read_at_fits cell k at (tree.more first rest) s w scene h count t = (dimensions_same s.arrays (array c cell s) (dimensions cell) (pure.count (tree.more first rest)) count (N.arrays s w scene cell k t), h)
 
-  store_at_makes : (cell : Cell) (k : CType) (at : Place) (given : PureTrees) (v : PureTree) (s : State) (w : World s) → Scene s w → AllSubscriptsFit s.arrays given → pure.count given ≤ dimensions cell → TargetAs cell given k → SubscriptsFit s.arrays v
+  store_at_makes : (cell : Cell) (k : CType) (at : Place) (given : PureTrees) (v : PureTree) (s : State) (w : World s) → Scene s w → AllSubscriptsFit s.arrays given → pure.count given ≡ dimensions cell → TargetAs cell given k → SubscriptsFit s.arrays v
       → Makes Anything s w (store_at c cell at given v s)
-  store_at_makes cell k at tree.none v s w scene h below t x = emit_makes (tree.set (variable c cell) v) s w x
-  store_at_makes cell k at (tree.more first rest) v s w scene h below t x = emit_makes (tree.put (array c cell s) (tree.more first rest) v at) s w (le_trans below (N.arrays s w scene cell k t), h, x)
+  store_at_makes cell k at tree.none v s w scene h count t x = emit_makes (tree.set (variable c cell) v) s w x
+  store_at_makes cell k at (tree.more first rest) v s w scene h count t x =
+      emit_makes (tree.put (array c cell s) (tree.more first rest) v at) s w (dimensions_same s.arrays (array c cell s) (dimensions cell) (pure.count (tree.more first rest)) count (N.arrays s w scene cell k t), h, x)
 
   pub store_makes : (t : Change) (v : PureTree) (s : State) (w : World s) → Scene s w → IsChange s t → SubscriptsFit s.arrays v → Makes Anything s w (store c t v s)
-  store_makes t v s w scene h x = store_at_makes t.cell t.kind t.target_at t.subscripts v s w scene h.subscripts h.below h.target x
+  store_makes t v s w scene h x = store_at_makes t.cell t.kind t.target_at t.subscripts v s w scene h.subscripts h.count h.target x
 
   old_value : (t : Change) (s : State) (w : World s) → Scene s w → IsChange s t → SubscriptsFit s.arrays (target_read c t s)
-  old_value t s w scene h = read_at_fits t.cell t.kind t.target_at t.subscripts s w scene h.subscripts h.below h.target
+  old_value t s w scene h = read_at_fits t.cell t.kind t.target_at t.subscripts s w scene h.subscripts h.count h.target
 
   pub new_fits : (t : Change) (by : PureTree) (s : State) (w : World s) → Scene s w → IsChange s t → SubscriptsFit s.arrays by → SubscriptsFit s.arrays (new_value t (target_read c t s) by)
   new_fits t by s w scene h x = computed_fits t.op t.kind t.at s (target_read c t s) by (old_value t s w scene h) x

@@ -1,5 +1,5 @@
 -- Expressions become pieces and values whose subscripts fit.
-use Rattle.std.proofs.Common.{◌≡◌, ◌≤◌, ◌∙◌, ℕ, ◌+◌, sym, subst, arith, le_trans, List, [], ◌∷◌, ◌++◌, length, Option}
+use Rattle.std.proofs.Common.{◌≡◌, ◌∙◌, ℕ, ◌+◌, sym, subst, arith, List, [], ◌∷◌, ◌++◌, length, Option}
 use Rattle.std.proofs.lemmas.List.{append-nil, append_assoc}
 use Rattle.hls_base.specs.declared.place.Place.{Place}
 use Rattle.c_token.specs.declared.ctype.CType.{CType}
@@ -11,18 +11,19 @@ use Rattle.pieces.specs.Trees.{PureTree, row}
 use Rattle.piece_making.specs.declared.effects.Effects.{Effects}
 use Rattle.piece_making.specs.Acting.{either, no_effects, effects, effects_of_all, effects_of_arguments}
 use Rattle.piece_making.specs.Making.{State}
-use Rattle.piece_making.specs.Calls.{Call, home_of}
+use Rattle.piece_making.specs.Calls.{Call, array, home_of}
 use Rattle.piece_making.specs.Assigning.{Change, step}
 use Rattle.c_expand.specs.Expressions as e
 use Rattle.c_expand.specs.Expressions.{Given, Callee, may_be_unused, expression, operands, targeted, argument, arguments}
 use Rattle.expand_runs.specs.Sound.{Objects, IsSound, AreSound, ArgumentSound, ArgumentsSound, IsTarget}
+use Rattle.sound_trees.specs.Subscripts as pure
 use Rattle.sound_trees.specs.Subscripts.{AllSubscriptsFit}
 use Rattle.fitting_subscripts.specs.Programs.{count, ElementsFit, EachFits, ArgumentFits, ArgumentsFit}
 use Rattle.fitting_subscripts.specs.Worlds.{World, Later, Knows, Makes, Value}
 use Rattle.fitting_subscripts.specs.Standing.{Names, IsGivenFor, AreGiven, CallsFit}
-use Rattle.fitting_subscripts.proofs.Fitting.{row_more, read_fits}
+use Rattle.fitting_subscripts.proofs.Fitting.{dimensions_same, row_more, read_fits}
 use Rattle.fitting_subscripts.proofs.Parts.{later_both, fits_later, each_later, array_later, then_makes, gives_makes, known}
-use Rattle.fitting_subscripts.proofs.Saved.{OperandsAt, longer, row_below, save_makes}
+use Rattle.fitting_subscripts.proofs.Saved.{OperandsAt, longer, row_count, save_makes}
 use Rattle.fitting_subscripts.proofs.Changes.{TargetAs, IsChange, change_later, operated_makes, chosen_makes, discarded_makes, assigned_makes, bumped_makes}
 
 module _ (functions : List CoreFunctionTree) (dimensions : Cell → ℕ) (o : Objects) (c : Call) (Scene : (s : State) → World s → Type 0) (N : Names dimensions o c Scene) (g : Callee) (calls : CallsFit functions dimensions o c Scene g) where
@@ -52,10 +53,10 @@ module _ (functions : List CoreFunctionTree) (dimensions : Cell → ℕ) (o : Ob
   given_later l (core.given v) (e.array_given a) h = absurd h
   given_later l (core.array cell) (e.value_given x) h = absurd h
 
-  target_from : (cell : Cell) (subscripts : CoreTrees) (k : CType) (place : Place) (later : Effects) (op : Option Binary) (at : Place) (s : State) (w : World s) → IsTarget o cell subscripts k → count subscripts ≤ dimensions cell
+  target_from : (cell : Cell) (subscripts : CoreTrees) (k : CType) (place : Place) (later : Effects) (op : Option Binary) (at : Place) (s : State) (w : World s) → IsTarget o cell subscripts k → count subscripts ≡ dimensions cell
       → Makes (OperandsAt (0 + count subscripts)) s w (operands g c subscripts later [] s) → Makes Target s w (targeted g c (core.target cell subscripts k place) later op at s)
-  target_from cell subscripts k place later op at s w target below h =
-      then_makes h (λ given s1 w1 l v. gives_makes (record { subscripts = v.fit; below = row_below (count subscripts) (dimensions cell) given below v.count; target = target_as cell subscripts k given target v.count }))
+  target_from cell subscripts k place later op at s w target same h =
+      then_makes h (λ given s1 w1 l v. gives_makes (record { subscripts = v.fit; count = row_count (count subscripts) (dimensions cell) given same v.count; target = target_as cell subscripts k given target v.count }))
 
   mutual
     pub expression_makes : (x : CoreTree) (s : State) (w : World s) → Scene s w → IsSound o x → Fits x → Makes Value s w (expression g c x s)
@@ -63,7 +64,7 @@ module _ (functions : List CoreFunctionTree) (dimensions : Cell → ℕ) (o : Ob
     expression_makes (core.scalar cell k at) s w scene h t = gives_makes (read_fits s.arrays (home_of c cell) k)
     expression_makes (core.element name subscripts k at) s w scene h t =
         then_makes (operands_make subscripts no_effects [] s w scene h.1 t.1 tt)
-        (λ given s1 w1 l v. gives_makes (le_trans (row_below (count subscripts) (dimensions name) given t.0 v.count) (N.arrays s1 w1 (N.stays s w s1 w1 scene l) name k h.0), v.fit))
+        (λ given s1 w1 l v. gives_makes (dimensions_same s1.arrays (array c name s1) (dimensions name) (pure.count (row given)) (row_count (count subscripts) (dimensions name) given t.0 v.count) (N.arrays s1 w1 (N.stays s w s1 w1 scene l) name k h.0), v.fit))
     expression_makes (core.call callee args k at) s w scene h t =
         then_makes
         (then_makes (arguments_make args [] s w scene h.1 t.1)
@@ -110,6 +111,6 @@ module _ (functions : List CoreFunctionTree) (dimensions : Cell → ℕ) (o : Ob
         (λ a s1 w1 l v. known (arguments_make rest (before ++ a ∷ []) s1 w1 (N.stays s w s1 w1 scene l) h.1 t.1)
         (λ s2 w2 l2 q. (a ∷ q.0, q.1 ∙ append_assoc before (a ∷ []) q.0, (given_later l2 first a v, q.2))))
 
-  pub target_makes : (cell : Cell) (subscripts : CoreTrees) (k : CType) (place : Place) (later : Effects) (op : Option Binary) (at : Place) (s : State) (w : World s) → Scene s w → IsTarget o cell subscripts k → AreSound o subscripts → count subscripts ≤ dimensions cell → EachFit subscripts
+  pub target_makes : (cell : Cell) (subscripts : CoreTrees) (k : CType) (place : Place) (later : Effects) (op : Option Binary) (at : Place) (s : State) (w : World s) → Scene s w → IsTarget o cell subscripts k → AreSound o subscripts → count subscripts ≡ dimensions cell → EachFit subscripts
       → Makes Target s w (targeted g c (core.target cell subscripts k place) later op at s)
-  target_makes cell subscripts k place later op at s w scene target h below t = target_from cell subscripts k place later op at s w target below (operands_make subscripts later [] s w scene h t tt)
+  target_makes cell subscripts k place later op at s w scene target h same t = target_from cell subscripts k place later op at s w target same (operands_make subscripts later [] s w scene h t tt)

@@ -1,5 +1,5 @@
 -- Subscripts that fit, and still do when there are more arrays.
-use Rattle.std.proofs.Common.{◌≡◌, ◌≤◌, ℕ, suc, refl, ap, subst, sym, arith, List, [], ◌∷◌, ◌++◌, length, slice_get, Option, Some, None}
+use Rattle.std.proofs.Common.{◌≡◌, ◌∙◌, ℕ, suc, refl, ap, List, [], ◌∷◌, ◌++◌, length, Option, Some, None}
 use Rattle.c_token.specs.declared.ctype.CType.{CType}
 use Rattle.hls_base.specs.declared.number.ArrayId.{ArrayId}
 use Rattle.pieces.specs.Trees as tree
@@ -8,17 +8,19 @@ use Rattle.pieces.specs.Program.{ArrayTree}
 use Rattle.piece_making.specs.declared.frame.Home.{Home}
 use Rattle.piece_making.specs.declared.frame.Home.TheVariants as home
 use Rattle.piece_making.specs.Calls.{read_of}
-use Rattle.piece_meaning.specs.Values.{lengths_in}
 use Rattle.expand_runs.specs.Growing.{Begins}
 use Rattle.sound_trees.specs.Subscripts as pure
-use Rattle.sound_trees.specs.Subscripts.{SubscriptsFit, AllSubscriptsFit, PieceSubscriptsFit, PiecesSubscriptsFit}
-use Rattle.fitting_subscripts.specs.Worlds.{HasDimensions}
+use Rattle.sound_trees.specs.Subscripts.{HasDimensions, SubscriptsFit, AllSubscriptsFit, PieceSubscriptsFit, PiecesSubscriptsFit}
 
 pub count_row : (xs : List PureTree) → pure.count (row xs) ≡ length xs
 count_row [] = refl
 count_row (x ∷ xs) = ap suc (count_row xs)
 
 module _ (arrays : List ArrayTree) where
+  -- as many dimensions, counted in another way
+  pub dimensions_same : (array : ArrayId) (n m : ℕ) → m ≡ n → HasDimensions arrays array n → HasDimensions arrays array m
+  dimensions_same array n m e h = (h.0, h.1, e ∙ h.2)
+
   pub row_more : (xs : List PureTree) (x : PureTree) → AllSubscriptsFit arrays (row xs) → SubscriptsFit arrays x → AllSubscriptsFit arrays (row (xs ++ x ∷ []))
   row_more [] x h g = (g, tt)
   row_more (y ∷ xs) x h g = (h.0, row_more xs x h.1 g)
@@ -38,12 +40,8 @@ module _ (arrays : List ArrayTree) where
 -- ---- more arrays
 
 module _ (some more : List ArrayTree) (begins : Begins some more) where
-  kept_lengths : (n : ℕ) (i : ℕ) (a : Option ArrayTree) → slice_get some i ≡ a → n ≤ length (lengths_in a) → n ≤ length (lengths_in (slice_get more i))
-  kept_lengths n i None e h = let zero_le : n ≤ 0 = h in omega (arith, zero_le)
-  kept_lengths n i (Some a) e h = subst (λ m. n ≤ length (lengths_in m)) (sym (begins i a e)) h
-
   pub dimensions_more : (n : ℕ) (array : ArrayId) → HasDimensions some array n → HasDimensions more array n
-  dimensions_more n array h = kept_lengths n array.0 (slice_get some array.0) refl h
+  dimensions_more n array h = (h.0, begins array.0 h.0 h.1, h.2)
 
   mutual
     pub fits_more : (x : PureTree) → SubscriptsFit some x → SubscriptsFit more x

@@ -1,5 +1,5 @@
 -- What stands for the objects of a call and of file scope has their dimensions.
-use Rattle.std.proofs.Common.{◌≡◌, ◌∙◌, ◌≤◌, ℕ, zero, suc, ◌+◌, ◌==◌, Bool, true, false, not, refl, ap, sym, subst, arith, le_trans, List, [], ◌∷◌, ◌++◌, length, take, drop, slice_get, Some, None, if◌then◌else◌}
+use Rattle.std.proofs.Common.{◌≡◌, ◌∙◌, ◌≤◌, ℕ, zero, suc, ◌+◌, ◌==◌, Bool, true, false, not, refl, ap, sym, subst, arith, List, [], ◌∷◌, ◌++◌, length, take, drop, slice_get, Some, None, if◌then◌else◌}
 use Rattle.std.proofs.lemmas.Bool.{true≢false, ne_eqb}
 use Rattle.std.proofs.lemmas.List.{append-nil, append_assoc, take-append-drop, length-take-le}
 use Rattle.std.proofs.lemmas.Option.{none-some, same_Some}
@@ -15,10 +15,11 @@ use Rattle.c_expand.specs.Expressions as e
 use Rattle.c_expand.specs.Expressions.{Given}
 use Rattle.c_expand.specs.Expansion.{parameter, parameters, locals, homes_for, is_array, is_kept, kept_scalar, kept_scalars, first_kept, file_home, kept_behind, file_homes, top_parameters}
 use Rattle.expand_statements.specs.Scopes.{Setting, Reach, IsScalar, TakesAll, objects_in}
-use Rattle.sound_trees.specs.Subscripts.{SubscriptsFit}
+use Rattle.sound_trees.specs.Subscripts.{HasDimensions, SubscriptsFit}
 use Rattle.fitting_subscripts.specs.Programs.{ArraysFit}
-use Rattle.fitting_subscripts.specs.Worlds.{World, Later, Knows, Makes, HasDimensions, Whatever}
+use Rattle.fitting_subscripts.specs.Worlds.{World, Later, Knows, Makes, Whatever}
 use Rattle.fitting_subscripts.specs.Standing.{AreGiven, FileFits, OwnFits, dimensions_at}
+use Rattle.fitting_subscripts.proofs.Fitting.{dimensions_same}
 use Rattle.fitting_subscripts.proofs.Parts.{later_both, fits_later, array_later, then_makes, gives_makes, known, if_makes, emit_makes, declared_makes, fresh_makes, array_makes, slot_makes}
 use Rattle.fitting_subscripts.proofs.Names.{file_later, own_later}
 
@@ -106,7 +107,7 @@ module _ (S : Setting) (r : Reach) (s : State) where
   given_to (o ∷ os) (core.more_arguments (core.given v) rest) (e.array_given a ∷ given) t fit h = absurd h.0
   given_to (o ∷ os) (core.more_arguments (core.array cell) rest) [] t fit h = absurd h
   given_to (o ∷ os) (core.more_arguments (core.array cell) rest) (e.value_given x ∷ given) t fit h = absurd h.0
-  given_to (o ∷ os) (core.more_arguments (core.array cell) rest) (e.array_given a ∷ given) t fit h = (le_trans fit.0 (h.0 o.kind t.1), given_to os rest given t.2 fit.1 h.1)
+  given_to (o ∷ os) (core.more_arguments (core.array cell) rest) (e.array_given a ∷ given) t fit h = (dimensions_same s.arrays a (dimensions_at S cell) (length o.lengths) fit.0 (h.0 o.kind t.1), given_to os rest given t.2 fit.1 h.1)
 
 -- what stands for the object with this number
 abbrev OwnHome : (params n : ℕ) → CoreObjectTree → Knows Home

@@ -10,8 +10,9 @@ use Rattle.piece_making.specs.declared.work.Slot.{Slot}
 use Rattle.piece_making.specs.Making.{State, noted}
 use Rattle.piece_making.specs.Calls.{Call, homes_in, array_in}
 use Rattle.expand_statements.specs.Scopes.{Setting, Reach, IsArray, ArrayIn, objects_in}
+use Rattle.sound_trees.specs.Subscripts.{HasDimensions}
 use Rattle.fitting_subscripts.specs.Programs.{file_dimensions, own_dimensions, dimensions_in}
-use Rattle.fitting_subscripts.specs.Worlds.{World, Later, HasDimensions, IsNoted}
+use Rattle.fitting_subscripts.specs.Worlds.{World, Later, IsNoted}
 use Rattle.fitting_subscripts.specs.Standing.{Names, FileFits, OwnFits, Stands, dimensions_at}
 use Rattle.fitting_subscripts.proofs.Parts.{array_later}
 

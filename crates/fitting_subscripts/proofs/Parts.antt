@@ -1,5 +1,5 @@
 -- Parts that make pieces whose subscripts fit, one behind another.
-use Rattle.std.proofs.Common.{◌≡◌, ◌∙◌, ◌⊎◌, inl, inr, ℕ, ◌+◌, ◌<◌, ◌≤◌, le_refl, Bool, true, false, ap, sym, subst, List, [], ◌∷◌, ◌++◌, length, slice_get, slice_set, Option, Some, None, if◌then◌else◌}
+use Rattle.std.proofs.Common.{◌≡◌, ◌∙◌, ◌⊎◌, inl, inr, ℕ, ◌+◌, ◌<◌, refl, Bool, true, false, ap, sym, subst, List, [], ◌∷◌, ◌++◌, length, slice_get, slice_set, Option, Some, None, if◌then◌else◌}
 use Rattle.std.proofs.lemmas.Bool.{cases_eq}
 use Rattle.std.proofs.lemmas.List.{length-append}
 use Rattle.std.proofs.lemmas.Option.{none-some, same_Some, slice_get_within}
@@ -13,9 +13,8 @@ use Rattle.piece_making.specs.Making.{State, Part, gives, then_, emit, inside, i
 use Rattle.expand_runs.specs.Growing.{Begins}
 use Rattle.expand_runs.proofs.Growing.{begins_more, last_one, slots_here, slots_there, slots_length}
 use Rattle.expand_calls.proofs.Lists.{get_last, get_before}
-use Rattle.piece_meaning.specs.Values.{lengths_in}
-use Rattle.sound_trees.specs.Subscripts.{SubscriptsFit, AllSubscriptsFit, PieceSubscriptsFit, PiecesSubscriptsFit}
-use Rattle.fitting_subscripts.specs.Worlds.{World, Later, Knows, Makes, MakesLater, Anything, Whatever, Value, Inside, HasDimensions, IsNoted}
+use Rattle.sound_trees.specs.Subscripts.{HasDimensions, SubscriptsFit, AllSubscriptsFit, PieceSubscriptsFit, PiecesSubscriptsFit}
+use Rattle.fitting_subscripts.specs.Worlds.{World, Later, Knows, Makes, MakesLater, Anything, Whatever, Value, Inside, IsNoted}
 use Rattle.fitting_subscripts.proofs.Fitting.{dimensions_more, fits_more, each_more, pieces_more, pieces_append}
 
 -- ---- later worlds
@@ -109,7 +108,7 @@ array_makes a s w =
       next = record { dimensions = w.dimensions; count = w.count; noted = λ i n array e q. dimensions_more s.arrays (s.arrays ++ a ∷ []) b n array (w.noted i n array e q) };
       later = record { arrays = b; dimensions = λ i x e. e; noted = λ i n. n };
       pieces = tt;
-      value = subst (λ m. length a.lengths ≤ length (lengths_in m)) (sym (last_one s.arrays a)) (le_refl (length a.lengths));
+      value = (a, last_one s.arrays a, refl);
     }
 
 -- a place for an array of so many dimensions

@@ -1,5 +1,5 @@
 -- Saved values have subscripts that fit.
-use Rattle.std.proofs.Common.{◌≡◌, ℕ, suc, ◌+◌, Bool, true, false, ◌&&◌, arith, List, [], ◌∷◌, ◌++◌, length, ◌≤◌}
+use Rattle.std.proofs.Common.{◌≡◌, refl, ℕ, suc, ◌+◌, Bool, true, false, ◌&&◌, arith, List, [], ◌∷◌, ◌++◌, length}
 use Rattle.std.proofs.lemmas.List.{length-append}
 use Rattle.std.specs.Prelude.{nat_lt}
 use Rattle.pieces.specs.Trees as tree
@@ -12,7 +12,7 @@ use Rattle.piece_making.specs.Saving.{saved, all_saved, saved_if, may_skip_eleme
 use Rattle.sound_trees.specs.Subscripts as pure
 use Rattle.sound_trees.specs.Subscripts.{SubscriptsFit, AllSubscriptsFit}
 use Rattle.fitting_subscripts.specs.Worlds.{World, Knows, Makes, Value}
-use Rattle.fitting_subscripts.proofs.Fitting.{count_row, row_more}
+use Rattle.fitting_subscripts.proofs.Fitting.{count_row, dimensions_same, row_more}
 use Rattle.fitting_subscripts.proofs.Parts.{then_makes, gives_makes, known, if_makes, own_makes, fits_later, each_later, array_later}
 
 -- so many expressions whose subscripts fit
@@ -26,9 +26,8 @@ OperandsAt n s w xs = Operands n s xs
 pub longer : (before : List PureTree) (y : PureTree) (n m : ℕ) → length (before ++ y ∷ []) + n ≡ m → length before + suc n ≡ m
 longer before y n m le = let e = length-append before (y ∷ []) in omega (arith, e, le)
 
--- no more subscripts than dimensions
-pub row_below : (n most : ℕ) (xs : List PureTree) → n ≤ most → 0 + n ≡ length xs → pure.count (row xs) ≤ most
-row_below n most xs h e = let q = count_row xs in omega (arith, h, e, q)
+pub row_count : (n m : ℕ) (xs : List PureTree) → n ≡ m → 0 + n ≡ length xs → pure.count (row xs) ≡ m
+row_count n m xs h e = let q = count_row xs in omega (arith, h, e, q)
 
 saved_if_makes : (whole : Bool) (x : PureTree) (parts : State → Part PureTree) (s : State) (w : World s) → SubscriptsFit s.arrays x → Makes Value s w (parts s) → Makes Value s w (saved_if whole x parts s)
 saved_if_makes true x parts s w h p = own_makes (kind x) x s w h
@@ -40,7 +39,7 @@ mutual
   saved_makes n calls (tree.variable name k) s w h = saved_if_makes (calls && nat_lt name.0 n) (tree.variable name k) (λ s1. gives (tree.variable name k) s1) s w tt (gives_makes tt)
   saved_makes n calls (tree.element array given k at) s w h =
       then_makes (all_makes n calls given [] s w h.1 tt)
-      (λ xs s1 w1 l v. own_makes k (tree.element array (row xs) k at) s1 w1 (row_below (pure.count given) _ xs (array_later l array (pure.count given) h.0) v.count, v.fit))
+      (λ xs s1 w1 l v. own_makes k (tree.element array (row xs) k at) s1 w1 (dimensions_same s1.arrays array (pure.count given) (pure.count (row xs)) (row_count (pure.count given) (pure.count given) xs refl v.count) (array_later l array (pure.count given) h.0), v.fit))
   saved_makes n calls (tree.unary op arg k at) s w h = then_makes (saved_makes n calls arg s w h) (λ x s1 w1 l v. gives_makes v)
   saved_makes n calls (tree.binary op left right k at) s w h =
       saved_if_makes (may_skip_element (tree.binary op left right k at)) (tree.binary op left right k at)

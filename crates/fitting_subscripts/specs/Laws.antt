@@ -5,6 +5,6 @@ use Rattle.expand_calls.specs.Programs.{IsProgramSound}
 use Rattle.sound_trees.specs.Subscripts.{PiecesSubscriptsFit}
 use Rattle.fitting_subscripts.specs.Programs.{ProgramSubscriptsFit}
 
--- No element of an expanded program has more subscripts than its array has dimensions, where none of its core program has more, and where the arrays that calls are given have all dimensions of the parameters.
+-- Each element of an expanded program has as many subscripts as its array has dimensions, where each of its core program has, and where the arrays that calls are given have as many dimensions as the parameters.
 abbrev pub ExpandedSubscriptsFit : Type 0
 ExpandedSubscriptsFit = (p : CoreProgramTree) → IsProgramSound p → ProgramSubscriptsFit p → PiecesSubscriptsFit (expansion p).arrays (expansion p).pieces

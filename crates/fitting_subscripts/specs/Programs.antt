@@ -1,5 +1,5 @@
--- Core programs in which no element has more subscripts than its array has dimensions.
-use Rattle.std.specs.Prelude.{◌≡◌, ℕ, suc, ◌≤◌, List, ◌∷◌, length, take, slice_get, Option, Some, None}
+-- Core programs in which each element has as many subscripts as its array has dimensions.
+use Rattle.std.specs.Prelude.{◌≡◌, ℕ, suc, List, ◌∷◌, length, take, slice_get, Option, Some, None}
 use Rattle.core_program.specs.declared.expression.Cell.{Cell}
 use Rattle.core_program.specs.declared.expression.Scope.{Scope}
 use Rattle.core_program.specs.declared.expression.Scope.TheVariants as scope
@@ -27,9 +27,9 @@ abbrev pub count : CoreTrees → ℕ
 count core.none = 0
 count (core.more first rest) = suc (count rest)
 
--- An array that is given for a parameter has at least the parameter's dimensions.
+-- An array that is given for a parameter has as many dimensions as the parameter.
 abbrev pub ArraysFit : (Cell → ℕ) → List CoreObjectTree → ArgumentTrees → Type 0
-ArraysFit dimensions (o ∷ os) (core.more_arguments (core.array cell) rest) = (length o.lengths ≤ dimensions cell) × ArraysFit dimensions os rest
+ArraysFit dimensions (o ∷ os) (core.more_arguments (core.array cell) rest) = (length o.lengths ≡ dimensions cell) × ArraysFit dimensions os rest
 ArraysFit dimensions (o ∷ os) (core.more_arguments (core.given v) rest) = ArraysFit dimensions os rest
 ArraysFit dimensions _ _ = Unit {0}
 
@@ -42,7 +42,7 @@ module _ (functions : List CoreFunctionTree) (dimensions : Cell → ℕ) where
     pub ElementsFit : CoreTree → Type 0
     ElementsFit (core.number value k) = Unit {0}
     ElementsFit (core.scalar cell k at) = Unit {0}
-    ElementsFit (core.element array subscripts k at) = (count subscripts ≤ dimensions array) × EachFits subscripts
+    ElementsFit (core.element array subscripts k at) = (count subscripts ≡ dimensions array) × EachFits subscripts
     ElementsFit (core.call callee args k at) = CallFits dimensions (slice_get functions callee) args × ArgumentsFit args
     ElementsFit (core.unary op arg k at) = ElementsFit arg
     ElementsFit (core.binary op left right k at) = ElementsFit left × ElementsFit right
@@ -53,7 +53,7 @@ module _ (functions : List CoreFunctionTree) (dimensions : Cell → ℕ) where
     ElementsFit (core.comma left right) = ElementsFit left × ElementsFit right
 
     pub TargetFits : CoreTargetTree → Type 0
-    TargetFits (core.target cell subscripts k at) = (count subscripts ≤ dimensions cell) × EachFits subscripts
+    TargetFits (core.target cell subscripts k at) = (count subscripts ≡ dimensions cell) × EachFits subscripts
 
     pub EachFits : CoreTrees → Type 0
     EachFits core.none = Unit {0}
@@ -67,6 +67,6 @@ module _ (functions : List CoreFunctionTree) (dimensions : Cell → ℕ) where
     ArgumentsFit core.no_argument = Unit {0}
     ArgumentsFit (core.more_arguments first rest) = ArgumentFits first × ArgumentsFit rest
 
--- Each element, assigned element and bumped element has at most as many subscripts as its array has dimensions.
+-- Each element, assigned element and bumped element has as many subscripts as its array has dimensions; a scalar has none.
 abbrev pub ProgramSubscriptsFit : CoreProgramTree → Type 0
 ProgramSubscriptsFit p = (i : ℕ) (fn : CoreFunctionTree) → slice_get p.functions i ≡ Some fn → InStmts (ElementsFit p.functions (dimensions_of p.file fn.objects)) (λ i. Unit {0}) fn.body

@@ -15,9 +15,9 @@ use Rattle.c_expand.specs.Expressions as e
 use Rattle.c_expand.specs.Expressions.{Given, Callee, value_or_zero}
 use Rattle.expand_runs.specs.Sound.{Objects}
 use Rattle.expand_statements.specs.Scopes.{Setting, Reach, IsScalar}
-use Rattle.sound_trees.specs.Subscripts.{SubscriptsFit}
+use Rattle.sound_trees.specs.Subscripts.{HasDimensions, SubscriptsFit}
 use Rattle.fitting_subscripts.specs.Programs.{CallFits, dimensions_of}
-use Rattle.fitting_subscripts.specs.Worlds.{World, Later, Knows, Makes, HasDimensions, IsNoted}
+use Rattle.fitting_subscripts.specs.Worlds.{World, Later, Knows, Makes, IsNoted}
 
 -- ---- names and calls
 

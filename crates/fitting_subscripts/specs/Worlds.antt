@@ -1,16 +1,10 @@
--- The arrays that are made while a program is expanded, and parts in whose pieces no element has more subscripts than its array has dimensions.
-use Rattle.std.specs.Prelude.{◌≡◌, ℕ, ◌≤◌, List, length, slice_get, Some}
+-- The arrays that are made while a program is expanded, and parts in whose pieces each element has as many subscripts as its array has dimensions.
+use Rattle.std.specs.Prelude.{◌≡◌, ℕ, List, length, slice_get, Some}
 use Rattle.hls_base.specs.declared.number.ArrayId.{ArrayId}
 use Rattle.pieces.specs.Trees.{PureTree, piece_row}
-use Rattle.pieces.specs.Program.{ArrayTree}
 use Rattle.piece_making.specs.Making.{State, Part, Inner}
-use Rattle.piece_meaning.specs.Values.{lengths_in}
 use Rattle.expand_runs.specs.Growing.{Begins}
-use Rattle.sound_trees.specs.Subscripts.{SubscriptsFit, PiecesSubscriptsFit}
-
--- the array has at least so many dimensions
-abbrev pub HasDimensions : List ArrayTree → ArrayId → ℕ → Type 0
-HasDimensions arrays array n = n ≤ length (lengths_in (slice_get arrays array.0))
+use Rattle.sound_trees.specs.Subscripts.{HasDimensions, SubscriptsFit, PiecesSubscriptsFit}
 
 -- the declaration was reached: its array is made and noted
 abbrev pub IsNoted : State → ℕ → Type 0

@@ -1,7 +1,7 @@
 //! Laws of laid out programs whose times are looked for.
 ghost use Rattle.sound_programs.specs.Laws.{LaidOutProgramsAreSound, ScheduledProgramsKeepRuns};
 
-/// The program that fine pieces are lowered, numbered, converted and laid out to is sound, where no element has more subscripts than its array has dimensions.
+/// The program that fine pieces are lowered, numbered, converted and laid out to is sound, where each element has as many subscripts as its array has dimensions.
 pub fn laid_out_programs_are_sound()
     ensures { LaidOutProgramsAreSound }
 {}

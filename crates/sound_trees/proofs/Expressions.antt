@@ -31,7 +31,7 @@ use Rattle.lowered_conversions.proofs.Adding.{Grows, grows_on, has_on, outs_on, 
 use Rattle.lowered_conversions.proofs.Expressions.{EvalFine, NextFine, emitted_fine, emitted_all_fine}
 use Rattle.clock_runs.specs.Premises.{IsSoundAccess}
 use Rattle.sound_trees.specs.Ready.{IsNear, AreNear, IsNearIf, OutsAreNear, HasFew, IsChecked, OpIsReady}
-use Rattle.sound_trees.specs.Subscripts.{count, SubscriptsFit, AllSubscriptsFit}
+use Rattle.sound_trees.specs.Subscripts.{count, HasDimensions, SubscriptsFit, AllSubscriptsFit}
 use Rattle.sound_trees.specs.Laws.{shapes_in}
 use Rattle.sound_trees.proofs.Adding.{width_positive, Ready, Gives, added_gives, GivenIsNear, valued_gives, tested_gives, assigned_gives, balanced_gives, GuardsAreNear, outside_near, guarded_ready}
 
@@ -273,13 +273,15 @@ module _ (scope : Scope) (stores : Bool) where
   abbrev At : List OpTree → List Guard → Type 0
   At ops gs = OpsAreTyped (widths_of scope) (words_of scope) [] ops × GuardsTyped (widths_of scope) (words_of scope) ops gs
 
-  pub access_sound : (op : OpTree) (array : ArrayId) (n m : ℕ) → op.array ≡ Some array → n ≡ m → m ≤ length (lengths_in (slice_get scope.arrays array.0)) → (flagged_ : _) → IsSoundAccess (shapes_in scope) (record op { flag = Some flagged_ }) n
-  access_sound op array n m e q l at = record {
+  pub access_sound : (op : OpTree) (array : ArrayId) (n m : ℕ) → op.array ≡ Some array → n ≡ m → HasDimensions scope.arrays array m → (flagged_ : _) → IsSoundAccess (shapes_in scope) (record op { flag = Some flagged_ }) n
+  access_sound op array n m e q has at = record {
     flagged = refl;
     subscripted = λ a p.
         let s : array ≡ a = some_same (sym e ∙ p) in
         let d : length (dims_of (shapes_in scope) a) ≡ length (lengths_in (slice_get scope.arrays array.0)) = ap length (lengths_same scope.arrays a.0) ∙ sym (ap (λ (z : ArrayId). length (lengths_in (slice_get scope.arrays z.0))) s) in
-        omega (arith, q, l, d);
+        let f : length (lengths_in (slice_get scope.arrays array.0)) ≡ length has.0.lengths = ap (λ x. length (lengths_in x)) has.1 in
+        let l = has.2 in
+        omega (arith, q, l, d, f);
   } where
     some_same : {A : Type 0} {x y : A} → Some x ≡ Some y → x ≡ y
     some_same h = cc

@@ -12,6 +12,8 @@ use Rattle.c_checked.specs.Programs.{top_name, program_faults}
 use Rattle.c_elaborate.specs.Programs.{program_elaborated}
 use Rattle.c_expand.specs.Expansion.{expansion}
 use Rattle.piece_meaning.specs.Runs.{frame_of}
+use Rattle.typed_pieces.specs.Typed.{PiecesTyped}
+use Rattle.typed_pieces.specs.Worlds.{ArraysHaveLengths}
 use Rattle.typed_pieces.specs.Sources.{TokensHaveTypes}
 use Rattle.begun_pieces.specs.Points.{begins_at}
 use Rattle.flat_runs.specs.Laws.{IsFine}
@@ -25,3 +27,13 @@ abbrev pub SourcesHaveFinePieces : Type 0
 SourcesHaveFinePieces = (source : List ℕ) (tokens replaced : List Token) (end : Place) (p : ProgramTree) (top : ℕ) (name : List ℕ) → Spells source tokens → Becomes tokens replaced
     → DerivesProgram (terminals replaced) end p → top_name p top ≡ Some name → program_faults p name ≡ []
     → (start : Point) × IsFine (frame_of (expansion (program_elaborated p top))) (begins_at (expansion (program_elaborated p top)).pieces) (expansion (program_elaborated p top)).pieces start
+
+-- Their expressions have the types of what they name, and their labels are words of the types of their switches.
+abbrev pub SourcesHaveTypedPieces : Type 0
+SourcesHaveTypedPieces = (source : List ℕ) (tokens replaced : List Token) (end : Place) (p : ProgramTree) (top : ℕ) (name : List ℕ) → Spells source tokens → Becomes tokens replaced
+    → DerivesProgram (terminals replaced) end p → top_name p top ≡ Some name → program_faults p name ≡ [] → PiecesTyped (frame_of (expansion (program_elaborated p top))) (expansion (program_elaborated p top)).pieces
+
+-- Each array of their programs has a length at least.
+abbrev pub SourcesArraysHaveLengths : Type 0
+SourcesArraysHaveLengths = (source : List ℕ) (tokens replaced : List Token) (end : Place) (p : ProgramTree) (top : ℕ) (name : List ℕ) → Spells source tokens → Becomes tokens replaced
+    → DerivesProgram (terminals replaced) end p → top_name p top ≡ Some name → program_faults p name ≡ [] → ArraysHaveLengths (expansion (program_elaborated p top)).arrays

@@ -24,7 +24,7 @@ use Rattle.piece_making.specs.Calls.{Call, point_in}
 use Rattle.piece_making.specs.Assigning.{Change, step, one, apply, new_value, target_read}
 use Rattle.c_expand.specs.Expressions.{Callee, expression}
 use Rattle.c_expand.specs.Statements.{marked, valued, changed, action, actions, item_value, filled, initialised, scalar_declared, declared_as, declare, tested, stepped, result_variable, result_set, returned, is_call, subscripts_at, at_least_one}
-use Rattle.expand_statements.specs.Scopes.{Setting, Reach, IsSoundIn, TestSound, ReturnSound, ActionsSound, ItemsSound, InitSound, objects_in, reach}
+use Rattle.expand_statements.specs.Scopes.{Setting, Reach, IsArray, IsSoundIn, TestSound, ReturnSound, ActionsSound, ItemsSound, InitSound, objects_in, reach}
 use Rattle.expand_statements.specs.Each.{IfThere, EachItem, InInit, EachAction}
 use Rattle.lower_control.specs.Holding.{IsThere}
 use Rattle.typed_pieces.specs.Typed.{IsTyped, AreTyped}
@@ -152,7 +152,7 @@ module _ (S : Setting) (c : Call) (g : Callee) (calls : CalleesTyped S c g) wher
         not_slot : (v : VarId) (slot : Slot) → Some (home.Variable v) ≡ Some (home.Local slot) → ⊥
         not_slot v slot e = absurd cc
   declared_makes_at r object o (home.Local slot) init s w stands at f sound t =
-      then_makes (local_makes o s w)
+      then_makes (local_makes o f.0 s w)
       (λ array s1 w1 l a. then_makes (note_makes slot array o.kind s1 w1 (l.kinds slot.0 o.kind f.2) a)
       (λ u s2 w2 l2 n.
       (let now = reached r object s2 w2 (stands_later S c r s w s2 w2 stands (later_both l l2)) (λ other e. subst (λ (z : Slot). IsNoted s2 z.0) (same_slot slot other (sym at ∙ e)) n) in
@@ -160,8 +160,8 @@ module _ (S : Setting) (c : Call) (g : Callee) (calls : CalleesTyped S c g) wher
         same_slot : (a b : Slot) → Some (home.Local a) ≡ Some (home.Local b) → a ≡ b
         same_slot a b e = ap (λ x. slot_in x a) e
 
-        local_makes : (p : CoreObjectTree) (t : State) (v : World t) → Makes (λ s1 w1 array. HasArray (frame_at s1) array p.kind) t v (local_array p t)
-        local_makes p t v = then_makes (declared_makes _ t v) (λ u s1 w1 l a. array_makes (array_like p None None false) s1 w1)
+        local_makes : (p : CoreObjectTree) → IsArray p → (t : State) (v : World t) → Makes (λ s1 w1 array. HasArray (frame_at s1) array p.kind) t v (local_array p t)
+        local_makes p some t v = then_makes (declared_makes _ t v) (λ u s1 w1 l a. array_makes (array_like p None None false) s1 w1 some)
   declared_makes_at r object o (home.Array a) init s w stands at f sound t = gives_makes (reached r object s w stands (λ slot e. absurd (not_slot a slot (sym at ∙ e)))) where
     not_slot : (v : ArrayId) (slot : Slot) → Some (home.Array v) ≡ Some (home.Local slot) → ⊥
     not_slot v slot e = absurd cc

@@ -28,7 +28,7 @@ use Rattle.typed_pieces.proofs.Parts.{IsResult, later_both, then_makes, gives_ma
 use Rattle.typed_pieces.proofs.Names.{file_later, own_later}
 use Rattle.typed_pieces.proofs.Changes.{int_typed}
 use Rattle.typed_pieces.proofs.Actions.{CalleesTyped, marked_makes}
-use Rattle.typed_pieces.proofs.Statements.{statements_make}
+use Rattle.typed_pieces.proofs.Statements.{no_labels, statements_make}
 use Rattle.typed_pieces.proofs.Homes.{AllStand, AreGivenTo, given_to, homes_make}
 
 end_typed : (f : Frame) (b : Bool) (call : CallId) (end : Point) → PieceTyped f (end_of b call end)
@@ -82,7 +82,7 @@ module _ (p : CoreProgramTree) (sound : IsProgramSound p) (types : ProgramHasTyp
         result = λ k e. result_of fn.result s1 w1 c.result (result_later fn.result c.result l1 result) k e;
         objects = objects;
       } in
-      then_makes (statements_make S c g (calls (λ j. sound.rank j < sound.rank i) fn c (λ j h. h)) r _ false false false fn.body true s1 w1 stands is_sound.body of_c.body)
+      then_makes (statements_make S c g (calls (λ j. sound.rank j < sound.rank i) fn c (λ j h. h)) r _ false false false fn.body true int_type s1 w1 stands is_sound.body of_c.body of_c.cases (no_labels int_type w1))
       (λ v s2 w2 l2 b. emit_makes (end_of (any_leaves fn.body true) c.call (point_in c point.End fn.at)) s2 w2 (end_typed (frame_at s2) (any_leaves fn.body true) c.call (point_in c point.End fn.at)))))
 
   -- ---- calls

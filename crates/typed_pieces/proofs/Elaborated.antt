@@ -1,5 +1,5 @@
--- The core program of a program with types of C has types of C.
-use Rattle.std.proofs.Common.{◌≡◌, ℕ, zero, suc, ◌+◌, ◌-◌, Bool, true, false, refl, subst, List, [], ◌∷◌, ◌++◌, map, slice_get, Option, Some, None, unwrap_or, if◌then◌else◌}
+-- The core program of a program with types of C has types of C, and its labels are words of the types of their switches.
+use Rattle.std.proofs.Common.{◌≡◌, ℕ, zero, suc, ◌+◌, ◌-◌, Bool, true, false, ◌∙◌, refl, subst, List, [], ◌∷◌, ◌++◌, map, slice_get, Option, Some, None, unwrap_or, if◌then◌else◌}
 use Rattle.std.specs.Prelude.{bytes_eq, replicate}
 use Rattle.std.specs.Option.{option_map}
 use Rattle.std.proofs.lemmas.List.{append-nil}
@@ -22,13 +22,15 @@ use Rattle.c_elaborate.specs.Objects.{object_elaborated, objects_of, else_object
 use Rattle.c_elaborate.specs.Scenes.{file_scene, opened, labelled_by, declared, all_declared}
 use Rattle.c_elaborate.specs.Statements.{init_elaborated, declarations, item, statement, else_statement, first_statements, statements}
 use Rattle.c_elaborate.specs.Programs.{file_object, file_names, objects_of_params, function_elaborated, function_of_item, functions_elaborated, signature_of, signatures}
+use Rattle.elaborate_runs.proofs.Lifetimes.{labels_all}
 use Rattle.expand_statements.specs.Each.{IfThere, EachItem, InInit, EachAction, InStmt, InElse, InStmts}
 use Rattle.operator_words.specs.Words.{IsType}
-use Rattle.typed_pieces.specs.Types.{HasTypes, TargetHasTypes, EachHasTypes, ArgumentHasTypes, ArgumentsHaveTypes, FunctionHasTypes}
+use Rattle.typed_pieces.specs.Types.{HasTypes, TargetHasTypes, EachHasTypes, ArgumentHasTypes, ArgumentsHaveTypes, AllCasesFit, FunctionHasTypes}
 use Rattle.typed_pieces.specs.Sources.{TreeHasTypes, TargetTreeHasTypes, TreesHaveTypes, IfTreeHasTypes, ActionsHaveTypes, InitHasTypes, InitsHaveTypes, IfInitHasTypes, ObjectsHaveTypes, StmtHasTypes, ElseHasTypes, FirstHasTypes, StmtsHaveTypes, IfType, IfBodyHasTypes, ParamsHaveTypes, ItemsHaveTypes}
 use Rattle.typed_pieces.specs.Laws.{ElaboratedHasTypes}
 use Rattle.typed_pieces.proofs.Operating.{unary_type, common_type, binary_type}
 use Rattle.typed_pieces.proofs.Actions.{Nowhere}
+use Rattle.typed_pieces.proofs.Cases.{statements_fit}
 
 -- ---- names
 
@@ -286,25 +288,26 @@ module _ (fs : List Signature) (returns : Returns fs) where
   all_objects_typed (p ∷ params) os h g zero o e = subst (λ y. IsType y.kind) (same_Some (object_elaborated p.object) o e) h.0
   all_objects_typed (p ∷ params) os h g (suc i) o e = all_objects_typed params os h.1 g i o e
 
-  function_types : (file : Scene) → Named file.names → (f : FunctionTree) (body : StmtTrees) → IfType f.result → ParamsHaveTypes f.params → StmtsHaveTypes body → FunctionHasTypes (function_elaborated fs file f body)
-  function_types file n f body r ps b = record {
+  function_types : (file : Scene) → Named file.names → file.labels ≡ int_type → (f : FunctionTree) (body : StmtTrees) → IfType f.result → ParamsHaveTypes f.params → StmtsHaveTypes body → FunctionHasTypes (function_elaborated fs file f body)
+  function_types file n e f body r ps b = record {
     objects = λ i o e. all_objects_typed f.params (declared_in body ++ objects_within body) ps (objects_append (declared_in body) (objects_within body) (all_declared_types body b) (all_inner_types body b)) i o e;
     result = λ k e. if_type_is f.result r k e;
     body = statements_types (opened (all_declared file (objects_of_params f.params)) _) _ (params_named file f.params n ps) body b;
+    cases = subst (λ k. AllCasesFit k (function_elaborated fs file f body).body) (labels_all file (objects_of_params f.params) ∙ e) (statements_fit fs (opened (all_declared file (objects_of_params f.params)) _) _ body);
   }
 
   more_functions : (fn : CoreFunctionTree) (fns : List CoreFunctionTree) → FunctionHasTypes fn → EachFunction fns → EachFunction (fn ∷ fns)
   more_functions fn fns h g zero f e = subst FunctionHasTypes (same_Some fn f e) h
   more_functions fn fns h g (suc i) f e = g i f e
 
-  item_functions : (file : Scene) → Named file.names → (f : FunctionTree) (body : Option StmtTrees) → IfType f.result → ParamsHaveTypes f.params → IfBodyHasTypes body → (fns : List CoreFunctionTree) → EachFunction fns → EachFunction (function_of_item fs file f body ++ fns)
-  item_functions file n f None r ps b fns g = g
-  item_functions file n f (Some body) r ps b fns g = more_functions (function_elaborated fs file f body) fns (function_types file n f body r ps b) g
+  item_functions : (file : Scene) → Named file.names → file.labels ≡ int_type → (f : FunctionTree) (body : Option StmtTrees) → IfType f.result → ParamsHaveTypes f.params → IfBodyHasTypes body → (fns : List CoreFunctionTree) → EachFunction fns → EachFunction (function_of_item fs file f body ++ fns)
+  item_functions file n e f None r ps b fns g = g
+  item_functions file n e f (Some body) r ps b fns g = more_functions (function_elaborated fs file f body) fns (function_types file n e f body r ps b) g
 
-  functions_types : (file : Scene) → Named file.names → (items : List ItemTree) → ItemsHaveTypes items → EachFunction (functions_elaborated fs file items)
-  functions_types file n [] h i fn e = absurd (none-some fn e)
-  functions_types file n (tree.objects os ∷ items) h i fn e = functions_types file n items h.1 i fn e
-  functions_types file n (tree.function f ∷ items) h i fn e = item_functions file n f f.body h.0.0 h.0.1 h.0.2 (functions_elaborated fs file items) (λ j g q. functions_types file n items h.1 j g q) i fn e
+  functions_types : (file : Scene) → Named file.names → file.labels ≡ int_type → (items : List ItemTree) → ItemsHaveTypes items → EachFunction (functions_elaborated fs file items)
+  functions_types file n l [] h i fn e = absurd (none-some fn e)
+  functions_types file n l (tree.objects os ∷ items) h i fn e = functions_types file n l items h.1 i fn e
+  functions_types file n l (tree.function f ∷ items) h i fn e = item_functions file n l f f.body h.0.0 h.0.1 h.0.2 (functions_elaborated fs file items) (λ j g q. functions_types file n l items h.1 j g q) i fn e
 
 -- ---- the program
 
@@ -335,5 +338,5 @@ elaborated_types p top h =
     let objects = file_objects_types p.items h in
     record {
       file = files_typed os objects;
-      functions = functions_types (signatures p.items) (all_return p.items h) (file_scene (file_names 0 [] os)) (file_named 0 [] os named_none objects) p.items h;
+      functions = functions_types (signatures p.items) (all_return p.items h) (file_scene (file_names 0 [] os)) (file_named 0 [] os named_none objects) refl p.items h;
     }

@@ -155,7 +155,7 @@ scalar_lengths [] h = refl
 scalar_lengths (len ∷ lengths) h = absurd (true≢false (sym (ap not (ne_eqb (length (len ∷ lengths)) 0 (λ q. omega (arith, q)))) ∙ h))
 
 top_parameter_makes : (b : Bool) (params n : ℕ) (o : CoreObjectTree) (s : State) (w : World s) → is_array o ≡ b → Makes (OwnHome params n o) s w (if b then host_array o s else then_ (fresh o.kind s) (λ own s1. gives (home.Variable own) s1))
-top_parameter_makes true params n o s w e = then_makes (array_makes (array_like o None None true) s w) (λ a s1 w1 l v. gives_makes (array_object o e, v))
+top_parameter_makes true params n o s w e = then_makes (array_makes (array_like o None None true) s w (array_object o e)) (λ a s1 w1 l v. gives_makes (array_object o e, v))
 top_parameter_makes false params n o s w e = then_makes (fresh_makes o.kind s w) (λ own s1 w1 l v. gives_makes (scalar_lengths o.lengths e, v))
 
 pub top_parameters_make : (params n : ℕ) (os : List CoreObjectTree) (before : List Home) (s : State) (w : World s) → Makes (HomesBehind params n os before) s w (top_parameters os before s)
@@ -220,15 +220,15 @@ first_word : (k : CType) (words : List ℕ) → AreWords k words → first_value
 first_word k [] h = pow_pos (width k)
 first_word k (n ∷ ns) h = h.0
 
-info_kind : (b : Bool) (o : FileObjectTree) (s : State) (w : World s) → o.object.constant ≡ b → Makes (λ s1 w1 a. HasArray (frame_at s1) a o.object.kind) s w (add_array (if b then array_like o.object (Some o.first) None false else array_like o.object None (Some o.first) false) s)
-info_kind true o s w e = array_makes (array_like o.object (Some o.first) None false) s w
-info_kind false o s w e = array_makes (array_like o.object None (Some o.first) false) s w
+info_kind : (b : Bool) (o : FileObjectTree) (s : State) (w : World s) → IsArray o.object → o.object.constant ≡ b → Makes (λ s1 w1 a. HasArray (frame_at s1) a o.object.kind) s w (add_array (if b then array_like o.object (Some o.first) None false else array_like o.object None (Some o.first) false) s)
+info_kind true o s w some e = array_makes (array_like o.object (Some o.first) None false) s w some
+info_kind false o s w some e = array_makes (array_like o.object None (Some o.first) false) s w some
 
 file_home_makes : (o : FileObjectTree) (kept : List Kept) (s : State) (w : World s) → (is_kept o ≡ true → slice_get s.variables (first_kept kept).0 ≡ Some o.object.kind) → (o.object.constant ≡ true → FillsObject o.object o.first) → Makes (λ s1 w1 h. FileFits s1 h o) s w (file_home o kept s)
 file_home_makes o kept s w variable words = either (is_array o.object) o.object.constant refl refl where
   either : (a b : Bool) → is_array o.object ≡ a → o.object.constant ≡ b
       → Makes (λ s1 w1 h. FileFits s1 h o) s w (if a then file_array o s else if b then gives (home.Constant (first_value o.first)) s else gives (home.Variable (first_kept kept)) s)
-  either true b ea eb = then_makes (declared_makes _ s w) (λ u s1 w1 l v. then_makes (info_kind o.object.constant o s1 w1 refl) (λ a s2 w2 l2 h. gives_makes (array_object o.object ea, h)))
+  either true b ea eb = then_makes (declared_makes _ s w) (λ u s1 w1 l v. then_makes (info_kind o.object.constant o s1 w1 (array_object o.object ea) refl) (λ a s2 w2 l2 h. gives_makes (array_object o.object ea, h)))
   either false true ea eb = gives_makes (scalar_lengths o.object.lengths ea, eb, first_word o.object.kind o.first (words eb).1)
   either false false ea eb = gives_makes (scalar_lengths o.object.lengths ea, variable (ap₂ (λ x y. not (x || y)) ea eb))
 

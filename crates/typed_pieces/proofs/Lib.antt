@@ -10,5 +10,7 @@ pub mod Statements
 pub mod Homes
 pub mod Calls
 pub mod Whole
+pub mod Cases
 pub mod Elaborated
 pub mod Grammar
+pub mod Proper

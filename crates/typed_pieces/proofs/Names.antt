@@ -16,7 +16,7 @@ use Rattle.lower_control.specs.Holding.{IsThere}
 use Rattle.typed_pieces.specs.Worlds.{World, Later, IsValue, HasArray, IsNoted, frame_at}
 use Rattle.typed_pieces.specs.Standing.{Names, FileFits, OwnFits, Stands}
 use Rattle.typed_pieces.proofs.Typing.{number_typed, variable_typed}
-use Rattle.typed_pieces.proofs.Parts.{array_later}
+use Rattle.typed_pieces.proofs.Parts.{array_later, labelled}
 
 -- ---- later
 
@@ -32,6 +32,13 @@ own_later l params i (home.Array a) o f = (f.0, array_later l a o.kind f.1)
 own_later l params i (home.Local slot) o f = (f.0, f.1, l.kinds slot.0 o.kind f.2)
 own_later l params i (home.Constant word) o f = absurd f
 
+-- in a switch
+own_labelled : (kind : CType) (s : State) (w : World s) (params i : ℕ) (h : Home) (o : CoreObjectTree) → OwnFits params s w i h o → OwnFits params s (labelled kind w) i h o
+own_labelled kind s w params i (home.Variable own) o f = f
+own_labelled kind s w params i (home.Array a) o f = f
+own_labelled kind s w params i (home.Local slot) o f = f
+own_labelled kind s w params i (home.Constant word) o f = absurd f
+
 pub file_homes_later : (S : Setting) (c : Call) {s s1 : State} {w : World s} {w1 : World s1} → Later s w s1 w1
     → ((i : ℕ) (o : FileObjectTree) → slice_get S.file i ≡ Some o → IsType o.object.kind × ((h : Home) × (slice_get c.file i ≡ Some h) × FileFits s h o))
     → (i : ℕ) (o : FileObjectTree) → slice_get S.file i ≡ Some o → IsType o.object.kind × ((h : Home) × (slice_get c.file i ≡ Some h) × FileFits s1 h o)
@@ -44,6 +51,15 @@ module _ (S : Setting) (c : Call) (r : Reach) where
     own = λ i o e. (let f = h.own i o e in (f.0, (f.1.0, f.1.1, own_later l S.params i f.1.0 o f.1.2)));
     ready = λ i slot e r. l.noted slot.0 (h.ready i slot e r);
     result = λ k e. (let f = h.result k e in (f.0, f.1, l.variables f.0.0 k f.2));
+    objects = h.objects;
+  }
+
+  pub stands_labelled : (kind : CType) (s : State) (w : World s) → Stands S c r s w → Stands S c r s (labelled kind w)
+  stands_labelled kind s w h = record {
+    file = h.file;
+    own = λ i o e. (let f = h.own i o e in (f.0, (f.1.0, f.1.1, own_labelled kind s w S.params i f.1.0 o f.1.2)));
+    ready = h.ready;
+    result = h.result;
     objects = h.objects;
   }
 

@@ -1,11 +1,12 @@
 -- Parts that make typed pieces, one behind another.
-use Rattle.std.proofs.Common.{◌≡◌, ◌∙◌, ◌⊎◌, inl, inr, ℕ, ◌+◌, ◌<◌, Bool, true, false, refl, ap, sym, subst, List, [], ◌∷◌, ◌++◌, length, slice_get, slice_set, Option, Some, None, if◌then◌else◌}
+use Rattle.std.proofs.Common.{◌≡◌, ◌≢◌, ◌∙◌, ◌⊎◌, inl, inr, ℕ, ◌+◌, ◌<◌, Bool, true, false, refl, ap, sym, subst, List, [], ◌∷◌, ◌++◌, length, slice_get, slice_set, Option, Some, None, if◌then◌else◌}
 use Rattle.std.proofs.lemmas.Bool.{cases_eq}
 use Rattle.std.proofs.lemmas.List.{length-append}
 use Rattle.std.proofs.lemmas.Option.{none-some, same_Some, slice_get_within}
 use Rattle.hls_base.specs.declared.number.VarId.{VarId}
 use Rattle.hls_base.specs.declared.number.ArrayId.{ArrayId}
 use Rattle.c_token.specs.declared.ctype.CType.{CType}
+use Rattle.pieces.specs.declared.piece.Label.{Label}
 use Rattle.pieces.specs.Trees as tree
 use Rattle.pieces.specs.Trees.{PureTree, PureTrees, PieceTree, piece_row}
 use Rattle.pieces.specs.Program.{ArrayTree}
@@ -15,14 +16,15 @@ use Rattle.expand_runs.specs.Growing.{Begins}
 use Rattle.expand_runs.proofs.Growing.{begins_more, last_one, slots_here, slots_there, slots_length}
 use Rattle.expand_calls.proofs.Lists.{get_last, get_before}
 use Rattle.operator_words.specs.Words.{IsType}
+use Rattle.valid_lowering.specs.Proper.{WordFits, LabelsFit}
 use Rattle.typed_pieces.specs.Typed.{IsTyped, AreTyped, PieceTyped, PiecesTyped}
-use Rattle.typed_pieces.specs.Worlds.{World, Later, Knows, Makes, MakesLater, Anything, Value, Inside, HasArray, IsNoted, frame_at}
+use Rattle.typed_pieces.specs.Worlds.{ArraysHaveLengths, World, Later, Knows, Makes, MakesLater, Anything, Value, Inside, HasArray, IsNoted, frame_at}
 use Rattle.typed_pieces.proofs.Typing.{typed_more, each_more, pieces_more, pieces_append, variable_typed}
 
 -- ---- later worlds
 
 pub later_same : (s : State) (w : World s) → Later s w s w
-later_same s w = record { variables = λ i x e. e; arrays = λ i x e. e; kinds = λ i x e. e; noted = λ i n. n }
+later_same s w = record { variables = λ i x e. e; arrays = λ i x e. e; kinds = λ i x e. e; noted = λ i n. n; labels = refl }
 
 pub later_both : {s s1 s2 : State} {w : World s} {w1 : World s1} {w2 : World s2} → Later s w s1 w1 → Later s1 w1 s2 w2 → Later s w s2 w2
 later_both h g = record {
@@ -30,6 +32,7 @@ later_both h g = record {
   arrays = λ i x e. g.arrays i x (h.arrays i x e);
   kinds = λ i x e. g.kinds i x (h.kinds i x e);
   noted = λ i n. g.noted i (h.noted i n);
+  labels = g.labels ∙ h.labels;
 }
 
 pub typed_later : {s s1 : State} {w : World s} {w1 : World s1} → Later s w s1 w1 → (x : PureTree) → IsTyped (frame_at s) x → IsTyped (frame_at s1) x
@@ -44,27 +47,34 @@ pieces_later {s} {s1} l xs h = pieces_more (frame_at s) (frame_at s1) l.variable
 pub array_later : {s s1 : State} {w : World s} {w1 : World s1} → Later s w s1 w1 → (array : ArrayId) (k : CType) → HasArray (frame_at s) array k → HasArray (frame_at s1) array k
 array_later l array k h = (h.0, l.arrays array.0 h.0 h.1, h.2)
 
+-- ---- labels
+
+labels_append : (k : CType) (xs ys : List Label) → LabelsFit k xs → LabelsFit k ys → LabelsFit k (xs ++ ys)
+labels_append k [] ys h g = g
+labels_append k (x ∷ xs) ys h g = (h.0, labels_append k xs ys h.1 g)
+
 -- ---- parts
 
 pub then_makes : {A B : Type 0} {V : Knows A} {W : Knows B} {s : State} {w : World s} {first : Part A} {next : A → State → Part B}
     → Makes V s w first → ((x : A) (s1 : State) (w1 : World s1) → Later s w s1 w1 → V s1 w1 x → Makes W s1 w1 (next x s1)) → Makes W s w (then_ first next)
 unfolding then_
-then_makes {first = first} {next = next} h behind =
+then_makes {w = w} {first = first} {next = next} h behind =
     let second = next first.value first.state in
     let q = behind first.value first.state h.next h.later h.value in
     record {
       next = q.next;
       later = later_both h.later q.later;
       pieces = pieces_append (frame_at second.state) first.pieces second.pieces (pieces_later q.later first.pieces h.pieces) q.pieces;
+      labels = labels_append w.labels first.labels second.labels h.labels (subst (λ k. LabelsFit k second.labels) h.later.labels q.labels);
       value = q.value;
     }
 
 pub gives_makes : {A : Type 0} {V : Knows A} {x : A} {s : State} {w : World s} → V s w x → Makes V s w (gives x s)
-gives_makes {s = s} {w = w} h = record { next = w; later = later_same s w; pieces = tt; value = h }
+gives_makes {s = s} {w = w} h = record { next = w; later = later_same s w; pieces = tt; labels = tt; value = h }
 
 -- less is known of the value
 pub known : {A : Type 0} {V W : Knows A} {s : State} {w : World s} {part : Part A} → Makes V s w part → ((s1 : State) (w1 : World s1) → Later s w s1 w1 → V s1 w1 part.value → W s1 w1 part.value) → Makes W s w part
-known {part = part} h weaker = record { next = h.next; later = h.later; pieces = h.pieces; value = weaker part.state h.next h.later h.value }
+known {part = part} h weaker = record { next = h.next; later = h.later; pieces = h.pieces; labels = h.labels; value = weaker part.state h.next h.later h.value }
 
 pub if_makes : {A : Type 0} {V : Knows A} (b : Bool) (x y : Part A) (s : State) (w : World s) → Makes V s w x → Makes V s w y → Makes V s w (if b then x else y)
 if_makes true x y s w h g = h
@@ -73,19 +83,20 @@ if_makes false x y s w h g = g
 pub emit_makes : (p : PieceTree) (s : State) (w : World s) → PieceTyped (frame_at s) p → Makes Anything s w (emit p s)
 unfolding emit
 emit_makes p s w h = record {
-  next = record { kinds = w.kinds; count = w.count; noted = w.noted };
-  later = record { variables = λ i x e. e; arrays = λ i x e. e; kinds = λ i x e. e; noted = λ i n. n };
+  next = record { kinds = w.kinds; count = w.count; noted = w.noted; labels = w.labels; lengths = w.lengths };
+  later = record { variables = λ i x e. e; arrays = λ i x e. e; kinds = λ i x e. e; noted = λ i n. n; labels = refl };
   pieces = (h, tt);
+  labels = tt;
   value = tt;
 }
 
 pub declared_makes : (weight : ℕ) (s : State) (w : World s) → Makes Anything s w (declared weight s)
 unfolding declared
-declared_makes weight s w = record { next = w; later = later_same s w; pieces = tt; value = tt }
+declared_makes weight s w = record { next = w; later = later_same s w; pieces = tt; labels = tt; value = tt }
 
-pub label_makes : (value : Option ℕ) (s : State) (w : World s) → Makes Anything s w (label value s)
+pub label_makes : (value : Option ℕ) (s : State) (w : World s) → WordFits w.labels value → Makes Anything s w (label value s)
 unfolding label
-label_makes value s w = record { next = w; later = later_same s w; pieces = tt; value = tt }
+label_makes value s w h = record { next = w; later = later_same s w; pieces = tt; labels = (h, tt); value = tt }
 
 -- ---- variables, arrays and calls
 
@@ -97,9 +108,10 @@ unfolding fresh
 fresh_makes k s w =
     let b : Begins s.variables (s.variables ++ k ∷ []) = begins_more s.variables (k ∷ []) in
     record {
-      next = record { kinds = w.kinds; count = w.count; noted = w.noted };
-      later = record { variables = b; arrays = λ i x e. e; kinds = λ i x e. e; noted = λ i n. n };
+      next = record { kinds = w.kinds; count = w.count; noted = w.noted; labels = w.labels; lengths = w.lengths };
+      later = record { variables = b; arrays = λ i x e. e; kinds = λ i x e. e; noted = λ i n. n; labels = refl };
       pieces = tt;
+      labels = tt;
       value = last_one s.variables k;
     }
 
@@ -112,14 +124,21 @@ unfolding fresh_result
 fresh_result_makes None s w = gives_makes refl
 fresh_result_makes (Some k) s w = then_makes (fresh_makes k s w) (λ own s1 w1 l v. gives_makes (own, refl, v))
 
-pub array_makes : (a : ArrayTree) (s : State) (w : World s) → Makes (λ s1 w1 array. HasArray (frame_at s1) array a.kind) s w (add_array a s)
+lengths_more : (arrays : List ArrayTree) (a : ArrayTree) → ArraysHaveLengths arrays → a.lengths ≢ [] → ArraysHaveLengths (arrays ++ a ∷ [])
+lengths_more arrays a h some i x at = elim (get_last arrays a i x at) [
+  | inl e ↦ h i x e
+  | inr e ↦ subst (λ (y : ArrayTree). y.lengths ≢ []) e.1 some
+]
+
+pub array_makes : (a : ArrayTree) (s : State) (w : World s) → a.lengths ≢ [] → Makes (λ s1 w1 array. HasArray (frame_at s1) array a.kind) s w (add_array a s)
 unfolding add_array
-array_makes a s w =
+array_makes a s w some =
     let b : Begins s.arrays (s.arrays ++ a ∷ []) = begins_more s.arrays (a ∷ []) in
     record {
-      next = record { kinds = w.kinds; count = w.count; noted = λ i k array e n. (let h = w.noted i k array e n in (h.0, b array.0 h.0 h.1, h.2)) };
-      later = record { variables = λ i x e. e; arrays = b; kinds = λ i x e. e; noted = λ i n. n };
+      next = record { kinds = w.kinds; count = w.count; noted = λ i k array e n. (let h = w.noted i k array e n in (h.0, b array.0 h.0 h.1, h.2)); labels = w.labels; lengths = lengths_more s.arrays a w.lengths some };
+      later = record { variables = λ i x e. e; arrays = b; kinds = λ i x e. e; noted = λ i n. n; labels = refl };
       pieces = tt;
+      labels = tt;
       value = (a, last_one s.arrays a, refl);
     }
 
@@ -131,9 +150,12 @@ slot_makes k s w = record {
     kinds = w.kinds ++ k ∷ [];
     count = length-append w.kinds (k ∷ []) ∙ ap (λ n. n + 1) w.count ∙ sym (length-append s.slots (None ∷ []));
     noted = λ i j array e n. not_new i j array e (get_last s.slots None i (Some array) n);
+    labels = w.labels;
+    lengths = w.lengths;
   };
-  later = record { variables = λ i x e. e; arrays = λ i x e. e; kinds = begins_more w.kinds (k ∷ []); noted = λ i n. (n.0, begins_more s.slots (None ∷ []) i (Some n.0) n.1) };
+  later = record { variables = λ i x e. e; arrays = λ i x e. e; kinds = begins_more w.kinds (k ∷ []); noted = λ i n. (n.0, begins_more s.slots (None ∷ []) i (Some n.0) n.1); labels = refl };
   pieces = tt;
+  labels = tt;
   value = subst (λ n. slice_get (w.kinds ++ k ∷ []) n ≡ Some k) w.count (last_one w.kinds k);
 } where
   not_new : (i : ℕ) (j : CType) (array : ArrayId) → slice_get (w.kinds ++ k ∷ []) i ≡ Some j → (slice_get s.slots i ≡ Some (Some array)) ⊎ ((i ≡ length s.slots) × (None ≡ Some array)) → HasArray (frame_at s) array j
@@ -148,9 +170,12 @@ note_makes slot array k s w e h = record {
     kinds = w.kinds;
     count = w.count ∙ sym (slots_length s.slots slot.0 (Some array));
     noted = λ i j a x n. (elim (cases_eq slot.0 i) [ inl q ↦ new_one i j a x n q | inr q ↦ w.noted i j a x (sym (slots_there s.slots slot.0 i (Some array) q) ∙ n) ]);
+    labels = w.labels;
+    lengths = w.lengths;
   };
-  later = record { variables = λ i x e. e; arrays = λ i x e. e; kinds = λ i x e. e; noted = still };
+  later = record { variables = λ i x e. e; arrays = λ i x e. e; kinds = λ i x e. e; noted = still; labels = refl };
   pieces = tt;
+  labels = tt;
   value = (array, slots_here s.slots slot.0 (Some array) below);
 } where
   below : slot.0 < length s.slots
@@ -171,18 +196,20 @@ note_makes slot array k s w e h = record {
 pub call_makes : (s : State) (w : World s) → Makes (λ s1 w1 call. Unit {0}) s w (next_call s)
 unfolding next_call
 call_makes s w = record {
-  next = record { kinds = w.kinds; count = w.count; noted = w.noted };
-  later = record { variables = λ i x e. e; arrays = λ i x e. e; kinds = λ i x e. e; noted = λ i n. n };
+  next = record { kinds = w.kinds; count = w.count; noted = w.noted; labels = w.labels; lengths = w.lengths };
+  later = record { variables = λ i x e. e; arrays = λ i x e. e; kinds = λ i x e. e; noted = λ i n. n; labels = refl };
   pieces = tt;
+  labels = tt;
   value = tt;
 }
 
 pub loop_makes : (s : State) (w : World s) → Makes (λ s1 w1 id. Unit {0}) s w (next_loop s)
 unfolding next_loop
 loop_makes s w = record {
-  next = record { kinds = w.kinds; count = w.count; noted = w.noted };
-  later = record { variables = λ i x e. e; arrays = λ i x e. e; kinds = λ i x e. e; noted = λ i n. n };
+  next = record { kinds = w.kinds; count = w.count; noted = w.noted; labels = w.labels; lengths = w.lengths };
+  later = record { variables = λ i x e. e; arrays = λ i x e. e; kinds = λ i x e. e; noted = λ i n. n; labels = refl };
   pieces = tt;
+  labels = tt;
   value = tt;
 }
 
@@ -196,10 +223,10 @@ own_makes k x s w t h =
 -- ---- pieces in a list of their own
 
 abbrev restarted : (s : State) (w : World s) (n : ℕ) → World (record s { made = n })
-restarted s w n = record { kinds = w.kinds; count = w.count; noted = w.noted }
+restarted s w n = record { kinds = w.kinds; count = w.count; noted = w.noted; labels = w.labels; lengths = w.lengths }
 
 restarted_later : (s : State) (w : World s) (n : ℕ) → Later s w (record s { made = n }) (restarted s w n)
-restarted_later s w n = record { variables = λ i x e. e; arrays = λ i x e. e; kinds = λ i x e. e; noted = λ i n. n }
+restarted_later s w n = record { variables = λ i x e. e; arrays = λ i x e. e; kinds = λ i x e. e; noted = λ i n. n; labels = refl }
 
 -- what is known of a value is known later too
 abbrev pub Stays : {A : Type 0} → Knows A → Type 0
@@ -214,11 +241,29 @@ inside_makes part s w stays h =
       next = restarted end q.next s.made;
       later = later_both (restarted_later s w 0) (later_both q.later (restarted_later end q.next s.made));
       pieces = tt;
+      labels = q.labels;
       value = (q.pieces, stays end q.next (record end { made = s.made }) (restarted end q.next s.made) (part (record s { made = 0 })).value (restarted_later end q.next s.made) q.value);
     }
 
-pub switch_makes : (part : State → Part (Unit {0})) (s : State) (w : World s) → MakesLater Anything s w part → Makes (λ s1 w1 x. PiecesTyped (frame_at s1) (piece_row x.0)) s w (inside_switch part s)
+-- the same world in a switch whose labels have this type
+abbrev pub labelled : {s : State} → CType → World s → World s
+labelled k w = record { kinds = w.kinds; count = w.count; noted = w.noted; labels = k; lengths = w.lengths }
+
+pub labelled_later : {s s1 : State} {w : World s} {w1 : World s1} (k : CType) → Later s w s1 w1 → Later s (labelled k w) s1 (labelled k w1)
+labelled_later k l = record { variables = l.variables; arrays = l.arrays; kinds = l.kinds; noted = l.noted; labels = refl }
+
+-- the pieces and labels of a switch's body
+abbrev pub Body : CType → Knows (List PieceTree × List Label)
+Body k s w x = PiecesTyped (frame_at s) (piece_row x.0) × LabelsFit k x.1
+
+pub switch_makes : (k : CType) (part : State → Part (Unit {0})) (s : State) (w : World s) → MakesLater Anything s (labelled k w) part → Makes (Body k) s w (inside_switch part s)
 unfolding inside_switch inside
-switch_makes part s w h =
-    let q = inside_makes part s w (λ s1 w1 s2 w2 x l a. tt) h in
-    record { next = q.next; later = q.later; pieces = q.pieces; value = q.value.0 }
+switch_makes k part s w h =
+    let q = inside_makes part s (labelled k w) (λ s1 w1 s2 w2 x l a. tt) h in
+    record {
+      next = labelled w.labels q.next;
+      later = record { variables = q.later.variables; arrays = q.later.arrays; kinds = q.later.kinds; noted = q.later.noted; labels = refl };
+      pieces = tt;
+      labels = tt;
+      value = (q.value.0, q.labels);
+    }

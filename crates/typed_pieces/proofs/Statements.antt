@@ -1,10 +1,14 @@
 -- Statements make typed pieces.
-use Rattle.std.proofs.Common.{ℕ, Bool, true, false, ◌&&◌, List, [], Option, Some}
+use Rattle.std.proofs.Common.{◌≡◌, ◌∙◌, ℕ, Bool, true, false, ◌&&◌, sym, subst, List, [], Option, Some}
+use Rattle.std.proofs.lemmas.Bool.{false≢true}
 use Rattle.hls_base.specs.declared.place.Place.{Place}
 use Rattle.hls_base.specs.declared.point.PointKind.{PointKind}
 use Rattle.hls_base.specs.declared.point.PointKind.TheVariants as point
+use Rattle.c_token.specs.declared.ctype.CType.{CType}
+use Rattle.c_value.specs.Values.{promoted}
 use Rattle.core_program.specs.Core as core
 use Rattle.core_program.specs.Core.{CoreTree, CoreActionTree, CoreStmtTree, CoreStmtTrees, CoreElseTree}
+use Rattle.core_meaning.specs.Kinds.{kind_of}
 use Rattle.pieces.specs.Trees as tree
 use Rattle.pieces.specs.Trees.{PureTree, piece_row}
 use Rattle.piece_making.specs.Leaving.{is_empty}
@@ -14,12 +18,13 @@ use Rattle.c_expand.specs.Expressions.{Callee}
 use Rattle.c_expand.specs.Statements.{marked, tested, stepped, branch, switched, repeat, statement, other_branch, statements}
 use Rattle.expand_statements.specs.Scopes.{Setting, Reach, IsSoundIn, TestSound, ActionsSound, StmtSound, ElseSound, StmtsSound, enter, behind, behind_all}
 use Rattle.expand_statements.specs.Each.{IfThere, EachAction, InStmt, InElse, InStmts}
+use Rattle.valid_lowering.specs.Proper.{WordFits, LabelsFit}
 use Rattle.typed_pieces.specs.Typed.{IsTyped}
-use Rattle.typed_pieces.specs.Types.{HasTypes}
-use Rattle.typed_pieces.specs.Worlds.{World, Knows, Makes, MakesLater, Anything, Inside, frame_at}
+use Rattle.typed_pieces.specs.Types.{HasTypes, CasesFit, ElseCasesFit, AllCasesFit}
+use Rattle.typed_pieces.specs.Worlds.{World, Later, Knows, Makes, MakesLater, Anything, Inside, frame_at}
 use Rattle.typed_pieces.specs.Standing.{Stands}
-use Rattle.typed_pieces.proofs.Parts.{Stays, later_both, typed_later, pieces_later, then_makes, gives_makes, known, emit_makes, label_makes, loop_makes, inside_makes, switch_makes}
-use Rattle.typed_pieces.proofs.Names.{stands_later}
+use Rattle.typed_pieces.proofs.Parts.{Stays, later_both, typed_later, pieces_later, then_makes, gives_makes, known, emit_makes, label_makes, loop_makes, inside_makes, labelled, labelled_later, switch_makes}
+use Rattle.typed_pieces.proofs.Names.{stands_later, stands_labelled}
 use Rattle.typed_pieces.proofs.Actions.{Nowhere, CalleesTyped, StandsAt, marked_makes, evaluated, actions_make, declare_makes, tested_makes, stepped_makes, returned_makes}
 
 abbrev Test : Knows PureTree
@@ -30,6 +35,16 @@ nothing_stays s w s1 w1 u l h = tt
 
 test_stays : Stays Test
 test_stays s w s1 w1 x l h = typed_later l x h
+
+-- Where a label may stand, those of the switch round it have type k.
+abbrev pub AreLabels : Bool → CType → {s : State} → World s → Type 0
+AreLabels labels k w = labels ≡ true → w.labels ≡ k
+
+pub no_labels : (k : CType) {s : State} (w : World s) → AreLabels false k w
+no_labels k w e = absurd (false≢true e)
+
+labels_later : {s s1 : State} {w : World s} {w1 : World s1} (labels : Bool) (k : CType) → Later s w s1 w1 → AreLabels labels k w → AreLabels labels k w1
+labels_later labels k l h e = l.labels ∙ h e
 
 module _ (S : Setting) (c : Call) (g : Callee) (calls : CalleesTyped S c g) where
   -- pieces behind a mark, in a list of their own
@@ -50,11 +65,13 @@ module _ (S : Setting) (c : Call) (g : Callee) (calls : CalleesTyped S c g) wher
       emit_makes (tree.repeat_ id post (piece_row before.pieces) before.value (piece_row main.pieces) (piece_row last.pieces) (point_in c point.End at)) s4 w4
       (pieces_later l before.pieces b.0, typed_later l before.value b.1, pieces_later l4 main.pieces d.0, e.0))))))
 
-  switched_makes : (r : Reach) (test : CoreTree) (body : State → Part (Unit {0})) (at : Place) (s : State) (w : World s) → Stands S c r s w → IsSoundIn S r test → HasTypes test → MakesLater Anything s w body → Makes Anything s w (switched g c test body at s)
+  switched_makes : (r : Reach) (test : CoreTree) (body : State → Part (Unit {0})) (at : Place) (s : State) (w : World s) → Stands S c r s w → IsSoundIn S r test → HasTypes test → MakesLater Anything s (labelled (promoted (kind_of test)) w) body
+      → Makes Anything s w (switched g c test body at s)
   switched_makes r test body at s w h sound t makes =
+      let k = promoted (kind_of test) in
       then_makes (evaluated S c g calls r test s w h sound t)
-      (λ x s1 w1 l1 v. then_makes (switch_makes body s1 w1 (λ s5 w5 l5. makes s5 w5 (later_both l1 l5)))
-      (λ main s2 w2 l2 a. emit_makes (tree.pick x main.1 (piece_row main.0) (point_in c point.End at)) s2 w2 (typed_later l2 x v.typed, a)))
+      (λ x s1 w1 l1 v. then_makes (switch_makes k body s1 w1 (λ s5 w5 l5. makes s5 w5 (later_both (labelled_later k l1) l5)))
+      (λ main s2 w2 l2 a. emit_makes (tree.pick x main.1 (piece_row main.0) (point_in c point.End at)) s2 w2 (typed_later l2 x v.typed, a.0, subst (λ j. LabelsFit (promoted j) main.1) (sym v.type) a.1)))
 
   pub entered : (r : Reach) (objects : List ℕ) (s : State) (w : World s) → Stands S c r s w → Stands S c (enter objects r) s w
   entered r objects s w h = record { file = h.file; own = h.own; ready = h.ready; result = h.result; objects = h.objects }
@@ -70,42 +87,46 @@ module _ (S : Setting) (c : Call) (g : Callee) (calls : CalleesTyped S c g) wher
   branch_makes at body s w h = marked_inside point.Arm at body s w nothing_stays h
 
   mutual
-    pub statement_makes : (r : Reach) (Own : ℕ → Type 0) (labels breaks continues : Bool) (stmt : CoreStmtTree) (tail : Bool) (s : State) (w : World s) → Stands S c r s w → StmtSound S r Own labels breaks continues stmt → InStmt HasTypes Nowhere stmt
+    pub statement_makes : (r : Reach) (Own : ℕ → Type 0) (labels breaks continues : Bool) (stmt : CoreStmtTree) (tail : Bool) (k : CType) (s : State) (w : World s) → Stands S c r s w → StmtSound S r Own labels breaks continues stmt → InStmt HasTypes Nowhere stmt → CasesFit k stmt → AreLabels labels k w
         → Makes (StandsAt S c g calls (behind stmt r)) s w (statement g c stmt tail s)
-    statement_makes r Own labels breaks continues (core.block objects body) tail s w h sound t =
-        unchanged r s w h (statements_make (enter objects r) _ false breaks continues body tail s w (entered r objects s w h) sound.1 t)
-    statement_makes r Own labels breaks continues (core.declare object init) tail s w h sound t = declare_makes S c g calls r object init s w h sound.4 t.1
-    statement_makes r Own labels breaks continues (core.act list) tail s w h sound t = unchanged r s w h (actions_make S c g calls r list s w h sound t)
-    statement_makes r Own labels breaks continues (core.if_ test body other at) tail s w h sound t =
+    statement_makes r Own labels breaks continues (core.block objects body) tail k s w h sound t fit named =
+        unchanged r s w h (statements_make (enter objects r) _ false breaks continues body tail k s w (entered r objects s w h) sound.1 t fit (no_labels k w))
+    statement_makes r Own labels breaks continues (core.declare object init) tail k s w h sound t fit named = declare_makes S c g calls r object init s w h sound.4 t.1
+    statement_makes r Own labels breaks continues (core.act list) tail k s w h sound t fit named = unchanged r s w h (actions_make S c g calls r list s w h sound t)
+    statement_makes r Own labels breaks continues (core.if_ test body other at) tail k s w h sound t fit named =
         unchanged r s w h (then_makes (evaluated S c g calls r test s w h sound.0 t.0)
-        (λ x s1 w1 l1 v. then_makes (branch_makes at (statement g c body tail) s1 w1 (λ s2 w2 l2. anything (statement_makes r _ false breaks continues body tail s2 w2 (stands_later S c r s w s2 w2 h (later_both l1 l2)) sound.1 t.1)))
-        (λ first s2 w2 l2 a. then_makes (other_makes r breaks continues other tail s2 w2 (stands_later S c r s w s2 w2 h (later_both l1 l2)) sound.2 t.2)
+        (λ x s1 w1 l1 v. then_makes (branch_makes at (statement g c body tail) s1 w1 (λ s2 w2 l2. anything (statement_makes r _ false breaks continues body tail k s2 w2 (stands_later S c r s w s2 w2 h (later_both l1 l2)) sound.1 t.1 fit.0 (no_labels k w2))))
+        (λ first s2 w2 l2 a. then_makes (other_makes r breaks continues other tail k s2 w2 (stands_later S c r s w s2 w2 h (later_both l1 l2)) sound.2 t.2 fit.1)
         (λ second s3 w3 l3 b. emit_makes (tree.fork x (piece_row first.pieces) (piece_row second.pieces) (point_in c point.End at)) s3 w3 (typed_later l3 x (typed_later l2 x v.typed), pieces_later l3 first.pieces a.0, b.0)))))
-    statement_makes r Own labels breaks continues (core.switch_ test objects body at) tail s w h sound t =
+    statement_makes r Own labels breaks continues (core.switch_ test objects body at) tail k s w h sound t fit named =
+        let own = promoted (kind_of test) in
+        let inner = stands_labelled S c r own s w h in
         unchanged r s w h (switched_makes r test (statements g c body false) at s w h sound.0 t.0
-        (λ s1 w1 l1. anything (statements_make (enter objects r) _ true true continues body false s1 w1 (entered r objects s1 w1 (stands_later S c r s w s1 w1 h l1)) sound.2 t.1)))
-    statement_makes r Own labels breaks continues (core.case_ value body at) tail s w h sound t =
-        unchanged r s w h (then_makes (then_makes (label_makes value s w) (λ u s1 w1 l1 v. marked_makes c point.Arm at s1 w1))
-        (λ u s1 w1 l1 v. statement_makes r _ labels breaks continues body false s1 w1 (stands_later S c r s w s1 w1 h l1) sound.1 t))
-    statement_makes r Own labels breaks continues (core.while_ test body at) tail s w h sound t =
-        unchanged r s w h (repeat_makes r false (Some test) (statement g c body false) [] at s w h sound.0 t.0 (λ s1 w1 l1. anything (statement_makes r _ false true true body false s1 w1 (stands_later S c r s w s1 w1 h l1) sound.1 t.1)) tt tt)
-    statement_makes r Own labels breaks continues (core.do_ body test at) tail s w h sound t =
-        unchanged r s w h (repeat_makes r true (Some test) (statement g c body false) [] at s w h sound.0 t.0 (λ s1 w1 l1. anything (statement_makes r _ false true true body false s1 w1 (stands_later S c r s w s1 w1 h l1) sound.1 t.1)) tt tt)
-    statement_makes r Own labels breaks continues (core.for_ objects init test steps body at) tail s w h sound t =
+        (λ s1 w1 l1. anything (statements_make (enter objects r) _ true true continues body false own s1 w1 (entered r objects s1 w1 (stands_later S c r s (labelled own w) s1 w1 inner l1)) sound.2 t.1 fit (λ e. l1.labels))))
+    statement_makes r Own labels breaks continues (core.case_ value body at) tail k s w h sound t fit named =
+        unchanged r s w h (then_makes (then_makes (label_makes value s w (subst (λ j. WordFits j value) (sym (named sound.0)) fit.0)) (λ u s1 w1 l1 v. marked_makes c point.Arm at s1 w1))
+        (λ u s1 w1 l1 v. statement_makes r _ labels breaks continues body false k s1 w1 (stands_later S c r s w s1 w1 h l1) sound.1 t fit.1 (labels_later labels k l1 named)))
+    statement_makes r Own labels breaks continues (core.while_ test body at) tail k s w h sound t fit named =
+        unchanged r s w h (repeat_makes r false (Some test) (statement g c body false) [] at s w h sound.0 t.0 (λ s1 w1 l1. anything (statement_makes r _ false true true body false k s1 w1 (stands_later S c r s w s1 w1 h l1) sound.1 t.1 fit (no_labels k w1))) tt tt)
+    statement_makes r Own labels breaks continues (core.do_ body test at) tail k s w h sound t fit named =
+        unchanged r s w h (repeat_makes r true (Some test) (statement g c body false) [] at s w h sound.0 t.0 (λ s1 w1 l1. anything (statement_makes r _ false true true body false k s1 w1 (stands_later S c r s w s1 w1 h l1) sound.1 t.1 fit (no_labels k w1))) tt tt)
+    statement_makes r Own labels breaks continues (core.for_ objects init test steps body at) tail k s w h sound t fit named =
         let inner = behind_all init (enter objects r) in
-        unchanged r s w h (then_makes (statements_make (enter objects r) _ false false false init false s w (entered r objects s w h) sound.1.1 t.0)
+        unchanged r s w h (then_makes (statements_make (enter objects r) _ false false false init false k s w (entered r objects s w h) sound.1.1 t.0 fit.0 (no_labels k w))
         (λ u s1 w1 l1 now. repeat_makes inner false test (statement g c body false) steps at s1 w1 now sound.2 t.1
-        (λ s2 w2 l2. anything (statement_makes inner _ false true true body false s2 w2 (stands_later S c inner s1 w1 s2 w2 now l2) sound.4 t.3)) sound.3 t.2))
-    statement_makes r Own labels breaks continues core.break_ tail s w h sound t = unchanged r s w h (emit_makes tree.break_ s w tt)
-    statement_makes r Own labels breaks continues core.continue_ tail s w h sound t = unchanged r s w h (emit_makes tree.next_ s w tt)
-    statement_makes r Own labels breaks continues (core.return_ value) tail s w h sound t = unchanged r s w h (returned_makes S c g calls r value tail s w h sound t)
+        (λ s2 w2 l2. anything (statement_makes inner _ false true true body false k s2 w2 (stands_later S c inner s1 w1 s2 w2 now l2) sound.4 t.3 fit.1 (no_labels k w2))) sound.3 t.2))
+    statement_makes r Own labels breaks continues core.break_ tail k s w h sound t fit named = unchanged r s w h (emit_makes tree.break_ s w tt)
+    statement_makes r Own labels breaks continues core.continue_ tail k s w h sound t fit named = unchanged r s w h (emit_makes tree.next_ s w tt)
+    statement_makes r Own labels breaks continues (core.return_ value) tail k s w h sound t fit named = unchanged r s w h (returned_makes S c g calls r value tail s w h sound t)
 
-    other_makes : (r : Reach) (breaks continues : Bool) (other : CoreElseTree) (tail : Bool) (s : State) (w : World s) → Stands S c r s w → ElseSound S r breaks continues other → InElse HasTypes Nowhere other → Makes (Inside Anything) s w (other_branch g c other tail s)
-    other_makes r breaks continues core.no_else tail s w h sound t = inside_makes (λ s0. gives tt s0) s w nothing_stays (λ s1 w1 l1. gives_makes tt)
-    other_makes r breaks continues (core.else_ at body) tail s w h sound t = branch_makes at (statement g c body tail) s w (λ s1 w1 l1. anything (statement_makes r _ false breaks continues body tail s1 w1 (stands_later S c r s w s1 w1 h l1) sound t))
+    other_makes : (r : Reach) (breaks continues : Bool) (other : CoreElseTree) (tail : Bool) (k : CType) (s : State) (w : World s) → Stands S c r s w → ElseSound S r breaks continues other → InElse HasTypes Nowhere other → ElseCasesFit k other → Makes (Inside Anything) s w (other_branch g c other tail s)
+    other_makes r breaks continues core.no_else tail k s w h sound t fit = inside_makes (λ s0. gives tt s0) s w nothing_stays (λ s1 w1 l1. gives_makes tt)
+    other_makes r breaks continues (core.else_ at body) tail k s w h sound t fit =
+        branch_makes at (statement g c body tail) s w (λ s1 w1 l1. anything (statement_makes r _ false breaks continues body tail k s1 w1 (stands_later S c r s w s1 w1 h l1) sound t fit (no_labels k w1)))
 
-    pub statements_make : (r : Reach) (Own : ℕ → Type 0) (labels breaks continues : Bool) (body : CoreStmtTrees) (tail : Bool) (s : State) (w : World s) → Stands S c r s w → StmtsSound S r Own labels breaks continues body → InStmts HasTypes Nowhere body
+    pub statements_make : (r : Reach) (Own : ℕ → Type 0) (labels breaks continues : Bool) (body : CoreStmtTrees) (tail : Bool) (k : CType) (s : State) (w : World s) → Stands S c r s w → StmtsSound S r Own labels breaks continues body → InStmts HasTypes Nowhere body → AllCasesFit k body → AreLabels labels k w
         → Makes (StandsAt S c g calls (behind_all body r)) s w (statements g c body tail s)
-    statements_make r Own labels breaks continues core.no_stmt tail s w h sound t = gives_makes h
-    statements_make r Own labels breaks continues (core.more_stmts first rest) tail s w h sound t =
-        then_makes (statement_makes r Own labels breaks continues first (tail && is_empty rest) s w h sound.0 t.0) (λ u s1 w1 l1 now. statements_make (behind first r) Own labels breaks continues rest tail s1 w1 now sound.1 t.1)
+    statements_make r Own labels breaks continues core.no_stmt tail k s w h sound t fit named = gives_makes h
+    statements_make r Own labels breaks continues (core.more_stmts first rest) tail k s w h sound t fit named =
+        then_makes (statement_makes r Own labels breaks continues first (tail && is_empty rest) k s w h sound.0 t.0 fit.0 named)
+        (λ u s1 w1 l1 now. statements_make (behind first r) Own labels breaks continues rest tail k s1 w1 now sound.1 t.1 fit.1 (labels_later labels k l1 named))

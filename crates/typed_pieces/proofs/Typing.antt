@@ -99,7 +99,7 @@ module _ (f g : Frame) (variables : Begins f.variables g.variables) (arrays : Be
     piece_more (tree.put array subscripts value at) h = ((h.0.0, arrays array.0 h.0.0 h.0.1), each_more subscripts h.1, typed_more value h.2)
     piece_more (tree.fork test left right end) h = (typed_more test h.0, pieces_more left h.1, pieces_more right h.2)
     piece_more (tree.repeat_ id post before test body step end) h = (pieces_more before h.0, typed_more test h.1, pieces_more body h.2, pieces_more step h.3)
-    piece_more (tree.pick test labels body end) h = (typed_more test h.0, pieces_more body h.1)
+    piece_more (tree.pick test labels body end) h = (typed_more test h.0, pieces_more body h.1, h.2)
     piece_more tree.break_ h = tt
     piece_more tree.next_ h = tt
     piece_more (tree.leave call) h = tt

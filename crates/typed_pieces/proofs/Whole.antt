@@ -1,6 +1,7 @@
 -- The pieces of a whole program are typed.
 use Rattle.std.proofs.Common.{◌≡◌, ℕ, refl, sym, subst, arith, List, [], length, take, slice_get, Some}
 use Rattle.std.proofs.lemmas.Option.{none-some}
+use Rattle.c_value.specs.Values.{int_type}
 use Rattle.core_program.specs.Core.{CoreFunctionTree, CoreProgramTree}
 use Rattle.piece_making.specs.declared.frame.Home.{Home}
 use Rattle.piece_making.specs.Making.{State}
@@ -9,8 +10,8 @@ use Rattle.c_expand.specs.Expansion.{calls, outermost, top_call, top_run, top_ma
 use Rattle.expand_calls.specs.Programs.{IsProgramSound}
 use Rattle.typed_pieces.specs.Typed.{PiecesTyped}
 use Rattle.typed_pieces.specs.Types.{ProgramHasTypes}
-use Rattle.typed_pieces.specs.Worlds.{World, Knows, Makes}
-use Rattle.typed_pieces.specs.Laws.{ExpandedPiecesAreTyped}
+use Rattle.typed_pieces.specs.Worlds.{ArraysHaveLengths, World, Knows, Makes}
+use Rattle.typed_pieces.specs.Laws.{ExpandedPiecesAreTyped, ExpandedArraysHaveLengths}
 use Rattle.typed_pieces.proofs.Parts.{later_both, then_makes, gives_makes, fresh_result_makes, call_makes}
 use Rattle.typed_pieces.proofs.Names.{own_later, file_later}
 use Rattle.typed_pieces.proofs.Homes.{AllStand, FileHomes, file_home_at, file_homes_later, KeptFit, kept_later, kept_make, top_parameters_make, top_locals_make, file_homes_make}
@@ -43,10 +44,16 @@ module _ (p : CoreProgramTree) (sound : IsProgramSound p) (types : ProgramHasTyp
       (λ homes s4 w4 l4 own. then_makes (top_call_makes file (length s1.variables) homes s4 w4 (file_homes_later l4 p.file file (subst (λ x. FileHomes s3 p.file x) (sym fs.1) fs.2)) own) (λ own s5 w5 l5 a. gives_makes tt)))))
 
 nothing_made : World nothing
-nothing_made = record { kinds = []; count = refl; noted = λ i k a e n. absurd (none-some k e) }
+nothing_made = record { kinds = []; count = refl; noted = λ i k a e n. absurd (none-some k e); labels = int_type; lengths = λ i a e. absurd (none-some a e) }
 
 pub expanded_typed : ExpandedPiecesAreTyped
 expanded_typed p sound types =
     let fn = sound.top.0 in
     let is_fn = sound.top.1 in
     subst (λ top. PiecesTyped (frame_of (named top (top_made p top))) (named top (top_made p top)).pieces) (sym is_fn) (top_makes p sound types fn is_fn nothing nothing_made).pieces
+
+pub expanded_lengths : ExpandedArraysHaveLengths
+expanded_lengths p sound types =
+    let fn = sound.top.0 in
+    let is_fn = sound.top.1 in
+    subst (λ top. ArraysHaveLengths (named top (top_made p top)).arrays) (sym is_fn) (top_makes p sound types fn is_fn nothing nothing_made).next.lengths

@@ -1,14 +1,17 @@
--- Pieces whose expressions have the types of what they name.
+-- Pieces whose expressions have the types of what they name, and whose labels are words of the promoted type of what is tested.
 use Rattle.std.specs.Prelude.{◌≡◌, slice_get, Some}
 use Rattle.hls_base.specs.declared.number.ArrayId.{ArrayId}
+use Rattle.c_value.specs.Values.{promoted}
 use Rattle.pieces.specs.Trees as tree
 use Rattle.pieces.specs.Trees.{PureTree, PureTrees, PieceTree, PieceTrees}
+use Rattle.pieces.specs.Kind.{kind}
 use Rattle.pieces.specs.Program.{ArrayTree}
 use Rattle.piece_meaning.specs.Pieces.{Frame}
 use Rattle.lower_runs.specs.Suits.{Suits, EachSuits, scope_of}
 use Rattle.lowered_conversions.specs.Suiting as scoped
 use Rattle.lowered_conversions.specs.Suiting.{PureSuits}
 use Rattle.lower_control.specs.Holding.{none_hidden, IsThere}
+use Rattle.valid_lowering.specs.Proper.{LabelsFit}
 
 -- each node is of a type of C, which is that of the variable, of the array or of what the operator gives
 abbrev pub IsTyped : Frame → PureTree → Type 0
@@ -27,7 +30,7 @@ abbrev mutual
   PieceTyped f (tree.put array subscripts value at) = IsArrayThere f array × AreTyped f subscripts × IsTyped f value
   PieceTyped f (tree.fork test left right end) = IsTyped f test × PiecesTyped f left × PiecesTyped f right
   PieceTyped f (tree.repeat_ id post before test body step end) = PiecesTyped f before × IsTyped f test × PiecesTyped f body × PiecesTyped f step
-  PieceTyped f (tree.pick test labels body end) = IsTyped f test × PiecesTyped f body
+  PieceTyped f (tree.pick test labels body end) = IsTyped f test × PiecesTyped f body × LabelsFit (promoted (kind test)) labels
   PieceTyped f tree.break_ = Unit {0}
   PieceTyped f tree.next_ = Unit {0}
   PieceTyped f (tree.leave call) = Unit {0}

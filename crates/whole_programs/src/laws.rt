@@ -9,7 +9,7 @@ pub fn well_timed_is_ready()
     ensures { WellTimedIsReady }
 {}
 
-/// So has each program that is laid out and scheduled from fine pieces, where no element has more subscripts than its array has dimensions.
+/// So has each program that is laid out and scheduled from fine pieces, where each element has as many subscripts as its array has dimensions.
 pub fn scheduled_is_ready()
     ensures { ScheduledIsReady }
 {

@@ -1,0 +1,4 @@
+//! Pieces of expanded programs are proper.
+#![tactic(auto)]
+
+pub mod laws;
