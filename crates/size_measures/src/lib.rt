@@ -1,0 +1,2 @@
+//! How large programs, pieces and trees of blocks are, as definitions.
+#![tactic(auto)]
