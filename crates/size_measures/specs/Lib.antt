@@ -1,3 +1,4 @@
 pub mod Lands
 pub mod Objects
+pub mod Small
 pub mod Totals
