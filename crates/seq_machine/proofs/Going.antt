@@ -33,7 +33,7 @@ use Rattle.seq_machine.specs.Rest.{HasRoom, next_of, block_rest, node_rest, rest
 
 -- ---- runs behind points
 
-abbrev Run : Type 0
+abbrev pub Run : Type 0
 Run = Ran Words (Option ℕ)
 
 pub behind_none : {S A : Type 0} (r : Ran S A) → r ≡ behind [] r
@@ -110,7 +110,7 @@ room_kept cfg old new h k p = record { bodies = λ i it e. fits_kept old new (bo
 
 -- ---- where a machine begins a node
 
-by_halt : (cfg : Cfg Untimed) (s : State) (h : Halt) (k n : ℕ) → s.halt ≡ h → rest cfg s k n ≡ rest_by h cfg s k n
+pub by_halt : (cfg : Cfg Untimed) (s : State) (h : Halt) (k n : ℕ) → s.halt ≡ h → rest cfg s k n ≡ rest_by h cfg s k n
 by_halt cfg s h k n e = ap (λ x. rest_by x cfg s k n) e
 
 begins_at : (cfg : Cfg Untimed) (s : State) (k n : ℕ) (it : Option (Node Untimed)) → s.position ≡ 0 → node_rest cfg k s it n ≡ node_then (shapes_of cfg.frame) (λ j t1 n1. from_node k (shapes_of cfg.frame) cfg.nodes.items j t1 n1) it (words_of s) n
@@ -131,7 +131,7 @@ gone cfg (ends w) t s k n h = sym (by_halt cfg s halt.Ended k n h.0 ∙ ap (λ x
 -- ---- a step in a block
 
 -- a block's point is passed at its beginning
-entered : (cfg : Cfg Untimed) (s : State) (block : Block Untimed) → slice_get cfg.nodes.items s.node.0 ≡ Some (node.Plain block) → s.halt ≡ halt.Running
+pub entered : (cfg : Cfg Untimed) (s : State) (block : Block Untimed) → slice_get cfg.nodes.items s.node.0 ≡ Some (node.Plain block) → s.halt ≡ halt.Running
     → (k n : ℕ) → rest cfg s k (length (point_if (s.position == 0) block.point) + n) ≡ behind (point_if (s.position == 0) block.point) (block_rest cfg k s block n)
 entered cfg s block at runs =
     let here : (k n : ℕ) → rest cfg s k n ≡ node_rest cfg k s (Some (node.Plain block)) n = λ k n. by_halt cfg s halt.Running k n runs ∙ ap (λ it. node_rest cfg k s it n) at in
@@ -158,20 +158,24 @@ valued_any : (e : End) (b : Body Untimed) (v : Valued Ranged) (t u : Words) (n :
 valued_any e b (is r) t u n = refl
 valued_any e b (faulty rule at) t u n = refl
 
+-- behind an operation
+pub operation_done : (cfg : Cfg Untimed) (block : Block Untimed) (old new : State) → slice_get cfg.nodes.items old.node.0 ≡ Some (node.Plain block) → new.halt ≡ halt.Running → new.node ≡ old.node → new.position ≡ old.position + 1
+    → left_in (shapes_of cfg.frame) block.body old ≡ left_in (shapes_of cfg.frame) block.body new → (k n : ℕ) → block_rest cfg k old block n ≡ rest cfg new k n
+operation_done cfg block old new at runs same_node next same k n =
+    let there : slice_get cfg.nodes.items new.node.0 ≡ Some (node.Plain block) = ap (λ (i : NodeId). slice_get cfg.nodes.items i.0) same_node ∙ at in
+    let later : new.position ≡ 0 → ⊥ = λ e. omega (arith, e, next) in
+    ap (λ v. then_ (valued v (block_left block.end (body_of block.body)) (words_of old) n) (λ g t1 n1. next_of cfg k g t1 n1)) same
+    ∙ ap (λ r. then_ r (λ g t1 n1. next_of cfg k g t1 n1)) (valued_any block.end block.body (left_in (shapes_of cfg.frame) block.body new) (words_of old) (words_of new) n)
+    ∙ sym (by_halt cfg new halt.Running k n runs ∙ ap (λ it. node_rest cfg k new it n) there ∙ ap (λ b. if b then then_ (node_run (shapes_of cfg.frame) (node.Plain block) (words_of new) n) (λ g t1 n1. next_of cfg k g t1 n1) else block_rest cfg k new block n) (ne_eqb new.position 0 later))
+
 -- behind the point
 stepped_rest : (cfg : Cfg Untimed) (block : Block Untimed) (old new : State) → slice_get cfg.nodes.items old.node.0 ≡ Some (node.Plain block) → HasStepped (shapes_of cfg.frame) block.body block.end old new
     → (nodes : ℕ) × (nodes ≤ 1) × ((k n : ℕ) → block_rest cfg (nodes + k) old block n ≡ rest cfg new k n)
-stepped_rest cfg block old new at (one_less runs same_node next same) =
-    let there : slice_get cfg.nodes.items new.node.0 ≡ Some (node.Plain block) = ap (λ (i : NodeId). slice_get cfg.nodes.items i.0) same_node ∙ at in
-    let later : new.position ≡ 0 → ⊥ = λ e. omega (arith, e, next) in (
-      0,
-      omega arith,
-      λ k n.
-          ap (λ j. block_rest cfg j old block n) (let e : 0 + k ≡ k = omega arith in e)
-          ∙ ap (λ v. then_ (valued v (block_left block.end (body_of block.body)) (words_of old) n) (λ g t1 n1. next_of cfg k g t1 n1)) same
-          ∙ ap (λ r. then_ r (λ g t1 n1. next_of cfg k g t1 n1)) (valued_any block.end block.body (left_in (shapes_of cfg.frame) block.body new) (words_of old) (words_of new) n)
-          ∙ sym (by_halt cfg new halt.Running k n runs ∙ ap (λ it. node_rest cfg k new it n) there ∙ ap (λ b. if b then then_ (node_run (shapes_of cfg.frame) (node.Plain block) (words_of new) n) (λ g t1 n1. next_of cfg k g t1 n1) else block_rest cfg k new block n) (ne_eqb new.position 0 later)),
-    )
+stepped_rest cfg block old new at (one_less more runs same_node next same) = (
+  0,
+  omega arith,
+  λ k n. ap (λ j. block_rest cfg j old block n) (let e : 0 + k ≡ k = omega arith in e) ∙ operation_done cfg block old new at runs same_node next same k n,
+)
 stepped_rest cfg block old new at (undefined_ broken stopped same) = (
   0,
   omega arith,
@@ -197,19 +201,19 @@ block_goes cfg block old new at runs step =
 
 -- ---- a step in a loop
 
-abbrev round_next : Cfg Untimed → Loop Untimed → ℕ → Turn → Words → ℕ → Ran Words Turn
+abbrev pub round_next : Cfg Untimed → Loop Untimed → ℕ → Turn → Words → ℕ → Ran Words Turn
 round_next cfg region n w t1 n1 = if_again w (repeat n (iteration (shapes_of cfg.frame) region.point (body_of region.body))) t1 n1
 
-abbrev turn_way : Turn → Words → ℕ → Ran Words Way
+abbrev pub turn_way : Turn → Words → ℕ → Ran Words Way
 turn_way w t1 n1 = goes (way_behind w) t1 n1
 
-abbrev loop_end : Loop Untimed → Way → Words → ℕ → Ran Words Going
+abbrev pub loop_end : Loop Untimed → Way → Words → ℕ → Ran Words Going
 loop_end region w t1 n1 = goes (to region.next.0) t1 n1
 
-abbrev looped : Cfg Untimed → ℕ → Loop Untimed → ℕ → Ran Words Turn → Run
+abbrev pub looped : Cfg Untimed → ℕ → Loop Untimed → ℕ → Ran Words Turn → Run
 looped cfg k region n r = then_ (then_ (then_ (then_ r (round_next cfg region n)) turn_way) (loop_end region)) (next_of cfg k)
 
-in_loop : (cfg : Cfg Untimed) (s : State) (region : Loop Untimed) (k n : ℕ) → slice_get cfg.nodes.items s.node.0 ≡ Some (node.Looped region) → s.halt ≡ halt.Running
+pub in_loop : (cfg : Cfg Untimed) (s : State) (region : Loop Untimed) (k n : ℕ) → slice_get cfg.nodes.items s.node.0 ≡ Some (node.Looped region) → s.halt ≡ halt.Running
     → rest cfg s k n ≡ looped cfg k region n (iteration (shapes_of cfg.frame) region.point (body_of region.body) (words_of s) n)
 in_loop cfg s region k n at runs = by_halt cfg s halt.Running k n runs ∙ ap (λ it. node_rest cfg k s it n) at
 
@@ -233,6 +237,17 @@ stopped_at cfg region old new points broken at runs does stopped = record {
       ∙ ap (behind points) (sym (by_halt cfg new (halt.Undefined broken.rule broken.place) k n stopped));
 }
 
+-- an iteration whose operations all have a meaning, and its point before it
+pub iterated_once : (cfg : Cfg Untimed) (region : Loop Untimed) (old mid : State) (done : Unit {0}) → slice_get cfg.nodes.items old.node.0 ≡ Some (node.Looped region) → old.halt ≡ halt.Running
+    → HasIterated (shapes_of cfg.frame) region.point region.body (round.Passed (Ok done)) old mid → Stays old mid → (k n : ℕ) → rest cfg old k (1 + n) ≡ behind (region.point ∷ []) (rest cfg (moved region.next (round.Passed (Ok done)) mid) k n)
+iterated_once cfg region old mid done at runs does stays k n =
+    let next = moved region.next (round.Passed (Ok done)) mid in
+    let there : slice_get cfg.nodes.items next.node.0 ≡ Some (node.Looped region) = ap (λ (i : NodeId). slice_get cfg.nodes.items i.0) stays.node ∙ at in
+    ap (rest cfg old k) (let e : 1 + n ≡ suc n = omega arith in e)
+    ∙ in_loop cfg old region k (suc n) at runs
+    ∙ ap (looped cfg k region (suc n)) (ap (iteration (shapes_of cfg.frame) region.point (body_of region.body) (words_of old)) (let e : suc n ≡ 1 + n = omega arith in e) ∙ does n)
+    ∙ sym (ap (behind (region.point ∷ [])) (in_loop cfg next region k n there (stays.halt ∙ runs)))
+
 pub loop_goes : (cfg : Cfg Untimed) (region : Loop Untimed) (old mid new : State) (r : Round) → slice_get cfg.nodes.items old.node.0 ≡ Some (node.Looped region) → old.halt ≡ halt.Running
     → HasIterated (shapes_of cfg.frame) region.point region.body r old mid → Stays old mid → new ≡ moved region.next r mid → Passes (point_if (is_passed r) region.point) 1 (rest cfg old) (rest cfg new)
 loop_goes cfg region old mid new (round.Undefined broken) at runs does stays is_ =
@@ -248,16 +263,10 @@ loop_goes cfg region old mid new round.Over at runs does stays is_ =
           ∙ gone cfg (to region.next.0) (words_of mid) next k n (stays.halt ∙ runs, refl, refl, refl);
     })
 loop_goes cfg region old mid new (round.Passed (Ok done)) at runs does stays is_ =
-    let next = moved region.next (round.Passed (Ok done)) mid in
-    let there : slice_get cfg.nodes.items next.node.0 ≡ Some (node.Looped region) = ap (λ (i : NodeId). slice_get cfg.nodes.items i.0) stays.node ∙ at in
     subst (λ (s : State). Passes (region.point ∷ []) 1 (rest cfg old) (rest cfg s)) (sym is_) (record {
       nodes = 0;
       few_nodes = omega arith;
-      same = λ k n.
-          ap (λ j. rest cfg old j (1 + n)) (let e : 0 + k ≡ k = omega arith in e) ∙ ap (rest cfg old k) (let e : 1 + n ≡ suc n = omega arith in e)
-          ∙ in_loop cfg old region k (suc n) at runs
-          ∙ ap (looped cfg k region (suc n)) (ap (iteration (shapes_of cfg.frame) region.point (body_of region.body) (words_of old)) (let e : suc n ≡ 1 + n = omega arith in e) ∙ does n)
-          ∙ sym (ap (behind (region.point ∷ [])) (in_loop cfg next region k n there (stays.halt ∙ runs)));
+      same = λ k n. ap (λ j. rest cfg old j (1 + n)) (let e : 0 + k ≡ k = omega arith in e) ∙ iterated_once cfg region old mid done at runs does stays k n;
     })
 loop_goes cfg region old mid new (round.Passed (Err broken)) at runs does stays is_ =
     stopped_at cfg region old new (region.point ∷ []) broken at runs does (ap (λ (s : State). s.halt) is_)

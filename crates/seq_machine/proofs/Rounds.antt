@@ -61,7 +61,7 @@ stepped sh b end old mid new (Ok u) op p h e runs does next results words stays 
     let there : left_in sh b mid ≡ left_in sh b old =
     ap (λ k. operations sh (map op_of b.ops.items) (map op_of (drop k b.ops.items)) (results_of mid) (words_of mid)) next
     ∙ ap (operations sh (map op_of b.ops.items) (map op_of (drop (old.position + 1) b.ops.items)) (results_of mid)) (sym words) ∙ part in
-    subst (HasStepped sh b end old) (sym is_) (one_less (stays.halt ∙ runs) stays.node next (sym there))
+    subst (HasStepped sh b end old) (sym is_) (one_less h (stays.halt ∙ runs) stays.node next (sym there))
 stepped sh b end old mid new (Err f) op p h e runs does next results words stays is_ =
     subst (HasStepped sh b end old) (sym is_) (undefined_ f refl (part_stops sh (map op_of b.ops.items) b.ops.items old.position op (results_of old) (words_of old) f.rule f.place h e does))
 

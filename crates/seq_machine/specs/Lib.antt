@@ -3,3 +3,4 @@ pub mod Sizes
 pub mod States
 pub mod Steps
 pub mod Rest
+pub mod Nearing

@@ -1,5 +1,5 @@
 -- What a step of a state does, as the definition of a run of blocks has it.
-use Rattle.std.specs.Prelude.{◌≡◌, ℕ, ◌+◌, Bool, true, false, List, [], ◌∷◌, ◌++◌, length, map, drop, Option, Some, None, Ok, Err}
+use Rattle.std.specs.Prelude.{◌≡◌, ℕ, ◌+◌, ◌<◌, Bool, true, false, List, [], ◌∷◌, ◌++◌, length, map, drop, Option, Some, None, Ok, Err}
 use Rattle.hls_base.specs.declared.point.Point.{Point}
 use Rattle.ir_core.specs.declared.body.Body.{Body}
 use Rattle.ir_core.specs.declared.cfg.End.{End}
@@ -31,7 +31,7 @@ left_in shapes b s = operations shapes (map op_of b.ops.items) (map op_of (drop 
 
 -- A step in a block: one operation less is left; or an operation has no meaning; or none was left, and the block is left.
 pub data HasStepped (shapes : Shapes) (b : Body Untimed) (end : End) (old new : State) : Type 0 where
-  one_less : (running : new.halt ≡ halt.Running) (node : new.node ≡ old.node) (position : new.position ≡ old.position + 1) (same : left_in shapes b old ≡ left_in shapes b new) → HasStepped shapes b end old new
+  one_less : (more : old.position < length b.ops.items) (running : new.halt ≡ halt.Running) (node : new.node ≡ old.node) (position : new.position ≡ old.position + 1) (same : left_in shapes b old ≡ left_in shapes b new) → HasStepped shapes b end old new
   undefined_ : (broken : Broken) (stopped : new.halt ≡ halt.Undefined broken.rule broken.place) (same : left_in shapes b old ≡ faulty broken.rule broken.place) → HasStepped shapes b end old new
   left_behind : (none : left_in shapes b old ≡ is (ranged_of old)) (gone : HasGone (going end (words_of old) (results_of old)) (with_outs b.outs.items (ranged_of old)) new) → HasStepped shapes b end old new
 

@@ -10,6 +10,7 @@ ghost use Rattle.hls_base.specs.declared.refusal.UbRule.{UbRule};
 ghost use Rattle.machine_laws.specs.Halts.{HasHalted, is_ended};
 ghost use Rattle.machine_memory.specs.Contents.{dims_in, dims_at, element_in};
 ghost use Rattle.seq_machine.specs.Rest.{IsWhole, HasRoom, GoesOn, Passes, rest, beginning, EndsSo, FailsSo};
+ghost use Rattle.seq_machine.specs.Nearing.{IsOver, IsOverWithin, whole_run_steps};
 ghost use Rattle.seq_machine.specs.States.{words_of};
 ghost use Rattle.seq_machine.specs.Steps.{listed};
 
@@ -50,6 +51,9 @@ impl<'a> SeqMachine<'a> {
         ensures program { IfOk result (λ m. m.cfg.now ≡ cfg.now) }
         ensures begins { IfOk result (λ m. IsWhole cfg.now →
             GoesOn 0 (beginning cfg.now (first_words cfg.now.frame inputs.now)) (rest m.cfg.now m.state)) }
+        ensures ends { IfOk result (λ m. IsWhole cfg.now → (n : ℕ) →
+            IsOver (flat_run cfg.now (first_words cfg.now.frame inputs.now) n) →
+            IsOverWithin (whole_run_steps cfg.now n) m.cfg.now m.state) }
     {
         let state = State::new(alloc, cfg, inputs)?;
         Ok(SeqMachine { cfg, state })
@@ -81,6 +85,9 @@ impl<'a> SeqMachine<'a> {
         ensures passes { IsWhole self.old.cfg.now →
             Passes (listed (option_map (λ point. point.now) result)) 1 (rest self.old.cfg.now self.old.state)
             (rest self.new.cfg.now self.new.state) }
+        ensures nears { IsWhole self.old.cfg.now → (most : ℕ) →
+            IsOverWithin (most + 1) self.old.cfg.now self.old.state →
+            IsOverWithin most self.new.cfg.now self.new.state }
         ensures program { self.new.cfg.now ≡ self.old.cfg.now }
     {
         if is_running(self.state.halt) {
@@ -94,6 +101,9 @@ impl<'a> SeqMachine<'a> {
     fn go_on(&mut self, steps: u64)
         ensures goes_on { IsWhole self.old.cfg.now →
             GoesOn steps (rest self.old.cfg.now self.old.state) (rest self.new.cfg.now self.new.state) }
+        ensures nears { IsWhole self.old.cfg.now → (most : ℕ) →
+            IsOverWithin (steps + most) self.old.cfg.now self.old.state →
+            IsOverWithin most self.new.cfg.now self.new.state }
         ensures program { self.new.cfg.now ≡ self.old.cfg.now }
     {
         for _ in 0..steps {
@@ -113,6 +123,9 @@ impl<'a> Machine<Untimed> for SeqMachine<'a> {
         ensures stays { HasHalted self.old.state.halt → self.new ≡ self.old }
         ensures goes_on { IsWhole self.old.cfg.now →
             GoesOn 1 (rest self.old.cfg.now self.old.state) (rest self.new.cfg.now self.new.state) }
+        ensures nears { IsWhole self.old.cfg.now → (most : ℕ) →
+            IsOverWithin (most + 1) self.old.cfg.now self.old.state →
+            IsOverWithin most self.new.cfg.now self.new.state }
         ensures program { self.new.cfg.now ≡ self.old.cfg.now }
     {
         self.pass();
@@ -125,6 +138,12 @@ impl<'a> Machine<Untimed> for SeqMachine<'a> {
         ensures none { steps ≡ 0 → self.new ≡ self.old }
         ensures goes_on { IsWhole self.old.cfg.now →
             GoesOn steps (rest self.old.cfg.now self.old.state) (rest self.new.cfg.now self.new.state) }
+        ensures nears { IsWhole self.old.cfg.now → (most : ℕ) →
+            IsOverWithin (steps + most) self.old.cfg.now self.old.state →
+            IsOverWithin most self.new.cfg.now self.new.state }
+        ensures halts { IsWhole self.old.cfg.now → (most : ℕ) →
+            IsOverWithin most self.old.cfg.now self.old.state → most ≤ steps →
+            HasHalted self.new.state.halt }
         ensures program { self.new.cfg.now ≡ self.old.cfg.now }
     {
         if steps > 0 && is_running(self.state.halt) {

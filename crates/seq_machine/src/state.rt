@@ -11,6 +11,7 @@ ghost use Rattle.seq_machine.specs.Held.{shapes, IsThere, found};
 ghost use Rattle.seq_machine.specs.Sizes.{HasArgs};
 ghost use Rattle.seq_machine.specs.States.{results_of, words_of, ranged_of, Keeps, Stays, FitsBody, ArraysThere, VariablesThere, IsThereIn, settled};
 ghost use Rattle.seq_machine.specs.Rest.{IsWhole, HasRoom, Passes, rest, moved};
+ghost use Rattle.seq_machine.specs.Nearing.{IsOverWithin};
 ghost use Rattle.seq_machine.specs.Steps as steps;
 ghost use Rattle.seq_machine.specs.Steps.{HasGone, HasStepped, HasIterated, listed};
 
@@ -332,6 +333,8 @@ impl State {
         requires running { self.old.halt ≡ Halt.Running }
         ensures passes { IsWhole cfg.now →
             Passes (listed (option_map (λ point. point.now) result)) 1 (rest cfg.now self.old) (rest cfg.now self.new) }
+        ensures nears { IsWhole cfg.now → (most : ℕ) →
+            IsOverWithin (most + 1) cfg.now self.old → IsOverWithin most cfg.now self.new }
         ensures room { HasRoom cfg.now self.new }
     {
         let index = self.node.0 as usize;

@@ -14,6 +14,7 @@ use Rattle.seq_machine.specs.Sizes.{body_in}
 use Rattle.hls_base.specs.declared.point.Point.{Point}
 use Rattle.seq_machine.specs.Rest.{IsWhole, HasRoom, Passes, rest}
 use Rattle.seq_machine.proofs.Going.{block_goes, loop_goes}
+use Rattle.seq_machine.proofs.Nearing.{nearer_within, block_nears, loop_nears}
 use Rattle.seq_machine.proofs.state.State.advance.Goals as goal
 
 there : (cfg : Cfg Untimed) (s : State) (it : Node Untimed) → HasRoom cfg s → slice_get cfg.nodes.items s.node.0 ≡ Some it → IsWhole cfg → IsThereIn s (body_in it)
@@ -64,3 +65,31 @@ returns-in-Looped-clause-passes c = λ whole.
     let by_dims : List (List ℕ) → Type 0 = λ dims. HasIterated (shapes cfg.frame.variables.items dims) region.point region.body round s mid in
     subst (λ (points : List Point). Passes points 1 (rest cfg s) (rest cfg c.turn.new.self)) (sym (c.point_if-in-Looped.ensures ∙ ap (λ (b : Bool). point_if b region.point) c.is_passed.ensures))
     (loop_goes cfg region s mid c.turn.new.self round at c.requires.running (subst by_dims c.requires.room.dims (subst by_widths c.deref-in-Looped.ensures.value does)) c.iterate-round.ensures.stays c.turn.ensures)
+
+pub returns-in-Plain-clause-nears : goal.returns-in-Plain-clause-nears
+returns-in-Plain-clause-nears c = λ whole most within.
+    let cfg = c.args.cfg.now in
+    let s = c.args.self.now in
+    let block = c.in-Plain.block in
+    let new = c.block_step.new.self in
+    let inside : s.node.0 < length cfg.nodes.items = omega (arith, c.if-index-len.false, c.len.ensures, cfg.nodes.ok.0) in
+    let at = slice_get-get_or cfg.nodes.items s.node.0 c.index.result.now inside ∙ ap Some (sym c.index.ensures ∙ c.in-Plain.is) in
+    let does = c.block_step.ensures.does (there cfg s (node.Plain block) c.requires.room at whole) in
+    let by_widths : List ℕ → Type 0 = λ widths. HasStepped (shapes widths (dims_in s.memories)) block.body block.end s new in
+    let by_dims : List (List ℕ) → Type 0 = λ dims. HasStepped (shapes cfg.frame.variables.items dims) block.body block.end s new in
+    nearer_within most cfg s new (λ k n over. block_nears cfg block s new at c.requires.running (subst by_dims c.requires.room.dims (subst by_widths c.deref.ensures.value does)) k n over) within
+
+pub returns-in-Looped-clause-nears : goal.returns-in-Looped-clause-nears
+returns-in-Looped-clause-nears c = λ whole most within.
+    let cfg = c.args.cfg.now in
+    let s = c.args.self.now in
+    let region = c.in-Looped.region in
+    let mid = c.iterate-round.new.self in
+    let round = c.iterate-round.result in
+    let inside : s.node.0 < length cfg.nodes.items = omega (arith, c.if-index-len.false, c.len.ensures, cfg.nodes.ok.0) in
+    let at = slice_get-get_or cfg.nodes.items s.node.0 c.index.result.now inside ∙ ap Some (sym c.index.ensures ∙ c.in-Looped.is) in
+    let does = c.iterate-round.ensures.does (there cfg s (node.Looped region) c.requires.room at whole) in
+    let by_widths : List ℕ → Type 0 = λ widths. HasIterated (shapes widths (dims_in s.memories)) region.point region.body round s mid in
+    let by_dims : List (List ℕ) → Type 0 = λ dims. HasIterated (shapes cfg.frame.variables.items dims) region.point region.body round s mid in
+    nearer_within most cfg s c.turn.new.self
+    (λ k n over. loop_nears cfg region s mid c.turn.new.self round at c.requires.running (subst by_dims c.requires.room.dims (subst by_widths c.deref-in-Looped.ensures.value does)) c.iterate-round.ensures.stays c.turn.ensures k n over) within
