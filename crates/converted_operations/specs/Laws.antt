@@ -8,12 +8,13 @@ use Rattle.conversion.specs.Conversion.{converted_sequence}
 use Rattle.size_measures.specs.Totals.{operations, settings, sequence_total}
 use Rattle.operation_count.specs.Forks.{sequence_additions}
 
--- No more operations than before, as many settings, and no more that the conversion of forks may add.
+-- No more operations than before, as many settings, and no more operations that the conversion of forks may add.
 pub record HasFewer (before after : SequenceTree) : Type 0 where
   pub operations : sequence_total operations after ≤ sequence_total operations before
   pub settings : sequence_total settings after ≡ sequence_total settings before
   pub additions : sequence_additions after ≤ sequence_additions before
 
+-- Numbering leaves no more operations.
 abbrev pub NumberedOperationsAreFewer : Type 0
 NumberedOperationsAreFewer = (scope : numbering.Scope) (s : SequenceTree) → HasFewer s (numbered_sequence scope s)
 
@@ -22,5 +23,6 @@ pub record IsBounded (before after : SequenceTree) : Type 0 where
   pub operations : sequence_total operations after ≤ sequence_total operations before + sequence_additions before
   pub settings : sequence_total settings after ≤ sequence_total settings before
 
+-- Conversion adds no more operations than are counted of the forks that it may merge.
 abbrev pub ConvertedOperationsAreBounded : Type 0
 ConvertedOperationsAreBounded = (scope : conversion.Scope) (s : SequenceTree) → IsBounded s (converted_sequence scope s)
