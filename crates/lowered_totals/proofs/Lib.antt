@@ -1,0 +1,5 @@
+pub mod Work
+pub mod Copies
+pub mod Within
+pub mod Arms
+pub mod Trees

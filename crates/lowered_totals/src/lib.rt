@@ -1,0 +1,4 @@
+//! How large the trees of blocks of lowered pieces are.
+#![tactic(auto)]
+
+pub mod laws;
