@@ -1,0 +1,7 @@
+//! Laws of the sizes of expanded programs.
+ghost use Rattle.expanded_sizes.specs.Laws.{ExpansionsAreSmall};
+
+/// What a program is expanded to weighs no more than its expansion, has few places behind calls that were left, and has few enough variables and arrays that there are numbers for them.
+pub fn expansions_are_small()
+    ensures { ExpansionsAreSmall }
+{}

@@ -1,0 +1,4 @@
+//! How large expanded programs are.
+#![tactic(auto)]
+
+pub mod laws;
