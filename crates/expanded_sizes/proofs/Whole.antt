@@ -1,5 +1,5 @@
 -- Whole programs: what weight pays for in them, and how small they are.
-use Rattle.std.proofs.Common.{◌≡◌, ◌≤◌, ℕ, true, arith, refl, ap, List, [], ◌∷◌, ◌++◌, length, length-append, Option, Some, None}
+use Rattle.std.proofs.Common.{◌≡◌, ◌≤◌, ◌+◌, ℕ, true, arith, refl, ap, List, [], ◌∷◌, ◌++◌, length, length-append, Option, Some, None}
 use Rattle.std.specs.Prelude.{take, drop}
 use Rattle.std.proofs.lemmas.List.{take-append-drop}
 use Rattle.hls_base.specs.declared.number.Kept.{Kept}
@@ -11,8 +11,10 @@ use Rattle.piece_making.specs.Making.{State, gives, then_, fresh}
 use Rattle.piece_making.specs.Objects.{host_array, file_array, file_info, array_like, array_weight}
 use Rattle.piece_making.specs.Calls.{point_in}
 use Rattle.c_expand.specs.Expansion.{is_array, is_kept, kept_scalar, kept_scalars, file_home, kept_behind, file_homes, top_parameter, top_parameters, outermost, top_call, top_run, top_made, nothing, named, top_of, calls}
+use Rattle.pieces.specs.Weight.{piece_weights}
+use Rattle.size_measures.specs.Lands.{land_count}
 use Rattle.size_measures.specs.Objects.{HasFewObjects}
-use Rattle.expanded_sizes.specs.Laws.{IsSmall, ExpansionsAreSmall}
+use Rattle.expanded_sizes.specs.Laws.{IsSmall, ExpansionsAreSmall, ExpansionsAreWeighed}
 use Rattle.expanded_sizes.proofs.Accounts.{Account, IsPaid, nothing_owed, owing, begun, gives_paid, then_paid, if_paid, without_owing, eased}
 use Rattle.expanded_sizes.proofs.Parts.{mark_paid, declared_paid, fresh_paid, result_paid, array_paid, call_paid}
 use Rattle.expanded_sizes.proofs.Calls.{HaveFew, locals_paid, through_paid, calls_paid}
@@ -100,3 +102,17 @@ expansions_small p few = by (top_of p) refl where
   by : (f : Option CoreFunctionTree) → top_of p ≡ f → (top_made p f).weight ≤ 8192 → IsSmall (named f (top_made p f))
   by None e light = record { weight = omega arith; lands = omega arith; variables = omega arith; arrays = omega arith }
   by (Some fn) e light = top_small p few fn e light
+
+-- ---- what their pieces weigh
+
+weighed_as : (p : CoreProgramTree) → HasFewObjects p → (f : Option CoreFunctionTree) → top_of p ≡ f
+    → (piece_weights (named f (top_made p f)).pieces ≤ (top_made p f).weight) × (land_count (named f (top_made p f)).pieces ≤ (top_made p f).weight + 1)
+weighed_as p few None e = (omega arith, omega arith)
+weighed_as p few (Some fn) e =
+    let h : IsPaid (begun nothing_owed) (λ x. owing 1 0 (top_owed fn)) nothing (top_run p fn nothing) = top_run_paid p few fn in
+    let w = h.weight in
+    let l = h.lands in
+    (omega (arith, w), omega (arith, l))
+
+pub expansions_weighed : ExpansionsAreWeighed
+expansions_weighed p few = let x = weighed_as p few (top_of p) refl in record { weight = x.0; lands = x.1 }

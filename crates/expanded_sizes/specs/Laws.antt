@@ -1,5 +1,5 @@
 -- How large the programs are that core programs are expanded to.
-use Rattle.std.specs.Prelude.{◌≤◌, ◌<◌, ◌^◌, length}
+use Rattle.std.specs.Prelude.{◌+◌, ◌≤◌, ◌<◌, ◌^◌, length}
 use Rattle.core_program.specs.Core.{CoreProgramTree}
 use Rattle.c_expand.specs.Expansion.{expansion, expanded_weight}
 use Rattle.pieces.specs.Program.{ExpandedTree}
@@ -17,3 +17,11 @@ pub record IsSmall (e : ExpandedTree) : Type 0 where
 -- What a program is expanded to that weighs no more than it may: its pieces weigh as little, and there are numbers for its variables and arrays.
 abbrev pub ExpansionsAreSmall : Type 0
 ExpansionsAreSmall = (p : CoreProgramTree) → HasFewObjects p → expanded_weight p ≤ 8192 → IsSmall (expansion p)
+
+-- The pieces weigh no more than the program does, and at most one call more than weighs has a place behind it: that of the top function.
+pub record IsWeighed (p : CoreProgramTree) : Type 0 where
+  pub weight : piece_weights (expansion p).pieces ≤ expanded_weight p
+  pub lands : land_count (expansion p).pieces ≤ expanded_weight p + 1
+
+abbrev pub ExpansionsAreWeighed : Type 0
+ExpansionsAreWeighed = (p : CoreProgramTree) → HasFewObjects p → IsWeighed p
