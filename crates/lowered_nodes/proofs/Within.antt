@@ -14,8 +14,8 @@ use Rattle.lowering.specs.Lowering.{Rest, last, followed, parts_of, side_from, w
 use Rattle.ir_layout.specs.Sizes.{sequence_size, parts_size, shape_size, side_size, arms_size}
 use Rattle.size_measures.specs.Totals.{parts_total, shape_total, side_total, arms_total, sequence_forks, parts_forks, shape_forks, side_forks, arms_forks}
 use Rattle.lowered_sizes.proofs.Blocks.{size, test_adds, fork_adds, cases_adds}
-use Rattle.lowered_totals.proofs.Work.{sizes, sequence_double, sequence_at_most_double, parts_at_most_double}
-use Rattle.lowered_totals.proofs.Copies.{with_copies_work, with_copies_nodes, with_copies_forks}
+use Rattle.lowered_nodes.proofs.Work.{sizes, sequence_double, sequence_at_most_double, parts_at_most_double}
+use Rattle.lowered_nodes.proofs.Copies.{with_copies_work, with_copies_nodes, with_copies_forks}
 
 -- ---- sequences
 

@@ -13,10 +13,10 @@ use Rattle.lowering.specs.Lowering.{Rest, last, land_of, own_step, is_named, low
 use Rattle.size_measures.specs.Lands.{piece_lands, land_count}
 use Rattle.size_measures.specs.Small.{IsSmallTree}
 use Rattle.lowered_sizes.proofs.Blocks.{size, set_adds, put_adds, where_live, exit_adds}
-use Rattle.lowered_totals.specs.Laws.{AreLight}
-use Rattle.lowered_totals.proofs.Work.{sequence_work, sequence_at_most_double}
-use Rattle.lowered_totals.proofs.Within.{IsWithin, Adds, wider, added_within, last_adds, test_within, followed_within, land_worth, side_within, fork_worth, round_within, loop_worth, AreWithin, switch_worth}
-use Rattle.lowered_totals.proofs.Arms.{weight_before, lands_before, one_if, labels_ahead, one_ahead, ahead_at_most}
+use Rattle.lowered_nodes.specs.Laws.{AreLight}
+use Rattle.lowered_nodes.proofs.Work.{sequence_work, sequence_at_most_double}
+use Rattle.lowered_nodes.proofs.Within.{IsWithin, Adds, wider, added_within, last_adds, test_within, followed_within, land_worth, side_within, fork_worth, round_within, loop_worth, AreWithin, switch_worth}
+use Rattle.lowered_nodes.proofs.Arms.{weight_before, lands_before, one_if, labels_ahead, one_ahead, ahead_at_most}
 
 -- ---- arms
 

@@ -13,7 +13,7 @@ use Rattle.lowering.specs.Lowering.{with_copies}
 use Rattle.ir_layout.specs.Sizes.{sequence_size, parts_size}
 use Rattle.size_measures.specs.Totals.{sequence_total, parts_total, sequence_forks, parts_forks}
 use Rattle.lowered_sizes.proofs.Blocks.{size}
-use Rattle.lowered_totals.proofs.Work.{sizes, parts_double, sequence_double, sequence_at_most_double}
+use Rattle.lowered_nodes.proofs.Work.{sizes, parts_double, sequence_double, sequence_at_most_double}
 
 -- operations and settings so far
 abbrev copied_size : Copied → ℕ
