@@ -1,28 +1,13 @@
--- Pieces of a switch up to the next one that a label names, and how many pieces labels name.
+-- How many pieces of a switch labels name.
 use Rattle.std.proofs.Common.{◌≡◌, ◌≤◌, ℕ, ◌+◌, ◌-◌, ◌||◌, min, Bool, true, false, arith, List, [], ◌∷◌, length, refl, eqb-true}
 use Rattle.std.specs.Prelude.{◌==◌, if◌then◌else◌}
 use Rattle.pieces.specs.declared.piece.Label.{Label}
-use Rattle.pieces.specs.Trees as tree
-use Rattle.pieces.specs.Trees.{PieceTrees}
-use Rattle.pieces.specs.Weight.{piece_weight}
 use Rattle.lowering.specs.Lowering.{is_named}
-use Rattle.size_measures.specs.Lands.{piece_lands}
-
--- ---- pieces from this number on, up to the next one that a label names
-
-abbrev pub weight_before : List Label → ℕ → PieceTrees → ℕ
-weight_before labels i tree.no_pieces = 0
-weight_before labels i (tree.then_ p ps) = if is_named labels i then 0 else piece_weight p + weight_before labels (i + 1) ps
-
-abbrev pub lands_before : List Label → ℕ → PieceTrees → ℕ
-lands_before labels i tree.no_pieces = 0
-lands_before labels i (tree.then_ p ps) = if is_named labels i then 0 else piece_lands p + lands_before labels (i + 1) ps
-
--- ---- labels that name a piece from this number on
 
 abbrev pub one_if : Bool → ℕ
 one_if t = if t then 1 else 0
 
+-- labels that name a piece from this number on
 abbrev pub labels_ahead : List Label → ℕ → ℕ
 labels_ahead [] i = 0
 labels_ahead (l ∷ ls) i = min 1 (l.target + 1 - i) + labels_ahead ls i

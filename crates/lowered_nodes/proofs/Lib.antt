@@ -1,4 +1,3 @@
-pub mod Work
 pub mod Copies
 pub mod Within
 pub mod Arms

@@ -1,93 +1,81 @@
--- Lowered pieces: what comes of them is within the bounds of their weight and of the places where they are gone on at.
-use Rattle.std.proofs.Common.{◌≤◌, ℕ, ◌+◌, ◌*◌, Bool, true, false, arith, List, length}
+-- Lowered pieces: at most 4 nodes for each unit of their weight, and one for each place where they are gone on with behind a call that was left.
+use Rattle.std.proofs.Common.{◌≤◌, ℕ, ◌+◌, Bool, true, false, arith, List}
 use Rattle.std.specs.Prelude.{if◌then◌else◌}
 use Rattle.hls_base.specs.declared.point.Point.{Point}
 use Rattle.pieces.specs.declared.piece.Label.{Label}
 use Rattle.pieces.specs.Trees as tree
 use Rattle.pieces.specs.Trees.{PieceTree, PieceTrees}
-use Rattle.pieces.specs.Weight.{weight, weights, mark_weight, piece_weight, piece_weights}
+use Rattle.pieces.specs.Weight.{weight}
 use Rattle.block_meaning.specs.Trees.{BlockTree, break_, continue_, leave, SequenceTree, ArmTrees, more_arms}
-use Rattle.lowering.specs.Shapes.{point_of, first_point, or_at}
-use Rattle.lowering.specs.Blocks.{Scope, begun, is_live, set, put, ends_by_test, with_exit}
+use Rattle.lowering.specs.Shapes.{is_eligible, point_of, first_point, or_at}
+use Rattle.lowering.specs.Blocks.{Scope, begun, is_live, with_exit, set, put, ends_by_test, ends_by_fork, ends_by_cases}
 use Rattle.lowering.specs.Lowering.{Rest, last, land_of, own_step, is_named, lowered, lowered_piece, before_arm, arms}
-use Rattle.size_measures.specs.Lands.{piece_lands, land_count}
-use Rattle.size_measures.specs.Small.{IsSmallTree}
-use Rattle.lowered_sizes.proofs.Blocks.{size, set_adds, put_adds, where_live, exit_adds}
-use Rattle.lowered_nodes.specs.Laws.{AreLight}
-use Rattle.lowered_nodes.proofs.Work.{sequence_work, sequence_at_most_double}
-use Rattle.lowered_nodes.proofs.Within.{IsWithin, Adds, wider, added_within, last_adds, test_within, followed_within, land_worth, side_within, fork_worth, round_within, loop_worth, AreWithin, switch_worth}
-use Rattle.lowered_nodes.proofs.Arms.{weight_before, lands_before, one_if, labels_ahead, one_ahead, ahead_at_most}
+use Rattle.ir_layout.specs.Sizes.{sequence_size, arms_size}
+use Rattle.lowered_nodes.specs.Laws.{LoweredNodesAreFew}
+use Rattle.lowered_nodes.proofs.Within.{piece_room, room, Adds, last_adds, followed_adds, side_nodes, round_nodes, loop_nodes, parts_of_nodes}
+use Rattle.lowered_nodes.proofs.Arms.{one_if, labels_ahead, one_ahead, ahead_at_most}
 
 -- ---- arms
 
-within_or_last : (named : Bool) (s : SequenceTree) (b : BlockTree) (w v l k : ℕ) → IsWithin s (size b) (w + v) (l + k) → IsWithin (if named then last b else s) (size b) (if named then 0 else v + w) (if named then 0 else k + l)
-within_or_last true s b w v l k h = last_adds b
-within_or_last false s b w v l k h = wider s (size b) (size b) (w + v) (v + w) (l + k) (k + l) h (omega arith) (omega arith) (omega arith)
+-- what pieces from this number on add up to the next one that a label names
+abbrev room_before : List Label → ℕ → PieceTrees → ℕ
+room_before labels i tree.no_pieces = 0
+room_before labels i (tree.then_ p ps) = if is_named labels i then 0 else room_before labels (i + 1) ps + piece_room p
 
-arm_within : (named : Bool) (arm : SequenceTree) (rest : ArmTrees) (count all w v l k u j : ℕ) → one_if named + count ≤ all → IsWithin arm 0 (w + v) (l + k) → AreWithin rest count w l u j
-    → AreWithin (if named then more_arms arm rest else rest) all (if named then 0 else v + w) (if named then 0 else k + l) (v + u) (k + j)
-arm_within true arm rest count all w v l k u j fits h g =
-    let once = sequence_at_most_double arm in
-    record { work = omega (arith, once, h.work, g.work); nodes = omega (arith, fits, h.nodes, g.nodes); forks = omega (arith, h.forks, g.forks) }
-arm_within false arm rest count all w v l k u j fits h g =
-    record { work = omega (arith, g.work); nodes = omega (arith, fits, g.nodes); forks = omega (arith, g.forks) }
+more_or_last : (named : Bool) (s : SequenceTree) (b : BlockTree) (n : ℕ) → sequence_size s ≤ 1 + n → sequence_size (if named then last b else s) ≤ 1 + (if named then 0 else n)
+more_or_last true s b n h = omega arith
+more_or_last false s b n h = h
+
+arm_nodes : (named : Bool) (arm : SequenceTree) (rest : ArmTrees) (count all n m k : ℕ) → one_if named + count ≤ all → sequence_size arm ≤ 1 + (n + m) → arms_size rest + n ≤ count + k
+    → arms_size (if named then more_arms arm rest else rest) + (if named then 0 else n + m) ≤ all + (m + k)
+arm_nodes true arm rest count all n m k fits h g = omega (arith, fits, h, g)
+arm_nodes false arm rest count all n m k fits h g = omega (arith, fits, g)
 
 -- ---- pieces
 
 mutual
-  lowered_adds : (scope : Scope) (ps : PieceTrees) (rest : Rest) (w l : ℕ) → Adds rest w l → Adds (λ b. lowered scope ps rest b) (w + piece_weights ps) (l + land_count ps)
-  lowered_adds scope tree.no_pieces rest w l h b = added_within (rest b) (size b) (size b) w l 0 (h b) (omega arith)
-  lowered_adds scope (tree.then_ p ps) rest w l h b =
-      let s = piece_adds scope p (λ b1. lowered scope ps rest b1) (w + piece_weights ps) (l + land_count ps) (lowered_adds scope ps rest w l h) b in
-      wider _ (size b) (size b) (w + piece_weights ps + piece_weight p) (w + piece_weights (tree.then_ p ps)) (l + land_count ps + piece_lands p) (l + land_count (tree.then_ p ps)) s (omega arith) (omega arith) (omega arith)
+  lowered_adds : (scope : Scope) (ps : PieceTrees) (rest : Rest) (n : ℕ) → Adds rest n → Adds (λ b. lowered scope ps rest b) (n + room ps)
+  lowered_adds scope tree.no_pieces rest n h b = let e = h b in omega (arith, e)
+  lowered_adds scope (tree.then_ p ps) rest n h b = let e = piece_adds scope p (λ b1. lowered scope ps rest b1) (n + room ps) (lowered_adds scope ps rest n h) b in omega (arith, e)
 
-  piece_adds : (scope : Scope) (p : PieceTree) (rest : Rest) (w l : ℕ) → Adds rest w l → Adds (λ b. lowered_piece scope p rest b) (w + piece_weight p) (l + piece_lands p)
-  piece_adds scope (tree.set v t) rest w l h b =
-      added_within _ _ (size b) w l (1 + weight t) (h (if is_live b then set scope v t b else b)) (where_live (8 * (1 + weight t)) b (set scope v t b) (is_live b) (set_adds scope v t b))
-  piece_adds scope (tree.put array ts t at) rest w l h b =
-      added_within _ _ (size b) w l (1 + weights ts + weight t) (h (if is_live b then put scope array ts t at b else b))
-      (where_live (8 * (1 + weights ts + weight t)) b (put scope array ts t at b) (is_live b) (put_adds scope array ts t at b))
-  piece_adds scope (tree.fork test left_ right_ end) rest w l h b =
-      followed_within b _ _ _ w l (1 + weight test + piece_weights left_ + piece_weights right_) (land_count left_ + land_count right_) (h (begun end)) (
-      fork_worth scope test left_ right_ b _ _ _ (land_count left_) (land_count right_)
-      (side_within (λ b1. lowered scope left_ last b1) (piece_weights left_) (land_count left_) (lowered_adds scope left_ last 0 0 last_adds) (first_point left_))
-      (side_within (λ b1. lowered scope right_ last b1) (piece_weights right_) (land_count right_) (lowered_adds scope right_ last 0 0 last_adds) (first_point right_)))
-  piece_adds scope (tree.repeat_ id post before test body step end) rest w l h b =
-      let first = lowered_adds scope before (λ b1. last (ends_by_test test b1)) (weight test) 0 (test_within test) (begun (or_at end (first_point before))) in
-      let round = round_within (λ r. lowered scope body r (begun (or_at end (first_point body)))) (piece_weights body) (land_count body) (λ r x y g. lowered_adds scope body r x y g (begun (or_at end (first_point body))))
-      (λ b1. lowered scope step last b1) (piece_weights step) (land_count step) (lowered_adds scope step last 0 0 last_adds) (own_step body (first_point step)) in
-      followed_within b b _ _ w l (piece_weight (tree.repeat_ id post before test body step end)) (land_count before + land_count body + land_count step) (h (begun end))
-      (loop_worth scope b post _ _ _ _ (piece_weights before) (weight test) (piece_weights body) (piece_weights step) (land_count before) (land_count body) (land_count step) first round)
-  piece_adds scope (tree.pick test labels body end) rest w l h b =
-      followed_within b _ _ _ w l (1 + length labels + weight test + piece_weights body) (land_count body) (h (begun end)) (
-      switch_worth test labels b _ _ _ _ (labels_ahead labels 0) (weight_before labels 0 body) (lands_before labels 0 body) (piece_weights body) (land_count body)
-      (before_adds scope labels 0 body (record (begun end) { exit = break_ })) (arms_within scope labels 0 body end) (ahead_at_most labels 0))
-  piece_adds scope tree.break_ rest w l h b = added_within _ _ (size b) w l 1 (h (with_exit break_ b)) (exit_adds break_ b)
-  piece_adds scope tree.next_ rest w l h b = added_within _ _ (size b) w l 1 (h (with_exit continue_ b)) (exit_adds continue_ b)
-  piece_adds scope (tree.leave call) rest w l h b = added_within _ _ (size b) w l 1 (h (with_exit (leave (land_of call)) b)) (exit_adds (leave (land_of call)) b)
-  piece_adds scope (tree.land call end) rest w l h b = followed_within b b _ _ w l (mark_weight end) 1 (h (begun end)) (land_worth b (land_of call) (mark_weight end))
-  piece_adds scope (tree.mark point) rest w l h b = added_within (rest b) (size b) (size b) w l (mark_weight point) (h b) (omega arith)
+  piece_adds : (scope : Scope) (p : PieceTree) (rest : Rest) (n : ℕ) → Adds rest n → Adds (λ b. lowered_piece scope p rest b) (n + piece_room p)
+  piece_adds scope (tree.set v t) rest n h b = let e = h (if is_live b then set scope v t b else b) in omega (arith, e)
+  piece_adds scope (tree.put array ts t at) rest n h b = let e = h (if is_live b then put scope array ts t at b else b) in omega (arith, e)
+  piece_adds scope (tree.fork test left_ right_ end) rest n h b =
+      let one = side_nodes (λ b1. lowered scope left_ last b1) (0 + room left_) (lowered_adds scope left_ last 0 last_adds) (first_point left_) in
+      let two = side_nodes (λ b1. lowered scope right_ last b1) (0 + room right_) (lowered_adds scope right_ last 0 last_adds) (first_point right_) in
+      followed_adds (ends_by_fork scope test left_ right_ b) _ _ n (piece_room (tree.fork test left_ right_ end)) (h (begun end)) (omega (arith, one, two))
+  piece_adds scope (tree.repeat_ id post before test body step end) rest n h b =
+      let start = begun (or_at end (first_point body)) in
+      let first = lowered_adds scope before (λ b1. last (ends_by_test test b1)) 0 (λ b1. omega arith) (begun (or_at end (first_point before))) in
+      let round = round_nodes (λ r. lowered scope body r start) (room body) (λ r x g. lowered_adds scope body r x g start) (λ b1. lowered scope step last b1) (0 + room step) (lowered_adds scope step last 0 last_adds)
+      (own_step body (first_point step)) in
+      let all = loop_nodes scope post _ _ _ (is_eligible post before (weight test) body step) (0 + room before) (room body + (0 + room step)) first round in
+      followed_adds b _ _ n (piece_room (tree.repeat_ id post before test body step end)) (h (begun end)) (omega (arith, all))
+  piece_adds scope (tree.pick test labels body end) rest n h b =
+      let dead = before_arm scope labels 0 body (record (begun end) { exit = break_ }) in
+      let one = before_adds scope labels 0 body (record (begun end) { exit = break_ }) in
+      let two = arms_add scope labels 0 body end in
+      let few = ahead_at_most labels 0 in
+      let behind = parts_of_nodes dead in
+      followed_adds (ends_by_cases test labels b) _ _ n (piece_room (tree.pick test labels body end)) (h (begun end)) (omega (arith, one, two, few, behind))
+  piece_adds scope tree.break_ rest n h b = let e = h (with_exit break_ b) in omega (arith, e)
+  piece_adds scope tree.next_ rest n h b = let e = h (with_exit continue_ b) in omega (arith, e)
+  piece_adds scope (tree.leave call) rest n h b = let e = h (with_exit (leave (land_of call)) b) in omega (arith, e)
+  piece_adds scope (tree.land call end) rest n h b = followed_adds b _ _ n (piece_room (tree.land call end)) (h (begun end)) (omega arith)
+  piece_adds scope (tree.mark point) rest n h b = let e = h b in omega (arith, e)
 
-  before_adds : (scope : Scope) (labels : List Label) (i : ℕ) (ps : PieceTrees) → Adds (λ b. before_arm scope labels i ps b) (weight_before labels i ps) (lands_before labels i ps)
+  before_adds : (scope : Scope) (labels : List Label) (i : ℕ) (ps : PieceTrees) → Adds (λ b. before_arm scope labels i ps b) (room_before labels i ps)
   before_adds scope labels i tree.no_pieces b = last_adds b
   before_adds scope labels i (tree.then_ p ps) b =
-      within_or_last (is_named labels i) _ b (weight_before labels (i + 1) ps) (piece_weight p) (lands_before labels (i + 1) ps) (piece_lands p)
-      (piece_adds scope p (λ b1. before_arm scope labels (i + 1) ps b1) _ _ (before_adds scope labels (i + 1) ps) b)
+      more_or_last (is_named labels i) _ b (room_before labels (i + 1) ps + piece_room p) (piece_adds scope p (λ b1. before_arm scope labels (i + 1) ps b1) (room_before labels (i + 1) ps) (before_adds scope labels (i + 1) ps) b)
 
-  arms_within : (scope : Scope) (labels : List Label) (i : ℕ) (ps : PieceTrees) (end : Point) → AreWithin (arms scope labels i ps end) (labels_ahead labels i) (weight_before labels i ps) (lands_before labels i ps) (piece_weights ps) (land_count ps)
-  arms_within scope labels i tree.no_pieces end = record { work = omega arith; nodes = omega arith; forks = omega arith }
-  arms_within scope labels i (tree.then_ p ps) end =
-      arm_within (is_named labels i) _ _ (labels_ahead labels (i + 1)) (labels_ahead labels i) (weight_before labels (i + 1) ps) (piece_weight p) (lands_before labels (i + 1) ps) (piece_lands p) (piece_weights ps) (land_count ps)
-      (one_ahead labels i)
-      (piece_adds scope p (λ b1. before_arm scope labels (i + 1) ps b1) _ _ (before_adds scope labels (i + 1) ps) (begun (or_at end (point_of p))))
-      (arms_within scope labels (i + 1) ps end)
+  arms_add : (scope : Scope) (labels : List Label) (i : ℕ) (ps : PieceTrees) (end : Point) → arms_size (arms scope labels i ps end) + room_before labels i ps ≤ labels_ahead labels i + room ps
+  arms_add scope labels i tree.no_pieces end = omega arith
+  arms_add scope labels i (tree.then_ p ps) end =
+      let arm = piece_adds scope p (λ b1. before_arm scope labels (i + 1) ps b1) (room_before labels (i + 1) ps) (before_adds scope labels (i + 1) ps) (begun (or_at end (point_of p))) in
+      let e = arm_nodes (is_named labels i) _ _ (labels_ahead labels (i + 1)) (labels_ahead labels i) (room_before labels (i + 1) ps) (piece_room p) (room ps) (one_ahead labels i) arm (arms_add scope labels (i + 1) ps end) in
+      omega (arith, e)
 
--- ---- light pieces
-
-pub lowered_small : (scope : Scope) (pieces : PieceTrees) (point : Point) → AreLight pieces → IsSmallTree (lowered scope pieces last (begun point))
-lowered_small scope pieces point light =
-    let tree_ = lowered scope pieces last (begun point) in
-    let s = lowered_adds scope pieces last 0 0 last_adds (begun point) in
-    let whole = sequence_work tree_ in
-    let once = sequence_at_most_double tree_ in
-    record { work = omega (arith, whole, once, s.work, light.weight); nodes = omega (arith, s.nodes, light.weight, light.lands); forks = omega (arith, s.forks, light.weight) }
+pub lowered_nodes : LoweredNodesAreFew
+lowered_nodes scope pieces point = let e = lowered_adds scope pieces last 0 last_adds (begun point) in omega (arith, e)

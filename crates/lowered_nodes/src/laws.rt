@@ -1,7 +1,7 @@
-//! Laws of the sizes of lowered trees.
-ghost use Rattle.lowered_nodes.specs.Laws.{LoweredTreesAreSmall};
+//! Laws of the nodes of lowered trees.
+ghost use Rattle.lowered_nodes.specs.Laws.{LoweredNodesAreFew};
 
-/// The tree of blocks of pieces that weigh no more than they may is small.
-pub fn lowered_trees_are_small()
-    ensures { LoweredTreesAreSmall }
+/// Pieces become few nodes for what they weigh.
+pub fn lowered_nodes_are_few()
+    ensures { LoweredNodesAreFew }
 {}

@@ -1,4 +1,4 @@
-//! How large the trees of blocks of lowered pieces are.
+//! How many nodes the trees of blocks of lowered pieces become.
 #![tactic(auto)]
 
 pub mod laws;
