@@ -1,7 +1,11 @@
--- The flat program of a small tree has numbers enough.
-use Rattle.std.proofs.Common.{◌≡◌, ◌∙◌, ◌≤◌, sym, subst, ap, arith, [], length, None}
+-- The flat program of light pieces is small, and so has numbers enough.
+use Rattle.std.proofs.Common.{◌≡◌, ◌∙◌, ◌<◌, ◌^◌, sym, subst, ap, arith, [], length, None}
 use Rattle.std.proofs.lemmas.List.{length-map}
+use Rattle.hls_base.specs.declared.point.Point.{Point}
+use Rattle.pieces.specs.Trees.{PieceTrees}
 use Rattle.block_meaning.specs.Trees.{SequenceTree}
+use Rattle.lowering.specs.Blocks.{Scope, begun}
+use Rattle.lowering.specs.Lowering.{last, lowered}
 use Rattle.numbering.specs.Numbering as numbering
 use Rattle.numbering.specs.Numbering.{numbered_sequence}
 use Rattle.conversion.specs.Conversion as conversion
@@ -11,49 +15,64 @@ use Rattle.ir_layout.specs.Sizes.{sequence_size}
 use Rattle.ir_layout.specs.Layout.{Around, finish}
 use Rattle.ir_layout.proofs.Lengths.{length-laid}
 use Rattle.size_measures.specs.Totals.{operations, sequence_total}
-use Rattle.size_measures.specs.Small.{IsSmallTree}
-use Rattle.compiled_sizes.specs.Laws.{SmallTreesHaveNumbers}
-use Rattle.compiled_sizes.proofs.Measures.{sequence_nodes, demands_at_most}
-use Rattle.compiled_sizes.proofs.Numbered.{numbered_operations, numbered_settings, numbered_nodes, numbered_forks}
-use Rattle.compiled_sizes.proofs.Converted.{converted_nodes, converted_operations}
+use Rattle.counted_operations.proofs.Trees.{lowered_counted}
+use Rattle.counted_operations.proofs.Weights.{counted_few}
+use Rattle.converted_operations.proofs.Numbered.{numbered_fewer}
+use Rattle.converted_operations.proofs.Converted.{converted_bounded}
+use Rattle.lowered_nodes.proofs.Trees.{lowered_nodes}
+use Rattle.compiled_sizes.specs.Laws.{AreLight, CompiledProgramsAreSmall, SmallProgramsHaveNumbers}
+use Rattle.compiled_sizes.proofs.Numbered.{numbered_nodes}
+use Rattle.compiled_sizes.proofs.Converted.{converted_nodes}
 use Rattle.compiled_sizes.proofs.Laid.{AreShort, laid_short, node_short}
 
-module _ (n : numbering.Scope) (c : conversion.Scope) (s : SequenceTree) (small : IsSmallTree s) where
+module _ (scope : Scope) (n : numbering.Scope) (c : conversion.Scope) (pieces : PieceTrees) (point : Point) (light : AreLight pieces) where
+  abbrev first : SequenceTree
+  first = lowered scope pieces last (begun point)
+
   abbrev numbered : SequenceTree
-  numbered = numbered_sequence n s
+  numbered = numbered_sequence n first
 
-  abbrev converted : SequenceTree
-  converted = converted_sequence c numbered
+  abbrev compiled : SequenceTree
+  compiled = converted_sequence c numbered
 
-  nodes_fit : sequence_size converted ≤ 65536
+  nodes_fit : sequence_size compiled < 2 ^ 16
   nodes_fit =
-      let one = sequence_nodes s in
-      let two = numbered_nodes n s in
+      let one = lowered_nodes scope pieces point in
+      let two = numbered_nodes n first in
       let three = converted_nodes c numbered in
-      let four = sequence_nodes converted in
-      let five = small.nodes in
-      omega (arith, one, two, three, four, five)
+      let weight = light.weight in
+      let lands = light.lands in
+      omega (arith, one, two, three, weight, lands)
 
-  operations_fit : sequence_total operations converted ≤ 2147614720
+  operations_fit : sequence_total operations compiled < 2 ^ 25
   operations_fit =
-      let work = small.work in
-      let forks = small.forks in
-      let one = numbered_operations n s in
-      let two = numbered_settings n s in
-      let three = numbered_forks n s in
-      let four = demands_at_most numbered in
-      let five = converted_operations c numbered (omega (arith, work, one, two, four)) in
-      omega (arith, work, forks, one, three, five)
+      let counted = lowered_counted scope pieces point in
+      let fewer = numbered_fewer n first in
+      let bounded = converted_bounded c numbered in
+      let few = counted_few scope pieces light.weight in
+      let one = counted.operations in
+      let two = counted.additions in
+      let three = fewer.operations in
+      let four = fewer.additions in
+      let five = bounded.operations in
+      omega (arith, few, one, two, three, four, five)
 
-pub small_have_numbers : SmallTreesHaveNumbers
-small_have_numbers n c s returned cfg small same =
+pub compiled_small : CompiledProgramsAreSmall
+compiled_small scope n c pieces point returned cfg light same =
     let around : Around = record { leave = None; again = None; lands = []; returned = returned } in
-    let blocks = converted_sequence c (numbered_sequence n s) in
+    let blocks = converted_sequence c (numbered_sequence n (lowered scope pieces last (begun point))) in
     let size : length cfg.nodes.items ≡ sequence_size blocks = sym (length-map cfg.nodes.items node_of) ∙ ap length same ∙ length-laid around finish 0 blocks in
-    let few = nodes_fit n c s small in
-    let short = laid_short 2147614720 around finish 0 blocks (operations_fit n c s small) in
-    let items = subst (AreShort 2147614720) (sym same) short in
+    let few = nodes_fit scope n c pieces point light in
+    let total = operations_fit scope n c pieces point light in
+    let most = sequence_total operations blocks in
+    let short = subst (AreShort most) (sym same) (laid_short most around finish 0 blocks (omega arith)) in
     record {
       nodes = omega (arith, size, few);
-      operations = λ i x at. let h = node_short 2147614720 cfg.nodes.items items i x at in omega (arith, h);
+      operations = λ i x at. let h = node_short most cfg.nodes.items short i x at in omega (arith, total, h);
     }
+
+pub small_has_numbers : SmallProgramsHaveNumbers
+small_has_numbers cfg small = record {
+  nodes = let h = small.nodes in omega (arith, h);
+  operations = λ i n at. let h = small.operations i n at in omega (arith, h);
+}

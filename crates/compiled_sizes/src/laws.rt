@@ -1,7 +1,12 @@
 //! Laws of the sizes of flat programs.
-ghost use Rattle.compiled_sizes.specs.Laws.{SmallTreesHaveNumbers};
+ghost use Rattle.compiled_sizes.specs.Laws.{CompiledProgramsAreSmall, SmallProgramsHaveNumbers};
 
-/// The flat program of a small tree has a number for each node, and for each operation of a node.
-pub fn small_trees_have_numbers()
-    ensures { SmallTreesHaveNumbers }
+/// The flat program of pieces that weigh no more than they may has few nodes, and none of them many operations.
+pub fn compiled_programs_are_small()
+    ensures { CompiledProgramsAreSmall }
+{}
+
+/// A small program has a number for each node, and for each operation of a node.
+pub fn small_programs_have_numbers()
+    ensures { SmallProgramsHaveNumbers }
 {}

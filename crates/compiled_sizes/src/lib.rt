@@ -1,4 +1,4 @@
-//! How large the flat programs are that small trees of blocks become.
+//! How large the flat programs are that pieces are compiled to.
 #![tactic(auto)]
 
 pub mod laws;
