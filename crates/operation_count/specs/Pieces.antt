@@ -1,5 +1,5 @@
 -- How many operations pieces become at most, and how many variables they set.
-use Rattle.std.specs.Prelude.{ℕ, ◌+◌, Bool, false, ◌||◌, List, [], ◌∷◌, Option, Some, None, is_some, if◌then◌else◌}
+use Rattle.std.specs.Prelude.{ℕ, ◌+◌, Bool, false, ◌||◌, List, [], ◌∷◌, is_some, if◌then◌else◌}
 use Rattle.c_value.specs.Values.{promoted}
 use Rattle.pieces.specs.declared.piece.Label.{Label}
 use Rattle.pieces.specs.Trees as tree

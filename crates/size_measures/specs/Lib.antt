@@ -1,4 +1,3 @@
 pub mod Lands
 pub mod Objects
-pub mod Small
 pub mod Totals

@@ -1,5 +1,5 @@
 -- What the blocks of a tree come to together.
-use Rattle.std.specs.Prelude.{ℕ, suc, ◌+◌, length}
+use Rattle.std.specs.Prelude.{ℕ, ◌+◌, length}
 use Rattle.block_meaning.specs.Trees.{BlockTree, BodyTree, SequenceTree, sequence, PartTrees, no_part, more_parts, ShapeTree, fork, loop, switch, land, overlapped, SideTree, no_side, side, ArmTrees, no_arm, more_arms}
 
 -- what is counted of a block, and of the body of a loop that is overlapped
@@ -37,27 +37,3 @@ abbrev mutual
   pub arms_total : Measure → ArmTrees → ℕ
   arms_total m no_arm = 0
   arms_total m (more_arms first rest) = sequence_total m first + arms_total m rest
-
--- how many forks a tree has
-abbrev mutual
-  pub sequence_forks : SequenceTree → ℕ
-  sequence_forks (sequence first rest) = parts_forks rest
-
-  pub parts_forks : PartTrees → ℕ
-  parts_forks no_part = 0
-  parts_forks (more_parts shape after rest) = shape_forks shape + parts_forks rest
-
-  pub shape_forks : ShapeTree → ℕ
-  shape_forks (fork yes_ no_ convertible) = suc (side_forks yes_ + side_forks no_)
-  shape_forks (loop post test body step eligible) = sequence_forks test + sequence_forks body + side_forks step
-  shape_forks (switch dead targets other arms) = parts_forks dead + arms_forks arms
-  shape_forks (land number) = 0
-  shape_forks (overlapped point body) = 0
-
-  pub side_forks : SideTree → ℕ
-  side_forks no_side = 0
-  side_forks (side blocks) = sequence_forks blocks
-
-  pub arms_forks : ArmTrees → ℕ
-  arms_forks no_arm = 0
-  arms_forks (more_arms first rest) = sequence_forks first + arms_forks rest
