@@ -23,8 +23,7 @@ use Rattle.lowering.specs.Expressions.{emitted, emitted_all}
 use Rattle.lowering.specs.Blocks.{Scope, variable_type, element_type, is_live, with_ops, given_as, value_as, set_to, set, put, condition, branching, ends_by_test, all_set, set_before, forking, ends_by_fork, case_or, cases, promoted_given, switched, ends_by_cases}
 use Rattle.operation_count.specs.Expressions.{one_if, as_condition, as_assigned, as_operand, count, subscript_count}
 use Rattle.operation_count.specs.Pieces.{compared, operations_of, sets_of}
-use Rattle.lowered_sizes.proofs.Growth.{one_more}
-use Rattle.counted_operations.proofs.Conversions.{tested_counted, assigned_counted, balanced_counted}
+use Rattle.counted_operations.proofs.Conversions.{one_more, tested_counted, assigned_counted, balanced_counted}
 use Rattle.counted_operations.proofs.Expressions.{emitted_counts, emitted_all_counts}
 
 -- A block has at most n operations more than before, and sets at most m variables more.

@@ -1,5 +1,5 @@
 -- What expressions give, and the operations that convert it: no more than are counted.
-use Rattle.std.proofs.Common.{◌≡◌, ◌≤◌, ◌+◌, Bool, true, false, not, ◌&&◌, refl, sym, subst, arith, List, length}
+use Rattle.std.proofs.Common.{◌≡◌, ◌≤◌, ◌+◌, Bool, true, false, not, ◌&&◌, refl, sym, subst, arith, List, [], ◌∷◌, length, length-append}
 use Rattle.std.specs.Prelude.{nat_eq, if◌then◌else◌}
 use Rattle.c_token.specs.declared.ctype.CType.{CType}
 use Rattle.c_token.specs.declared.ctype.CType.TheVariants as type
@@ -13,7 +13,9 @@ use Rattle.block_meaning.specs.Bodies.{OpTree}
 use Rattle.lowering.specs.Operations as lowered
 use Rattle.lowering.specs.Operations.{gives, added, resized, converted_from, Given, truth, value, kind_of, valued, tested, assigned, promoted_value, balanced}
 use Rattle.operation_count.specs.Expressions.{one_if, gives_bit, given_kind, is_number, is_bool, as_value, as_condition, conversion, as_assigned, as_operand}
-use Rattle.lowered_sizes.proofs.Growth.{one_more}
+
+pub one_more : (ops : List OpTree) (op : OpTree) → length (added ops op).ops ≤ length ops + 1
+one_more ops op = let e = length-append ops (op ∷ []) in omega (arith, e)
 
 -- ---- what expressions give
 

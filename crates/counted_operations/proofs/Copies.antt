@@ -11,7 +11,7 @@ use Rattle.lowering.specs.Blocks.{Scope, variable_type}
 use Rattle.lowering.specs.Copies.{Fixed, Copied, parts_set, needs_copy, own_operand, with_own, copied_out, copied_outs, copied_block, copied_parts, copied, fixed_in, fixed_behind, fixed_behind_shape}
 use Rattle.size_measures.specs.Totals.{operations, settings, sequence_total, parts_total}
 use Rattle.operation_count.specs.Forks.{sequence_additions, parts_additions}
-use Rattle.lowered_sizes.proofs.Growth.{one_more}
+use Rattle.counted_operations.proofs.Conversions.{one_more}
 
 -- ---- blocks
 

@@ -20,8 +20,7 @@ use Rattle.lowering.specs.Operations.{Emitted, gives, added, defined, plain, fla
 use Rattle.lowering.specs.Guards.{Guard, only_where, outside, own_bit, under, bit_of, guarded}
 use Rattle.lowering.specs.Expressions.{Evaluated, Next, Subscripts, with_value, with_truth, under_guard, is_total, computed, operated, left_type, right_type, junction, joined, binary, unary, choice, subscript, emitted, emitted_all}
 use Rattle.operation_count.specs.Expressions.{compares, negates, gives_bit, given_kind, is_number, as_value, as_condition, as_operand, unary_count, binary_count, choice_count, count, subscript_count}
-use Rattle.lowered_sizes.proofs.Growth.{one_more}
-use Rattle.counted_operations.proofs.Conversions.{IsGiven, given_kind_of, valued_counted, tested_counted, assigned_counted, balanced_counted}
+use Rattle.counted_operations.proofs.Conversions.{one_more, IsGiven, given_kind_of, valued_counted, tested_counted, assigned_counted, balanced_counted}
 
 -- ---- guards
 

@@ -1,2 +1,0 @@
-//! How many operations the blocks of a tree have, as definitions.
-#![tactic(auto)]
