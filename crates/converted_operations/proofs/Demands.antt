@@ -1,6 +1,8 @@
 -- What a branch brings with it: operations that need a guard, and variables that are set.
-use Rattle.std.proofs.Common.{◌≡◌, ◌≤◌, ℕ, ◌+◌, Bool, true, false, arith, List, [], ◌∷◌, ◌++◌, length}
+use Rattle.std.proofs.Common.{◌≤◌, ℕ, ◌+◌, arith, List, length}
 use Rattle.std.specs.Prelude.{if◌then◌else◌}
+use Rattle.std.specs.List.{count_by}
+use Rattle.std.proofs.lemmas.List.Sums.{count_by-le-length}
 use Rattle.block_meaning.specs.Bodies.{OpTree}
 use Rattle.block_meaning.specs.Trees.{SequenceTree, sequence, PartTrees, no_part, more_parts, ShapeTree, fork, loop, switch, land, overlapped, SideTree, no_side, side, ArmTrees, no_arm, more_arms}
 use Rattle.conversion.specs.Joining.{needs_guard}
@@ -12,22 +14,7 @@ abbrev pub guards_for : OpTree → ℕ
 guards_for op = if needs_guard op then 1 else 0
 
 abbrev pub guards_for_all : List OpTree → ℕ
-guards_for_all [] = 0
-guards_for_all (op ∷ ops) = guards_for op + guards_for_all ops
-
-pub guards_append : (xs ys : List OpTree) → guards_for_all (xs ++ ys) ≡ guards_for_all xs + guards_for_all ys
-guards_append [] ys = omega arith
-guards_append (x ∷ xs) ys = let h = guards_append xs ys in omega (arith, h)
-
-guard_at_most : (op : OpTree) → guards_for op ≤ 1
-guard_at_most op = by (needs_guard op) where
-  by : (needs : Bool) → (if needs then 1 else 0) ≤ 1
-  by true = omega arith
-  by false = omega arith
-
-guards_at_most : (ops : List OpTree) → guards_for_all ops ≤ length ops
-guards_at_most [] = omega arith
-guards_at_most (op ∷ ops) = let one = guard_at_most op in let two = guards_at_most ops in omega (arith, one, two)
+guards_for_all = count_by needs_guard
 
 -- ---- with the variables that are set, each of which needs a selection
 
@@ -38,13 +25,13 @@ demands = record { of_block = λ b. guards_for_all b.ops + length b.outs; of_bod
 
 mutual
   sequence_demands : (s : SequenceTree) → sequence_total demands s ≤ sequence_total operations s + sequence_total settings s
-  sequence_demands (sequence first rest) = let one = guards_at_most first.ops in let two = parts_demands rest in omega (arith, one, two)
+  sequence_demands (sequence first rest) = let one = count_by-le-length needs_guard first.ops in let two = parts_demands rest in omega (arith, one, two)
 
   parts_demands : (p : PartTrees) → parts_total demands p ≤ parts_total operations p + parts_total settings p
   parts_demands no_part = omega arith
   parts_demands (more_parts shape after rest) =
       let one = shape_demands shape in
-      let two = guards_at_most after.ops in
+      let two = count_by-le-length needs_guard after.ops in
       let three = parts_demands rest in
       omega (arith, one, two, three)
 
@@ -57,7 +44,7 @@ mutual
       omega (arith, one, two, three)
   shape_demands (switch dead targets other arms) = let one = parts_demands dead in let two = arms_demands arms in omega (arith, one, two)
   shape_demands (land number) = omega arith
-  shape_demands (overlapped point body) = let one = guards_at_most body.ops in omega (arith, one)
+  shape_demands (overlapped point body) = let one = count_by-le-length needs_guard body.ops in omega (arith, one)
 
   pub side_demands : (s : SideTree) → side_total demands s ≤ side_total operations s + side_total settings s
   side_demands no_side = omega arith

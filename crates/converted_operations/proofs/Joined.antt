@@ -2,6 +2,7 @@
 use Rattle.std.proofs.Common.{◌≡◌, ◌≤◌, ℕ, ◌+◌, Bool, true, false, refl, arith, List, [], ◌∷◌, ◌++◌, map, length, length-append, Option, Some, None}
 use Rattle.std.specs.Prelude.{◌==◌, is_some, if◌then◌else◌}
 use Rattle.std.specs.Option.{option_eq}
+use Rattle.std.proofs.lemmas.List.Sums.{sum_by-cons, sum_by_push}
 use Rattle.hls_base.specs.declared.number.VarId.{VarId}
 use Rattle.ir_core.specs.declared.body.OpKind.TheVariants as o
 use Rattle.ir_core.specs.declared.body.Operand.{Operand}
@@ -11,7 +12,7 @@ use Rattle.numbering.specs.Equal.{operand_eq}
 use Rattle.numbering.specs.Numbering.{first_bits}
 use Rattle.conversion.specs.Outs.{out, with_out, with_outs}
 use Rattle.conversion.specs.Joining.{Guard, Joined, renamed, renamed_op, plain, next_result, bit_for, bit_in, with_guard, with_taken, with_both, with_bit, needs_guard, with_op, guarded, staying, converted, first_word, by_word, joined_op, joined_ops}
-use Rattle.converted_operations.proofs.Demands.{guards_for, guards_for_all, guards_append}
+use Rattle.converted_operations.proofs.Demands.{guards_for, guards_for_all}
 
 -- ---- outs
 
@@ -37,7 +38,7 @@ pub none_added : (xs : List OpTree) (n m : ℕ) → Adds xs xs n m
 none_added xs n m = record { operations = omega arith; guards = omega arith }
 
 pub one_added : (xs : List OpTree) (op : OpTree) → Adds xs (xs ++ op ∷ []) 1 (guards_for op)
-one_added xs op = let one = length-append xs (op ∷ []) in let two = guards_append xs (op ∷ []) in record { operations = omega (arith, one); guards = omega (arith, two) }
+one_added xs op = let one = length-append xs (op ∷ []) in let two = sum_by_push guards_for xs op in record { operations = omega (arith, one); guards = omega (arith, two) }
 
 -- ---- behind a fork
 
@@ -52,11 +53,12 @@ behind_adds widths outs s (op ∷ ops) =
     let h : Adds s.ops u.ops 1 (guards_for op) =
     behind_word s (renamed_op outs s.values op) (converted op (first_bits widths s.values op.bits op.args) (first_word (map (renamed outs s.values) op.args))) in
     let g = behind_adds widths outs u ops in
+    let more = sum_by-cons guards_for op ops in
     let one = h.operations in
     let two = g.operations in
     let three = h.guards in
     let four = g.guards in
-    record { operations = omega (arith, one, two); guards = omega (arith, three, four) }
+    record { operations = omega (arith, one, two); guards = omega (arith, more, three, four) }
 
 -- ---- the bit of a branch
 
@@ -164,11 +166,12 @@ branch_adds widths outs test s (op ∷ ops) =
     let h : BranchAdds s u (1 + guards_for op) (guards_for op) =
     branch_word test s (renamed_op outs s.values op) (converted op (first_bits widths s.values op.bits op.args) (first_word (map (renamed outs s.values) op.args))) in
     let g = branch_adds widths outs test u ops in
+    let more = sum_by-cons guards_for op ops in
     let one = h.operations in
     let two = g.operations in
     let three = h.guards in
     let four = g.guards in
-    record { operations = omega (arith, one, two); guards = omega (arith, three, four) }
+    record { operations = omega (arith, more, one, two); guards = omega (arith, more, three, four) }
 
 -- with one for the bit of the branch
 pub joined_branch_adds : (widths : List ℕ) (outs : List Out) (test : Operand) (s : Joined) (ops : List OpTree)

@@ -1,7 +1,7 @@
 -- What blocks come to that are opened, merged and joined, and the iterations of loops.
-use Rattle.std.proofs.Common.{◌≡◌, ◌≤◌, ℕ, ◌+◌, Bool, true, false, not, filter, refl, arith, List, [], ◌∷◌, map, length, length-append, Option, Some, None}
-use Rattle.std.specs.Prelude.{if◌then◌else◌}
+use Rattle.std.proofs.Common.{◌≡◌, ◌≤◌, ℕ, ◌+◌, not, refl, arith, List, [], ◌∷◌, map, length, length-append, Option, Some, None}
 use Rattle.std.proofs.lemmas.List.{length-map}
+use Rattle.std.proofs.lemmas.List.Sums.{length-filter, count_by-le-length, sum_by-cons}
 use Rattle.ir_core.specs.declared.body.OpKind.TheVariants as o
 use Rattle.ir_core.specs.declared.body.Operand.{Operand}
 use Rattle.ir_core.specs.declared.body.Out.{Out}
@@ -12,7 +12,7 @@ use Rattle.conversion.specs.Joining.{Guard, Joined, plain, renamed_out, next_res
 use Rattle.conversion.specs.Merging.{Branches, Branched, Choice, opened, branched, is_taken, choice, others, choices_for, choices, selected_bits, with_selection, with_selections, merged, joined}
 use Rattle.conversion.specs.Overlapping.{carried_op, carried_out, iteration}
 use Rattle.size_measures.specs.Totals.{Measure, operations, settings}
-use Rattle.converted_operations.proofs.Demands.{guards_for_all, demands}
+use Rattle.converted_operations.proofs.Demands.{guards_for, guards_for_all, demands}
 use Rattle.converted_operations.proofs.Joined.{with_out_adds, with_outs_add, Adds, none_added, one_added, behind_adds, joined_branch_adds}
 
 -- a block that may be there
@@ -45,21 +45,15 @@ branch_size widths ops outs test guards (Some b) =
 
 -- ---- selections
 
-fewer : (p : Out → Bool) (xs : List Out) → length (filter p xs) ≤ length xs
-fewer p [] = omega arith
-fewer p (x ∷ xs) = by (p x) (fewer p xs) where
-  by : (kept : Bool) → length (filter p xs) ≤ length xs → length (if kept then x ∷ filter p xs else filter p xs) ≤ length (x ∷ xs)
-  by true h = omega (arith, h)
-  by false h = omega (arith, h)
-
 choices_at_most : (outs yes_ no_ : List Out) → length (choices outs yes_ no_) ≤ length yes_ + length no_
 choices_at_most outs yes_ no_ =
     let rest = others yes_ no_ in
     let e = length-append (choices_for outs yes_ no_ yes_) (choices_for outs yes_ no_ rest) in
     let one = length-map yes_ (λ x. choice outs yes_ no_ x.variable) in
     let two = length-map rest (λ x. choice outs yes_ no_ x.variable) in
-    let three = fewer (λ x. not (is_set yes_ x.variable)) no_ in
-    omega (arith, e, one, two, three)
+    let three = length-filter (λ x. not (is_set yes_ x.variable)) no_ in
+    let four = count_by-le-length (λ x. not (is_set yes_ x.variable)) no_ in
+    omega (arith, e, one, two, three, four)
 
 -- a block to which at most n selections are added
 record IsSelected (b : BlockTree) (n : ℕ) (c : BlockTree) : Type 0 where
@@ -136,7 +130,11 @@ joined_outs_add widths b after =
 
 carried_guards : (outs : List Out) (ops : List OpTree) → guards_for_all (map (carried_op outs) ops) ≡ guards_for_all ops
 carried_guards outs [] = refl
-carried_guards outs (op ∷ ops) = let h = carried_guards outs ops in omega (arith, h)
+carried_guards outs (op ∷ ops) =
+    let one = sum_by-cons guards_for op ops in
+    let two = sum_by-cons guards_for (carried_op outs op) (map (carried_op outs) ops) in
+    let h = carried_guards outs ops in
+    omega (arith, one, two, h)
 
 pub joinable_operations : IsJoinable operations
 joinable_operations = record {
