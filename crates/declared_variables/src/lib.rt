@@ -1,0 +1,4 @@
+//! How many variables expanded programs have.
+#![tactic(auto)]
+
+pub mod laws;
