@@ -159,7 +159,7 @@ mutual
   operations_by_weight scope overlaps (tree.land call end) = omega arith
   operations_by_weight scope overlaps (tree.mark point) = omega arith
 
-  all_by_weight : (scope : Scope) (overlaps : Bool) (ps : PieceTrees) → operations_of scope overlaps ps ≤ 8 * piece_weights ps
+  pub all_by_weight : (scope : Scope) (overlaps : Bool) (ps : PieceTrees) → operations_of scope overlaps ps ≤ 8 * piece_weights ps
   all_by_weight scope overlaps tree.no_pieces = omega arith
   all_by_weight scope overlaps (tree.then_ p ps) = let one = operations_by_weight scope overlaps p in let two = all_by_weight scope overlaps ps in omega (arith, one, two)
 
