@@ -1,0 +1,4 @@
+pub mod Seen
+pub mod Points
+pub mod Folds
+pub mod Laws
