@@ -1,0 +1,4 @@
+//! How many objects and parameters the functions of elaborated programs have.
+#![tactic(auto)]
+
+pub mod laws;
