@@ -1,0 +1,35 @@
+-- What is known of the block of a loop's test.
+use Rattle.std.specs.Prelude.{◌≡◌, ◌⊎◌, ◌≤◌, ℕ, true, [], slice_get, Some, None}
+use Rattle.hls_base.specs.declared.point.Point.{Point}
+use Rattle.pieces.specs.Trees.{PureTree}
+use Rattle.ir_core.specs.declared.body.OpKind.TheVariants as o
+use Rattle.ir_core.specs.declared.body.Operand.{Operand}
+use Rattle.block_meaning.specs.Bodies.{OpTree}
+use Rattle.block_meaning.specs.Trees.{branch, BlockTree}
+use Rattle.block_meaning.specs.TreeRuns.{tested_by}
+use Rattle.lowering.specs.Blocks.{begun, ends_by_test}
+use Rattle.numbering.specs.Numbering.{Scope, numbered_block}
+use Rattle.conversion.specs.Overlapping.{is_test}
+use Rattle.loop_tests.specs.Conditions.{ConditionsVary}
+
+-- the block of a test, once it is numbered
+abbrev pub test_block : Scope → PureTree → Point → BlockTree
+test_block scope test point = numbered_block scope (ends_by_test test (begun point))
+
+-- It ends by a test, sets nothing, and its last operation makes the test; or it has none.
+abbrev pub NumberedTestsStand : Type 0
+NumberedTestsStand = (scope : Scope) (test : PureTree) (point : Point) → ConditionsVary test
+    → (x : Operand) × ((test_block scope test point).exit ≡ branch x) × (is_test (test_block scope test point) x ≡ true)
+
+-- It negates a bit or combines two of them, and C always gives it a value.
+pub record MakesBit (k : OpTree) : Type 0 where
+  pub kind : (k.kind ≡ o.Not) ⊎ (k.kind ≡ o.And)
+  pub bits : k.bits ≡ 1
+  pub guard : k.guard ≡ None
+  pub flag : k.flag ≡ None
+
+-- Whatever is tested, the block ends by a test and sets nothing, and the operations behind the one that makes the test only make bits.
+abbrev pub OnlyBitsFollowTests : Type 0
+OnlyBitsFollowTests = (scope : Scope) (test : PureTree) (point : Point)
+    → (x : Operand) × ((test_block scope test point).exit ≡ branch x) × ((test_block scope test point).outs ≡ [])
+    × ((i : ℕ) (k : OpTree) → tested_by x.value ≤ i → slice_get (test_block scope test point).ops i ≡ Some k → MakesBit k)
