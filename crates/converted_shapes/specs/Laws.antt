@@ -1,0 +1,21 @@
+-- What conversion makes of the forks and loops of lowered trees.
+use Rattle.hls_base.specs.declared.point.Point.{Point}
+use Rattle.pieces.specs.Trees.{PieceTrees}
+use Rattle.block_meaning.specs.Trees.{SequenceTree}
+use Rattle.lowering.specs.Blocks.{Scope, begun}
+use Rattle.lowering.specs.Lowering.{last, lowered}
+use Rattle.numbering.specs.Numbering as n
+use Rattle.numbering.specs.Numbering.{numbered_sequence}
+use Rattle.conversion.specs.Conversion as c
+use Rattle.conversion.specs.Conversion.{converted_sequence}
+use Rattle.converted_shapes.specs.Converting.{AllConvert, HasNoFork}
+use Rattle.converted_shapes.specs.Straight.{NoStraightCallEnds, LoopTestsVary}
+
+-- In the numbered tree of pieces each convertible fork is merged, and each eligible loop becomes a loop node, where no call ends in them and the conditions in the tests of these loops vary.
+abbrev pub LoweredShapesConvert : Type 0
+LoweredShapesConvert = (scope : Scope) (numbering : n.Scope) (conversion : c.Scope) (pieces : PieceTrees) (point : Point) → NoStraightCallEnds pieces → LoopTestsVary pieces
+    → AllConvert conversion (numbered_sequence numbering (lowered scope pieces last (begun point)))
+
+-- Where each convertible fork is merged, no convertible fork is left.
+abbrev pub NoForkIsLeft : Type 0
+NoForkIsLeft = (scope : c.Scope) (blocks : SequenceTree) → AllConvert scope blocks → HasNoFork (converted_sequence scope blocks)

@@ -1,0 +1,4 @@
+pub mod Converting
+pub mod Straight
+pub mod Laws
+pub mod Examples
