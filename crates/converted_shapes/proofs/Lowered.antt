@@ -16,6 +16,7 @@ use Rattle.lowering.specs.Copies.{copied_block, copied_parts, fixed_behind, fixe
 use Rattle.lowering.specs.Lowering.{Rest, last, followed, parts_of, land_of, side_from, with_copies, own_step, stepped, is_named, lowered, lowered_piece, before_arm, arms}
 use Rattle.numbering.specs.Numbering as n
 use Rattle.numbering.specs.Numbering.{Value, nothing, numbered_ops, in_loop, renamed_exit, numbered_block, numbered_sequence, numbered_parts, numbered_shape, numbered_side, numbered_arms}
+use Rattle.numbering.proofs.Equalities.{first as left_true, second as right_true}
 use Rattle.conversion.specs.Merging.{test_of, is_only, is_only_side, first_of, first_block, branches_by, forked, Branches}
 use Rattle.conversion.specs.Overlapping.{test_if, test_alone, is_there, converted_loop, loop_by}
 use Rattle.conversion.specs.Conversion as c
@@ -29,14 +30,6 @@ use Rattle.loop_tests.proofs.Tests.{tests_stand}
 use Rattle.converted_shapes.specs.Converting.{is_loop_node, AllConvert, PartsConvert, ShapeConverts, SideConverts, ArmsConvert}
 use Rattle.converted_shapes.specs.Straight.{EndsNoStraightCall, NoStraightCallEnds, TestVaries, LoopTestsVary}
 use Rattle.converted_shapes.specs.Laws.{LoweredShapesConvert}
-
-pub left_true : (x y : Bool) → (x && y) ≡ true → x ≡ true
-left_true true y e = refl
-left_true false y e = e
-
-pub right_true : (x y : Bool) → (x && y) ≡ true → y ≡ true
-right_true true y e = e
-right_true false y e = absurd cc
 
 not_true : (x : Bool) → not x ≡ true → x ≡ false
 not_true true e = absurd cc

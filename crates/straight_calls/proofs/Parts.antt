@@ -21,7 +21,8 @@ use Rattle.piece_making.specs.Saving.{may_skip_element, saved_if, saved, all_sav
 use Rattle.lowering.specs.Shapes.{is_straight, are_straight, is_eligible}
 use Rattle.lowered_conversions.specs.Suiting.{NoCallEnds}
 use Rattle.converted_shapes.specs.Straight.{NoStraightCallEnds}
-use Rattle.converted_shapes.proofs.Lowered.{left_true, right_true, eligible_parts}
+use Rattle.numbering.proofs.Equalities.{first as left_true, second as right_true}
+use Rattle.converted_shapes.proofs.Lowered.{eligible_parts}
 
 -- ---- pieces one behind another
 
