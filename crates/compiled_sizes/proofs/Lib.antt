@@ -1,4 +1,3 @@
-pub mod Numbered
 pub mod Converted
 pub mod Laid
 pub mod Whole

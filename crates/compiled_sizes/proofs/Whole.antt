@@ -21,7 +21,7 @@ use Rattle.converted_operations.proofs.Numbered.{numbered_fewer}
 use Rattle.converted_operations.proofs.Converted.{converted_bounded}
 use Rattle.lowered_nodes.proofs.Trees.{lowered_nodes}
 use Rattle.compiled_sizes.specs.Laws.{AreLight, CompiledProgramsAreSmall, SmallProgramsHaveNumbers}
-use Rattle.compiled_sizes.proofs.Numbered.{numbered_nodes}
+use Rattle.kept_nodes.proofs.Sizes.{sequence_same}
 use Rattle.compiled_sizes.proofs.Converted.{converted_nodes}
 use Rattle.compiled_sizes.proofs.Laid.{AreShort, laid_short, node_short}
 
@@ -38,7 +38,7 @@ module _ (scope : Scope) (n : numbering.Scope) (c : conversion.Scope) (pieces : 
   nodes_fit : sequence_size compiled < 2 ^ 16
   nodes_fit =
       let one = lowered_nodes scope pieces point in
-      let two = numbered_nodes n first in
+      let two = sequence_same n first in
       let three = converted_nodes c numbered in
       let weight = light.weight in
       let lands = light.lands in
