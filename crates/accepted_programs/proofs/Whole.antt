@@ -1,5 +1,5 @@
 -- There are numbers enough for what an accepted source is compiled to.
-use Rattle.std.proofs.Common.{◌≡◌, ◌∙◌, ap, sym, arith, length}
+use Rattle.std.proofs.Common.{true, ◌≡◌, ◌∙◌, ap, sym, arith, length}
 use Rattle.std.proofs.lemmas.List.{length-map}
 use Rattle.c_value.specs.Values.{width}
 use Rattle.pieces.specs.Program.{ExpandedTree}
@@ -14,7 +14,14 @@ use Rattle.valid_frames.specs.Laws.{NamesAreFew}
 use Rattle.expanded_sizes.specs.Laws.{IsSmall}
 use Rattle.expanded_sizes.proofs.Whole.{expansions_small}
 use Rattle.few_objects.proofs.Programs.{few_objects}
-use Rattle.compiled_sizes.specs.Laws.{IsSmallProgram}
+use Rattle.c_tree.specs.Terminals.{terminals}
+use Rattle.lowering.specs.Blocks.{Scope}
+use Rattle.program_validity.specs.Programs.{is_valid}
+use Rattle.elaborated_programs.proofs.Tokens.{numbers_fit}
+use Rattle.elaborated_subscripts.proofs.Programs.{checked_fit}
+use Rattle.source_types.proofs.Whole.{sources_fine}
+use Rattle.forward_programs.proofs.Whole.{compiled_forward}
+use Rattle.compiled_sizes.specs.Laws.{AreLight, IsSmallProgram}
 use Rattle.compiled_sizes.proofs.Whole.{compiled_small, small_has_numbers}
 use Rattle.compiled_validity.proofs.Sources.{sources_valid}
 use Rattle.source_runs.specs.Laws.{expanded}
@@ -36,10 +43,14 @@ accepted_valid source p top name s light =
     let found = sources_valid source p top name s in
     let few = few_objects s.tokens s.replaced s.end p top s.becomes s.derives in
     let small : IsSmall e = expansions_small (program_elaborated p top) few light in
-    let scope = scope_of (frame_of e) in (
+    let pieces : AreLight e.pieces = record { weight = small.weight; lands = small.lands } in
+    let scope : Scope = scope_of (frame_of e) in
+    let fine = sources_fine source s.tokens s.replaced s.end p top name s.spelled s.becomes s.derives s.named s.faultless in
+    let numbers = numbers_fit source s.tokens s.replaced s.spelled s.becomes in
+    let subscripts = checked_fit (terminals s.replaced) s.end p top name numbers s.derives s.named s.faultless in (
       found.0,
       λ choice cfg laid same.
-          (let fits : IsSmallProgram cfg =
-          compiled_small scope (numbering_of (frame_of e) choice) (conversion_of (frame_of e) choice) e.pieces found.0 e.result cfg (record { weight = small.weight; lands = small.lands }) laid.nodes in
-          (found.1 choice cfg laid same (few_names cfg.frame e same small) (small_has_numbers cfg fits), fits)),
+          (let fits : IsSmallProgram cfg = compiled_small scope (numbering_of (frame_of e) choice) (conversion_of (frame_of e) choice) e.pieces found.0 e.result cfg pieces laid.nodes in
+          let valid : is_valid cfg ≡ true = found.1 choice cfg laid same (few_names cfg.frame e same small) (small_has_numbers cfg fits) in
+          (valid, fits, compiled_forward scope choice.apart choice.loops e.pieces found.0 e.result cfg fine.1.typed subscripts pieces laid.nodes valid)),
     )

@@ -1,5 +1,6 @@
 -- How the programs are that sources are compiled to.
 use Rattle.std.specs.Prelude.{◌≡◌, ◌≤◌, ◌+◌, ◌*◌, ℕ, true, List, length}
+use Rattle.std.specs.List.{All}
 use Rattle.hls_base.specs.declared.point.Point.{Point}
 use Rattle.c_tree.specs.Tree.{ProgramTree}
 use Rattle.c_elaborate.specs.Programs.{program_elaborated}
@@ -17,14 +18,15 @@ use Rattle.ir_lower.specs.Frames.{frame_view}
 use Rattle.compile_steps.specs.Resets.{expanded_frame}
 use Rattle.flat_runs.specs.Laws.{Choice, IsLaidOut}
 use Rattle.program_validity.specs.Programs.{is_valid}
+use Rattle.program_times.specs.ForwardNodes.{HasForwardBody}
 use Rattle.compiled_sizes.specs.Laws.{IsSmallProgram}
 use Rattle.source_runs.specs.Laws.{IsFaultless, expanded}
 
--- Of each source without faults that weighs at most 8,192 once its calls are expanded: there is a point at which its pieces begin, and each program that is laid out from them, beside what stands beside them, is valid and small. So there always are numbers enough.
+-- Of each source without faults that weighs at most 8,192 once its calls are expanded: there is a point at which its pieces begin, and each program that is laid out from them, beside what stands beside them, is valid and small, so that there always are numbers enough, and each of its operations comes behind those that it waits for, so that it can be given times.
 abbrev pub AcceptedSourcesCompileToValid : Type 0
 AcceptedSourcesCompileToValid = (source : List ℕ) (p : ProgramTree) (top : ℕ) (name : List ℕ) → IsFaultless source p top name → expanded_weight (program_elaborated p top) ≤ 8192
     → (start : Point) × ((choice : Choice) (cfg : Cfg Untimed) → IsLaidOut (frame_of (expanded p top)) choice (expanded p top).pieces start (expanded p top).result cfg
-    → frame_view cfg.frame ≡ expanded_frame (expanded p top) → (is_valid cfg ≡ true) × IsSmallProgram cfg)
+    → frame_view cfg.frame ≡ expanded_frame (expanded p top) → (is_valid cfg ≡ true) × IsSmallProgram cfg × All HasForwardBody cfg.nodes.items)
 
 -- the tree of blocks that a source is lowered to, which begins at this point
 abbrev pub lowered_source : ProgramTree → ℕ → Point → SequenceTree

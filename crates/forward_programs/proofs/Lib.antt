@@ -1,0 +1,5 @@
+pub mod Operands
+pub mod Operations
+pub mod Nodes
+pub mod NearNodes
+pub mod Whole

@@ -1,0 +1,3 @@
+pub mod NearConstants
+pub mod Examples
+pub mod Laws
