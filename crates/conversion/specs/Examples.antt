@@ -98,16 +98,28 @@ computed_conversion : converted_sequence scope
     ≡ alone (block kind.Begin (select (entry 0) (entry 1) (constant 4294967295) ∷ []) (sets 3 (constant 255) ∷ sets 1 (result_of 0) ∷ []) next)
 computed_conversion = refl
 
--- while (v0 < v1) v0 = v0 / v2;
-abbrev halving : SequenceTree
-halving =
+-- while (v0 < v1) v0 = v0 / v2; where these operations stand behind the test
+abbrev halving : List OpTree → Bool → SequenceTree
+halving behind eligible =
     sequence (block kind.Begin [] [] next)
     (more_parts
-    (loop false (alone (block kind.Test (less (entry 0) (entry 1) ∷ []) [] (branch (result_of 0)))) (alone (block kind.Body (quotient 1 None (entry 0) (entry 2) ∷ []) (sets 0 (result_of 0) ∷ []) next)) no_side true)
+    (loop false (alone (block kind.Test (less (entry 0) (entry 1) ∷ behind) [] (branch (result_of 0)))) (alone (block kind.Body (quotient 1 None (entry 0) (entry 2) ∷ []) (sets 0 (result_of 0) ∷ []) next)) no_side eligible)
     (block kind.End [] [] next) no_part)
 
-overlapped_loop : converted_sequence scope halving
+overlapped_loop : converted_sequence scope (halving [] true)
     ≡ sequence (block kind.Begin [] [] next)
     (more_parts (overlapped (point kind.Body) (record { ops = less (before 0) (entry 1) ∷ quotient 1 None (before 0) (entry 2) ∷ []; outs = sets 0 (result_of 1) ∷ []; test = Some (result_of 0) }))
     (block kind.End [] [] next) no_part)
 overlapped_loop = refl
+
+-- A bit behind the test stays there.
+bit_behind : converted_sequence scope (halving (one_bit o.And (result_of 0 ∷ constant 0 ∷ []) ∷ []) true)
+    ≡ sequence (block kind.Begin [] [] next)
+    (more_parts
+    (overlapped (point kind.Body) (record { ops = less (before 0) (entry 1) ∷ one_bit o.And (result_of 0 ∷ constant 0 ∷ []) ∷ quotient 1 None (before 0) (entry 2) ∷ []; outs = sets 0 (result_of 2) ∷ []; test = Some (result_of 0) }))
+    (block kind.End [] [] next) no_part)
+bit_behind = refl
+
+-- Behind an operation that may be undefined the loop stays.
+quotient_behind : converted_sequence scope (halving (quotient 2 None (entry 0) (entry 2) ∷ []) true) ≡ halving (quotient 2 None (entry 0) (entry 2) ∷ []) false
+quotient_behind = refl

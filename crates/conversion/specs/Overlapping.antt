@@ -1,5 +1,5 @@
 -- A loop of one block for its test and one for its body, as one whose iterations may overlap.
-use Rattle.std.specs.Prelude.{ℕ, ◌==◌, Bool, true, false, not, ◌&&◌, List, length, map, Option, Some, None, if◌then◌else◌}
+use Rattle.std.specs.Prelude.{ℕ, ◌==◌, Bool, true, false, not, ◌&&◌, List, [], ◌∷◌, length, map, drop, Option, Some, None, if◌then◌else◌}
 use Rattle.std.specs.Option.{option_map}
 use Rattle.ir_core.specs.declared.body.Operand.{Operand}
 use Rattle.ir_core.specs.declared.body.Out.{Out}
@@ -9,13 +9,18 @@ use Rattle.block_meaning.specs.Bodies.{OpTree}
 use Rattle.block_meaning.specs.Trees.{BlockTree, BodyTree, SequenceTree, sequence, no_part, more_parts, ShapeTree, loop, overlapped, SideTree, no_side, side}
 use Rattle.block_meaning.specs.TreeRuns.{tested_by}
 use Rattle.conversion.specs.Outs.{is_set, out}
+use Rattle.conversion.specs.Joining.{needs_guard}
 use Rattle.conversion.specs.Merging.{test_of, is_only, first_of, opened, joined}
 
 -- ---- which loops are overlapped
 
--- The block sets nothing, and its last operation makes the test; or it has none.
+abbrev pub none_needs_guard : List OpTree → Bool
+none_needs_guard [] = true
+none_needs_guard (op ∷ ops) = not (needs_guard op) && none_needs_guard ops
+
+-- The block sets nothing, and behind the operation that makes the test no other one may be undefined or stores.
 abbrev pub is_test : BlockTree → Operand → Bool
-is_test b test = length b.outs == 0 && tested_by test.value == length b.ops
+is_test b test = length b.outs == 0 && none_needs_guard (drop (tested_by test.value) b.ops)
 
 abbrev pub test_if : BlockTree → Option Operand → Option Operand
 test_if b None = None

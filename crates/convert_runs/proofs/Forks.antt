@@ -1,7 +1,6 @@
 -- Forks become one block, and simple loops loop nodes.
-use Rattle.std.proofs.Common.{◌≡◌, ◌∙◌, Bool, true, false, ◌&&◌, refl, ap, sym, arith, List, [], ◌∷◌, length, Option, Some, None}
-use Rattle.std.specs.Prelude.{◌==◌, if◌then◌else◌}
-use Rattle.std.proofs.lemmas.Bool.{eqb-true}
+use Rattle.std.proofs.Common.{◌≡◌, ◌∙◌, Bool, true, false, ◌&&◌, refl, ap, sym, [], length, Option, Some, None}
+use Rattle.std.specs.Prelude.{◌==◌, drop, if◌then◌else◌}
 use Rattle.ir_core.specs.declared.body.Operand.{Operand}
 use Rattle.ir_core.specs.declared.body.Out.{Out}
 use Rattle.block_meaning.specs.Trees.{ExitTree, branch, BlockTree, SequenceTree, sequence, PartTrees, no_part, more_parts, fork, loop, switch, land, overlapped, SideTree, no_side, side}
@@ -9,8 +8,9 @@ use Rattle.block_meaning.specs.TreeRuns.{tested_by}
 use Rattle.conversion.specs.Outs.{with_outs}
 use Rattle.conversion.specs.Joining.{renamed, renamed_exit}
 use Rattle.conversion.specs.Merging.{Branches, test_of, leads_on, is_only, is_only_side, first_block, opened, branches_of, merged, joined}
-use Rattle.conversion.specs.Overlapping.{is_test, test_if, overlapped_test, loop_by}
+use Rattle.conversion.specs.Overlapping.{none_needs_guard, is_test, test_if, overlapped_test, loop_by}
 use Rattle.conversion.specs.Conversion.{Scope, going_on, behind, converted_sequence, converted_behind, converted_side}
+use Rattle.convert_runs.proofs.Tests.{sets_nothing}
 use Rattle.convert_runs.specs.Forks.{HoldsForks, ForksBehind, SideHoldsForks, ForksAreMerged, LoopsAreOverlapped}
 
 -- operands of an exit that stand for others
@@ -50,19 +50,12 @@ forks scope blocks h = sequence_only scope blocks h
 
 -- ---- loops
 
-both_true : (x y : Bool) → (x && y) ≡ true → (x ≡ true) × (y ≡ true)
-both_true true y e = (refl, e)
-both_true false y e = absurd cc
-
-no_outs : (xs : List Out) → (length xs == 0) ≡ true → xs ≡ []
-no_outs [] e = refl
-no_outs (x ∷ xs) e = let h = eqb-true (length (x ∷ xs)) 0 e in absurd (omega (arith, h))
-
 -- a block that sets nothing stays as it is where it is opened
 opened_test : (head : BlockTree) (test : Operand) → is_test head test ≡ true → is_test (opened head) test ≡ true
 opened_test head test h =
-    let none = no_outs head.outs (both_true (length head.outs == 0) (tested_by test.value == length head.ops) h).0 in
-    ap (λ l. (length (with_outs [] l) == 0) && (tested_by test.value == length head.ops)) none ∙ sym (ap (λ l. (length l == 0) && (tested_by test.value == length head.ops)) none) ∙ h
+    let none = sets_nothing head test h in
+    let rest = none_needs_guard (drop (tested_by test.value) head.ops) in
+    ap (λ l. (length (with_outs [] l) == 0) && rest) none ∙ sym (ap (λ l. (length l == 0) && rest) none) ∙ h
 
 pub loops : LoopsAreOverlapped
 loops scope head test body l e h k =

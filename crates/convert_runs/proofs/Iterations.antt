@@ -1,8 +1,7 @@
 -- An iteration of an overlapped loop does what the blocks of test and body do.
-use Rattle.std.proofs.Common.{◌≡◌, ◌∙◌, ℕ, zero, suc, Bool, true, false, ◌&&◌, not, refl, ap, ap₂, sym, arith, List, [], ◌∷◌, ◌++◌, map, length, Option, Some, None}
+use Rattle.std.proofs.Common.{◌≡◌, ◌∙◌, ℕ, zero, suc, Bool, true, false, not, refl, ap, ap₂, sym, subst, arith, List, [], ◌∷◌, ◌++◌, append_assoc, map, length, length-append, take-append-drop, Option, Some, None}
 use Rattle.std.specs.Prelude.{slice_get, ◌==◌, if◌then◌else◌, take, drop}
 use Rattle.std.specs.Option.{option_map}
-use Rattle.std.proofs.lemmas.Bool.{eqb-true}
 use Rattle.hls_base.specs.declared.point.Point.{Point}
 use Rattle.ir_core.specs.declared.body.Operand.{Operand}
 use Rattle.ir_core.specs.declared.body.Out.{Out}
@@ -19,11 +18,14 @@ use Rattle.conversion.specs.Outs.{is_set}
 use Rattle.conversion.specs.Merging.{opened, joined}
 use Rattle.conversion.specs.Overlapping as v
 use Rattle.conversion.specs.Overlapping.{is_test, carried_from, carried, carried_op, carried_out}
-use Rattle.convert_runs.specs.Typed.{BlockIsTyped, Fits}
+use Rattle.convert_runs.specs.Typed.{IsEarly, OpsAreTyped, BlockIsTyped, Fits}
 use Rattle.convert_runs.specs.Blocks.{IsOpen, naked, turn_of_blocks}
 use Rattle.convert_runs.proofs.Opening.{opened_open}
-use Rattle.convert_runs.proofs.Behind.{ops_append}
-use Rattle.convert_runs.proofs.Rounds.{first_same, joined_goes, sound}
+use Rattle.convert_runs.proofs.Lists.{left_of}
+use Rattle.convert_runs.proofs.Fitting.{operations_give}
+use Rattle.convert_runs.proofs.Behind.{ops_append, whole_more, word_more}
+use Rattle.convert_runs.proofs.Tests.{sets_nothing, none_behind, tested_early, first_typed, tested_end, none_changes}
+use Rattle.convert_runs.proofs.Rounds.{joined_goes, sound}
 
 -- ---- operands of the iteration before hold the same
 
@@ -87,14 +89,6 @@ drop_first : {A B : Type 0} (f : A → B) (xs ys : List A) → drop (length xs) 
 drop_first f [] ys = refl
 drop_first f (x ∷ xs) ys = drop_first f xs ys
 
-both_true : (x y : Bool) → (x && y) ≡ true → (x ≡ true) × (y ≡ true)
-both_true true y e = (refl, e)
-both_true false y e = absurd cc
-
-no_outs : (xs : List Out) → (length xs == 0) ≡ true → xs ≡ []
-no_outs [] e = refl
-no_outs (x ∷ xs) e = let h = eqb-true (length (x ∷ xs)) 0 e in absurd (omega (arith, h))
-
 module _ (shapes : Shapes) (words : List ℕ) (head body : BlockTree) (test : Operand) (h : BlockIsTyped shapes.widths words head) (k : BlockIsTyped shapes.widths words body) (exit_ : head.exit ≡ branch test) (tests : is_test head test ≡ true) (on_ : body.exit ≡ next)
     (point : Point) (t : Words) (fits : Fits shapes.widths words t) where
   abbrev first : BlockTree
@@ -110,10 +104,23 @@ module _ (shapes : Shapes) (words : List ℕ) (head body : BlockTree) (test : Op
   is_open = opened_open shapes.widths words head h
 
   none : head.outs ≡ []
-  none = no_outs head.outs (both_true (length head.outs == 0) (tested_by test.value == length head.ops) tests).0
+  none = sets_nothing head test tests
 
-  known : tested_by test.value ≡ length head.ops
-  known = eqb-true (tested_by test.value) (length head.ops) (both_true (length head.outs == 0) (tested_by test.value == length head.ops) tests).1
+  -- the operations up to the test, and those behind it
+  abbrev front : List OpTree
+  front = take (tested_by test.value) head.ops
+
+  abbrev back : List OpTree
+  back = drop (tested_by test.value) head.ops
+
+  split : head.ops ≡ front ++ back
+  split = sym (take-append-drop (tested_by test.value) head.ops)
+
+  end : tested_by test.value ≡ length front
+  end = tested_end shapes.widths words head test h exit_
+
+  front_typed : OpsAreTyped shapes.widths words [] front
+  front_typed = first_typed shapes.widths words [] head.ops (tested_by test.value) h.ops
 
   begins_sound : (more_ : List OpTree) × (whole.ops ≡ first.ops ++ more_)
   begins_sound = (sound shapes words first body is_open k t fits).begins
@@ -121,43 +128,70 @@ module _ (shapes : Shapes) (words : List ℕ) (head body : BlockTree) (test : Op
   abbrev more : List OpTree
   more = begins_sound.0
 
-  abbrev begins_ops : whole.ops ≡ first.ops ++ more
-  begins_ops = begins_sound.1
+  begins_block : (i : ℕ) (x : OpTree) → slice_get head.ops i ≡ Some x → slice_get whole.ops i ≡ Some x
+  begins_block i x e = ap (λ l. slice_get l i) begins_sound.1 ∙ left_of head.ops more i x e
 
-  known_behind : tested (Some (carried whole.outs test)) ≡ length head.ops
-  known_behind = ap tested_by (carried_same whole.outs test) ∙ known
+  begins_front : whole.ops ≡ front ++ (back ++ more)
+  begins_front = begins_sound.1 ∙ ap (λ l. l ++ more) split ∙ append_assoc front back more
 
-  taken_ops : take (tested (Some (carried whole.outs test))) (map (carried_op whole.outs) whole.ops) ≡ map (carried_op whole.outs) head.ops
-  taken_ops = ap₂ (λ n l. take n (map (carried_op whole.outs) l)) known_behind begins_ops ∙ take_first (carried_op whole.outs) head.ops more
+  known_behind : tested (Some (carried whole.outs test)) ≡ length front
+  known_behind = ap tested_by (carried_same whole.outs test) ∙ end
 
-  dropped_ops : drop (tested (Some (carried whole.outs test))) (map (carried_op whole.outs) whole.ops) ≡ map (carried_op whole.outs) more
-  dropped_ops = ap₂ (λ n l. drop n (map (carried_op whole.outs) l)) known_behind begins_ops ∙ drop_first (carried_op whole.outs) head.ops more
+  taken_ops : take (tested (Some (carried whole.outs test))) (map (carried_op whole.outs) whole.ops) ≡ map (carried_op whole.outs) front
+  taken_ops = ap₂ (λ n l. take n (map (carried_op whole.outs) l)) known_behind begins_front ∙ take_first (carried_op whole.outs) front (back ++ more)
 
-  -- the test's operations run as they did
-  first_ran : operations shapes (map (carried_op whole.outs) whole.ops) (take (tested (Some (carried whole.outs test))) (map (carried_op whole.outs) whole.ops)) [] t ≡ operations shapes head.ops head.ops [] t
-  first_ran =
-      ap (λ l. operations shapes (map (carried_op whole.outs) whole.ops) l [] t) taken_ops ∙ ops_same whole.outs shapes whole.ops head.ops [] t
-      ∙ sym (first_same shapes words first body is_open k t fits)
+  dropped_ops : drop (tested (Some (carried whole.outs test))) (map (carried_op whole.outs) whole.ops) ≡ map (carried_op whole.outs) (back ++ more)
+  dropped_ops = ap₂ (λ n l. drop n (map (carried_op whole.outs) l)) known_behind begins_front ∙ drop_first (carried_op whole.outs) front (back ++ more)
+
+  -- the operations up to the test run as they did, ..
+  front_same : operations shapes head.ops front [] t ≡ operations shapes whole.ops front [] t
+  front_same = let l = ap length split in let m = length-append front back in whole_more shapes words head.ops whole.ops begins_block [] front front_typed (omega (arith, l, m)) [] t
+
+  first_ran : operations shapes (map (carried_op whole.outs) whole.ops) (take (tested (Some (carried whole.outs test))) (map (carried_op whole.outs) whole.ops)) [] t ≡ operations shapes head.ops front [] t
+  first_ran = ap (λ l. operations shapes (map (carried_op whole.outs) whole.ops) l [] t) taken_ops ∙ ops_same whole.outs shapes whole.ops front [] t ∙ sym front_same
+
+  -- .. and those behind it follow them.
+  abbrev and_back : Ranged → Valued Ranged
+  and_back q = operations shapes head.ops back q.results q.words
+
+  head_ran : operations shapes head.ops head.ops [] t ≡ and_then (operations shapes head.ops front [] t) and_back
+  head_ran = ap (λ l. operations shapes head.ops l [] t) split ∙ ops_append shapes head.ops front back [] t
 
   abbrev behind_ : Ranged → Words → ℕ → Ran Words Turn
   behind_ r t1 n1 = if goes_round (Some (carried whole.outs test)) r.words r.results then reached point (iterated shapes made r) r.words n1 else goes over r.words n1
 
+  abbrev rounds : Words → ℕ → Ran Words Turn
+  rounds t1 n1 = reached point (λ t2 n2. then_ (naked shapes body t2 n2) (λ w3 t3 n3. goes again t3 n3)) t1 n1
+
   -- what follows the test
-  module _ (r : Ranged) (ran_ : operations shapes head.ops head.ops [] t ≡ is r) where
-    round_test : goes_round (Some (carried whole.outs test)) r.words r.results ≡ holds r.words r.results test
-    round_test = ap (λ s. not (word r.words r.results s == 0)) (carried_same whole.outs test)
+  module _ (r : Ranged) (ran_ : operations shapes head.ops front [] t ≡ is r) where
+    bits : (more_ : List ℕ) × (and_back r ≡ is (record { results = r.results ++ more_; words = r.words }))
+    bits = none_changes shapes head.ops back r.results r.words (none_behind head test tests)
 
-    left_same : b.with_outs head.outs r ≡ r.words
-    left_same = ap (λ l. b.with_outs l r) none
+    abbrev later : Ranged
+    later = record { results = r.results ++ bits.0; words = r.words }
 
-    first_left : b.with_outs first.outs r ≡ r.words
-    first_left = ap (λ l. b.with_outs (o.with_outs [] l) r) none
+    all_ran : operations shapes head.ops head.ops [] t ≡ is later
+    all_ran = head_ran ∙ ap (λ (x : Valued Ranged). and_then x and_back) ran_ ∙ bits.1
+
+    early : IsEarly (length r.results) test.value
+    early =
+        subst (λ n. IsEarly n test.value) (end ∙ (operations_give shapes.widths words shapes head.ops [] front [] t refl fits (λ i op e. absurd cc) front_typed r ran_).count) (tested_early test.value)
+
+    round_test : goes_round (Some (carried whole.outs test)) r.words r.results ≡ holds r.words later.results test
+    round_test = ap (λ s. not (word r.words r.results s == 0)) (carried_same whole.outs test) ∙ sym (ap (λ w. not (w == 0)) (word_more r.words r.results bits.0 test.value early))
+
+    left_same : b.with_outs head.outs later ≡ r.words
+    left_same = ap (λ l. b.with_outs l later) none
+
+    first_left : b.with_outs first.outs later ≡ r.words
+    first_left = ap (λ l. b.with_outs (o.with_outs [] l) later) none
 
     rest_ran : operations shapes (map (carried_op whole.outs) whole.ops) (drop (tested (Some (carried whole.outs test))) (map (carried_op whole.outs) whole.ops)) r.results r.words ≡ operations shapes whole.ops whole.ops [] t
     rest_ran =
-        ap (λ l. operations shapes (map (carried_op whole.outs) whole.ops) l r.results r.words) dropped_ops ∙ ops_same whole.outs shapes whole.ops more r.results r.words
-        ∙ sym (ap (λ l. operations shapes whole.ops l [] t) begins_ops ∙ ops_append shapes whole.ops head.ops more [] t
-        ∙ ap (λ (x : Valued Ranged). and_then x (λ q. operations shapes whole.ops more q.results q.words)) (sym (first_same shapes words first body is_open k t fits) ∙ ran_))
+        ap (λ l. operations shapes (map (carried_op whole.outs) whole.ops) l r.results r.words) dropped_ops ∙ ops_same whole.outs shapes whole.ops (back ++ more) r.results r.words
+        ∙ sym (ap (λ l. operations shapes whole.ops l [] t) begins_front ∙ ops_append shapes whole.ops front (back ++ more) [] t
+        ∙ ap (λ (x : Valued Ranged). and_then x (λ q. operations shapes whole.ops (back ++ more) q.results q.words)) (sym front_same ∙ ran_))
 
     again_same : (x : Valued Ranged) (u : Words) (n : ℕ) → valued x (λ r1 t1 n1. goes again (b.with_outs (map (carried_out whole.outs) whole.outs) r1) n1) u n ≡ then_ (valued x (block_left whole) t n) (λ w t1 n1. goes again t1 n1)
     again_same (is q) u n = ap (λ f. goes again (record q.words { variables = f }) n) (outs_same whole.outs whole.outs q.words q.results q.words.variables)
@@ -165,25 +199,28 @@ module _ (shapes : Shapes) (words : List ℕ) (head body : BlockTree) (test : Op
 
     body_same : (n : ℕ) → then_ (naked shapes body r.words n) (λ w t1 n1. goes again t1 n1) ≡ iterated shapes made r r.words n
     body_same n =
-        ap (λ (x : Ran Words Way). then_ x (λ w t1 n1. goes again t1 n1)) (ap (λ u. naked shapes body u n) (sym first_left) ∙ joined_goes shapes words first body is_open k t fits r ran_ n)
+        ap (λ (x : Ran Words Way). then_ x (λ w t1 n1. goes again t1 n1)) (ap (λ u. naked shapes body u n) (sym first_left) ∙ joined_goes shapes words first body is_open k t fits later all_ran n)
         ∙ sym (again_same (operations shapes whole.ops whole.ops [] t) r.words n)
         ∙ sym (ap (λ (x : Valued Ranged). valued x (λ r1 t1 n1. goes again (b.with_outs (map (carried_out whole.outs) whole.outs) r1) n1) r.words n) rest_ran)
 
-    by_test : (c : Bool) (n : ℕ)
-        → (if c then reached point (λ t2 n2. then_ (naked shapes body t2 n2) (λ w3 t3 n3. goes again t3 n3)) (b.with_outs head.outs r) n else goes over (b.with_outs head.outs r) n)
-        ≡ (if c then reached point (iterated shapes made r) r.words n else goes over r.words n)
+    by_test : (c : Bool) (n : ℕ) → (if c then rounds (b.with_outs head.outs later) n else goes over (b.with_outs head.outs later) n) ≡ (if c then reached point (iterated shapes made r) r.words n else goes over r.words n)
     by_test true zero = refl
     by_test true (suc n) = ap (λ (x : Ran Words Turn). ran_behind x) (ap (λ u. then_ (naked shapes body u n) (λ w3 t3 n3. goes again t3 n3)) left_same ∙ body_same n) where
       ran_behind : Ran Words Turn → Ran Words Turn
       ran_behind x = record { trace = point ∷ x.trace; outcome = x.outcome }
     by_test false n = ap (λ u. goes over u n) left_same
 
+    turn_same : (n : ℕ) → then_ (block_left head later t n) (λ w t1 n1. if is_taken w then rounds t1 n1 else goes over t1 n1) ≡ behind_ r t n
+    turn_same n =
+        ap (λ c. if is_taken c then rounds (b.with_outs head.outs later) n else goes over (b.with_outs head.outs later) n) (ap (λ x. way_of x r.words later.results) exit_)
+        ∙ by_test (holds r.words later.results test) n
+        ∙ ap (λ c. if c then reached point (iterated shapes made r) r.words n else goes over r.words n) (sym round_test)
+
   pub round_same : (n : ℕ) → turn_of_blocks shapes head body point t n ≡ iteration shapes point made t n
-  round_same n = by (operations shapes head.ops head.ops [] t) refl ∙ sym (ap (λ (x : Valued Ranged). valued x behind_ t n) first_ran) where
-    by : (x : Valued Ranged) → operations shapes head.ops head.ops [] t ≡ x
-        → then_ (valued x (block_left head) t n) (λ w t1 n1. if is_taken w then reached point (λ t2 n2. then_ (naked shapes body t2 n2) (λ w3 t3 n3. goes again t3 n3)) t1 n1 else goes over t1 n1) ≡ valued x behind_ t n
-    by (faulty rule at) e = refl
-    by (is r) e =
-        ap (λ c. if is_taken c then reached point (λ t2 n2. then_ (naked shapes body t2 n2) (λ w3 t3 n3. goes again t3 n3)) (b.with_outs head.outs r) n else goes over (b.with_outs head.outs r) n) (ap (λ x. way_of x r.words r.results) exit_)
-        ∙ by_test r e (holds r.words r.results test) n
-        ∙ ap (λ c. if c then reached point (iterated shapes made r) r.words n else goes over r.words n) (sym (round_test r e))
+  round_same n = by (operations shapes head.ops front [] t) refl ∙ sym (ap (λ (x : Valued Ranged). valued x behind_ t n) first_ran) where
+    abbrev turn : Valued Ranged → Ran Words Turn
+    turn x = then_ (valued x (block_left head) t n) (λ w t1 n1. if is_taken w then rounds t1 n1 else goes over t1 n1)
+
+    by : (x : Valued Ranged) → operations shapes head.ops front [] t ≡ x → turn (operations shapes head.ops head.ops [] t) ≡ valued x behind_ t n
+    by (faulty rule at) e = ap turn (head_ran ∙ ap (λ (x : Valued Ranged). and_then x and_back) e)
+    by (is r) e = ap turn (all_ran r e) ∙ turn_same r e n

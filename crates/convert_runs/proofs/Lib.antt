@@ -8,6 +8,8 @@ pub mod Joining
 pub mod Merged
 pub mod Behind
 pub mod Rounds
+pub mod Idle
+pub mod Tests
 pub mod Iterations
 pub mod Naked
 pub mod Finding

@@ -266,7 +266,7 @@ fn converted(op: &Op<Untimed>, from_bits: u8) -> Option<u64>
 }
 
 /// An operation that may be undefined, and one that stores, may not run where control does not come to it.
-fn needs_guard(op: &Op<Untimed>) -> bool
+pub fn needs_guard(op: &Op<Untimed>) -> bool
     ensures { result ≡ spec.needs_guard (op_of op.now) }
 {
     op.flag.is_some() || op.kind == OpKind::Store

@@ -9,6 +9,7 @@ ghost use Rattle.conversion.specs.Overlapping as spec;
 ghost use Rattle.if_convert.specs.Entries.{outs_of};
 
 use crate::fork::{into_first, is_only_block, test_of};
+use crate::joining::needs_guard;
 use crate::merging::{Open, Scope};
 use crate::outs::{Sets, is_set, outs_in};
 use ir_core::body::{Body, Op, Operand, Out, Source};
@@ -29,19 +30,31 @@ pub struct Parts {
 // ---- which loops are overlapped
 
 /// How many operations come before the test is known.
-fn tested_by(test: Operand) -> u64
+fn tested_by(test: Operand) -> usize
     ensures { result ≡ tested_by test.value }
 {
     match test.value {
-        Source::Result(op) => op.0 as u64 + 1,
+        Source::Result(op) => op.0 as usize + 1,
         _ => 0,
     }
+}
+
+fn none_needs_guard(ops: &[Op<Untimed>]) -> bool
+    ensures { result ≡ spec.none_needs_guard (map op_of ops.now) }
+{
+    for op in ops {
+        if needs_guard(op) {
+            return false;
+        }
+    }
+    true
 }
 
 fn is_test(block: &BasicBlock, test: Operand) -> bool
     ensures { result ≡ spec.is_test (block_of block.now) test }
 {
-    block.outs.is_empty() && tested_by(test) == block.ops.len() as u64
+    let behind = tested_by(test).min(block.ops.len());
+    block.outs.is_empty() && none_needs_guard(&block.ops[behind..])
 }
 
 fn test_in(block: &BasicBlock) -> Option<Operand>
