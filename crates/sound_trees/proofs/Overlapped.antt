@@ -1,7 +1,7 @@
 -- The body of a loop that is overlapped is sound.
 use Rattle.std.specs.Prelude.{◌==◌, ◌≢◌, slice_get, nat_lt, if◌then◌else◌}
 use Rattle.std.proofs.Common.{◌≡◌, ◌∙◌, ◌<◌, ◌≤◌, inl, inr, ℕ, zero, suc, Bool, true, false, ◌||◌, refl, ap, sym, subst, arith, List, [], ◌∷◌, ◌++◌, map, length, length-append, Option, Some, None}
-use Rattle.std.proofs.lemmas.Bool.{eqb-true, ltb-true, ltb-false}
+use Rattle.std.proofs.lemmas.Bool.{ltb-true, ltb-false}
 use Rattle.hls_base.specs.declared.number.OpId.{OpId}
 use Rattle.hls_base.specs.declared.number.VarId.{VarId}
 use Rattle.ir_core.specs.declared.body.OpKind.TheVariants as o
@@ -22,13 +22,13 @@ use Rattle.convert_runs.proofs.Finding.{no_fork_found}
 use Rattle.convert_runs.proofs.Joining.{has_early, all_sound}
 use Rattle.convert_runs.proofs.Merged.{start_sound}
 use Rattle.convert_runs.proofs.Opening.{turned_number, itself_number, same_number, left_false, right_false}
+use Rattle.convert_runs.proofs.Tests.{sets_nothing}
 use Rattle.dep_graph.specs.Offsets as graph
 use Rattle.dep_graph.specs.Offsets.{maker}
 use Rattle.clock_runs.specs.Premises.{Each, IsOperandAs, IsOperand, NamesResult, AreApart}
 use Rattle.sound_trees.specs.Ready.{IsNear, OutsAreNear, ExitIsNear, IsChecked, OpsAreReady, BlockIsReady}
 use Rattle.sound_trees.proofs.Renamed.{length_map}
 use Rattle.sound_trees.specs.Loops.{TestsAlone, AreComputed, BodyIsSound}
-use Rattle.sound_trees.proofs.Fixed.{both_true}
 use Rattle.sound_trees.proofs.Merged.{opened_ready, joined_ready}
 use Rattle.sound_trees.proofs.ConvertedOwn.{Owns, same_name}
 use Rattle.sound_trees.proofs.JoinedOwn.{overlapped_owns}
@@ -168,9 +168,10 @@ module _ (shapes : Shapes) (words : List ℕ) (b : BlockTree) (h : BlockIsReady 
 
 -- ---- the test
 
-no_outs : (xs : List Out) → (length xs == 0) ≡ true → xs ≡ []
-no_outs [] e = refl
-no_outs (x ∷ xs) e = let h = eqb-true (length (x ∷ xs)) 0 e in absurd (omega (arith, h))
+tested_within : (n : ℕ) (s : Source) → IsEarly n s → tested_by s ≤ n
+tested_within n (source.Constant w) h = omega arith
+tested_within n (source.Variable v) h = omega arith
+tested_within n (source.Result i) h = omega (arith, h)
 
 -- what stores nothing has no store
 no_store : (shapes : Shapes) (words : List ℕ) (before ops : List OpTree) (k : ℕ) (op : OpTree) → OpsAreReady shapes words false before ops → slice_get ops k ≡ Some op → op.kind ≡ o.Store → ⊥
@@ -217,11 +218,10 @@ module _ (shapes : Shapes) (words : List ℕ) (loops : Bool) where
   pub overlapped_sound : (head body : BlockTree) (known : Operand) → BlockIsReady shapes words false head → BlockIsReady shapes words true head → head.exit ≡ branch known → is_test head known ≡ true
       → BlockIsReady shapes words true body → AreComputed body.ops → Owns (λ v. false) (λ v. true) body → BodyIsSound shapes (iteration known (joined shapes.widths (opened head) body))
   overlapped_sound head body known quiet h exit is_test_ b c own =
-      let q = both_true (length head.outs == 0) (tested_by known.value == length head.ops) is_test_ in
-      let none = no_outs head.outs q.0 in
+      let none = sets_nothing head known is_test_ in
       let bare : BlockTree = record head { outs = [] } in
       let same : bare ≡ opened head = λ i. record head { outs = bare_outs none i } in
-      subst (λ (x : BlockTree). BodyIsSound shapes (iteration known (joined shapes.widths x body))) same (bare_sound q.1) where
+      subst (λ (x : BlockTree). BodyIsSound shapes (iteration known (joined shapes.widths x body))) same bare_sound where
         bare_outs : head.outs ≡ [] → [] ≡ with_outs [] head.outs
         bare_outs e = sym (ap (with_outs []) e)
 
@@ -243,15 +243,14 @@ module _ (shapes : Shapes) (words : List ℕ) (loops : Bool) where
         later_known (source.Variable v) m n l e = tt
         later_known (source.Result i) m n l e = omega (arith, l, e)
 
-        bare_sound : (tested_by known.value == length head.ops) ≡ true → BodyIsSound shapes (iteration known (joined shapes.widths (record head { outs = [] }) body))
-        bare_sound t =
-            let e = eqb-true (tested_by known.value) (length head.ops) t in
+        bare_sound : BodyIsSound shapes (iteration known (joined shapes.widths (record head { outs = [] }) body))
+        bare_sound =
             let l = length-append head.ops begins.0 in
             let m = ap length begins.1 in
             iteration_sound shapes words (joined shapes.widths (record head { outs = [] }) body) (joined_ready shapes words (record head { outs = [] }) body bare_ready b) (overlapped_owns shapes words head body b c own) known near_known
             (later_known known.value (length head.ops) (length (joined shapes.widths (record head { outs = [] }) body).ops) (omega (arith, l, m)) early_known)
-            (λ k op at q. by_place k op at q e (nat_lt k (length head.ops)) refl)
+            (λ k op at q. by_place k op at q (nat_lt k (length head.ops)) refl)
           where
-            by_place : (k : ℕ) (op : OpTree) → slice_get (joined shapes.widths (record head { outs = [] }) body).ops k ≡ Some op → op.kind ≡ o.Store → tested_by known.value ≡ length head.ops → (c1 : Bool) → nat_lt k (length head.ops) ≡ c1 → tested_by known.value ≤ k
-            by_place k op at q e true w = absurd (no_store shapes words [] head.ops k op quiet.ops (shorter_at head.ops begins.0 k op (sym (ap (λ l1. slice_get l1 k) begins.1) ∙ at) (ltb-true k (length head.ops) w)) q)
-            by_place k op at q e false w = let g = ltb-false k (length head.ops) w in omega (arith, g, e)
+            by_place : (k : ℕ) (op : OpTree) → slice_get (joined shapes.widths (record head { outs = [] }) body).ops k ≡ Some op → op.kind ≡ o.Store → (c1 : Bool) → nat_lt k (length head.ops) ≡ c1 → tested_by known.value ≤ k
+            by_place k op at q true w = absurd (no_store shapes words [] head.ops k op quiet.ops (shorter_at head.ops begins.0 k op (sym (ap (λ l1. slice_get l1 k) begins.1) ∙ at) (ltb-true k (length head.ops) w)) q)
+            by_place k op at q false w = let g = ltb-false k (length head.ops) w in let n = tested_within (length head.ops) known.value early_known in omega (arith, g, n)
