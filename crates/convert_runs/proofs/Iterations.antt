@@ -163,6 +163,10 @@ module _ (shapes : Shapes) (words : List ℕ) (head body : BlockTree) (test : Op
   abbrev rounds : Words → ℕ → Ran Words Turn
   rounds t1 n1 = reached point (λ t2 n2. then_ (naked shapes body t2 n2) (λ w3 t3 n3. goes again t3 n3)) t1 n1
 
+  -- an iteration behind the operations of its test
+  abbrev turn : ℕ → Valued Ranged → Ran Words Turn
+  turn n x = then_ (valued x (block_left head) t n) (λ w t1 n1. if is_taken w then rounds t1 n1 else goes over t1 n1)
+
   -- what follows the test
   module _ (r : Ranged) (ran_ : operations shapes head.ops front [] t ≡ is r) where
     bits : (more_ : List ℕ) × (and_back r ≡ is (record { results = r.results ++ more_; words = r.words }))
@@ -218,9 +222,6 @@ module _ (shapes : Shapes) (words : List ℕ) (head body : BlockTree) (test : Op
 
   pub round_same : (n : ℕ) → turn_of_blocks shapes head body point t n ≡ iteration shapes point made t n
   round_same n = by (operations shapes head.ops front [] t) refl ∙ sym (ap (λ (x : Valued Ranged). valued x behind_ t n) first_ran) where
-    abbrev turn : Valued Ranged → Ran Words Turn
-    turn x = then_ (valued x (block_left head) t n) (λ w t1 n1. if is_taken w then rounds t1 n1 else goes over t1 n1)
-
-    by : (x : Valued Ranged) → operations shapes head.ops front [] t ≡ x → turn (operations shapes head.ops head.ops [] t) ≡ valued x behind_ t n
-    by (faulty rule at) e = ap turn (head_ran ∙ ap (λ (x : Valued Ranged). and_then x and_back) e)
-    by (is r) e = ap turn (all_ran r e) ∙ turn_same r e n
+    by : (x : Valued Ranged) → operations shapes head.ops front [] t ≡ x → turn n (operations shapes head.ops head.ops [] t) ≡ valued x behind_ t n
+    by (faulty rule at) e = ap (turn n) (head_ran ∙ ap (λ (x : Valued Ranged). and_then x and_back) e)
+    by (is r) e = ap (turn n) (all_ran r e) ∙ turn_same r e n
