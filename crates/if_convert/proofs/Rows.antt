@@ -1,5 +1,5 @@
 -- Shapes by their variants, and rows of parts and arms.
-use Rattle.std.proofs.Common.{vec_len, ◌≡◌, ◌∙◌, ℕ, true, false, length, arith, List, [], ◌∷◌, ◌++◌, map, refl, ap, ap₂, sym, Bool, Option, Some, None, Box, Vec, Global}
+use Rattle.std.proofs.Common.{vec_len, ◌≡◌, ◌∙◌, ℕ, zero, suc, min, drop, true, false, length, arith, List, [], ◌∷◌, ◌++◌, map, refl, ap, ap₂, sym, Bool, Option, Some, None, Box, Vec, Global}
 use Rattle.std.proofs.lemmas.Bool.{eqb-true}
 use Rattle.std.proofs.lemmas.List.{map-append}
 use Rattle.std.specs.Prelude.{◌==◌, IfOk}
@@ -31,8 +31,14 @@ sequence_out s = fold_out-Sequence ShapeTree PartTree SequenceTree shape_step pa
 pub sequence_rolled : (first : BasicBlock) (rest : Vec Part Global) → sequence_of (roll-Sequence (record { first = first; rest = rest })) ≡ sequence (block_of first) (part_row (map part_of rest.items))
 sequence_rolled first rest = fold-roll-Sequence ShapeTree PartTree SequenceTree shape_step part_step sequence_step (record { first = first; rest = rest })
 
-pub counted : (ps : Vec Part Global) (b : Bool) → (vec_len ps == 0) ≡ b → (length ps.items == 0) ≡ b
+pub counted : {X : Type 0} (ps : Vec X Global) (b : Bool) → (vec_len ps == 0) ≡ b → (length ps.items == 0) ≡ b
 counted ps b e = let ok = ps.ok in let same : length ps.items ≡ vec_len ps = omega (arith, ok) in ap (λ n. n == 0) same ∙ e
+
+-- what is behind the first elements, of which there may be fewer
+pub behind_first : {X : Type 0} (n : ℕ) (xs : List X) → drop (min n (length xs)) xs ≡ drop n xs
+behind_first zero xs = let on : min zero (length xs) ≡ zero = omega arith in ap (λ k. drop k xs) on
+behind_first (suc n) [] = let on : min (suc n) 0 ≡ 0 = omega arith in ap (λ k. drop k []) on
+behind_first (suc n) (x ∷ xs) = let on : min (suc n) (length (x ∷ xs)) ≡ suc (min n (length xs)) = omega arith in ap (λ k. drop k (x ∷ xs)) on ∙ behind_first n xs
 
 -- ---- sequences of one block alone
 
