@@ -25,10 +25,9 @@ use Rattle.convert_runs.proofs.Forks.{forks as merged_forks}
 use Rattle.lowered_conversions.specs.Suiting.{NoCallEnds}
 use Rattle.lowered_conversions.specs.Laws.{body_blocks}
 use Rattle.lowered_conversions.proofs.Forks.{numbered_forks}
-use Rattle.loop_tests.specs.Conditions.{ConditionsVary}
 use Rattle.loop_tests.proofs.Tests.{tests_stand}
 use Rattle.converted_shapes.specs.Converting.{is_loop_node, AllConvert, PartsConvert, ShapeConverts, SideConverts, ArmsConvert}
-use Rattle.converted_shapes.specs.Straight.{EndsNoStraightCall, NoStraightCallEnds, TestVaries, LoopTestsVary}
+use Rattle.converted_shapes.specs.Straight.{EndsNoStraightCall, NoStraightCallEnds}
 use Rattle.converted_shapes.specs.Laws.{LoweredShapesConvert}
 
 not_true : (x : Bool) → not x ≡ true → x ≡ false
@@ -198,10 +197,10 @@ module _ (lower : Scope) (scope : c.Scope) where
   -- ---- loops
 
   -- the test of a loop is one block that is a test
-  test_found : (numbering : n.Scope) (before : PieceTrees) (test : PureTree) (point : Point) → are_marks before ≡ true → NoCallEnds before → ConditionsVary test
+  test_found : (numbering : n.Scope) (before : PieceTrees) (test : PureTree) (point : Point) → are_marks before ≡ true → NoCallEnds before
       → (x : Operand) × (test_alone (converted_sequence scope (numbered_sequence numbering (lowered lower before (λ b. last (ends_by_test test b)) (begun point)))) ≡ Some x)
-  test_found numbering before test point marks calls vary =
-      let t = tests_stand numbering test point vary in
+  test_found numbering before test point marks calls =
+      let t = tests_stand numbering test point in
       let b = numbered_block numbering (ends_by_test test (begun point)) in (
         t.0,
         ap (λ s. test_alone (converted_sequence scope (numbered_sequence numbering s))) (marks_pass lower before (λ b1. last (ends_by_test test b1)) (begun point) marks calls)
@@ -209,19 +208,19 @@ module _ (lower : Scope) (scope : c.Scope) where
       )
 
   loop_overlaps : (numbering : n.Scope) (post : Bool) (before : PieceTrees) (test : PureTree) (body step : PieceTrees) (first again : Point) (own : Option Point) → own_step body (first_point step) ≡ own
-      → is_eligible post before (weight test) body step ≡ true → NoCallEnds before × NoCallEnds body × NoCallEnds step → ConditionsVary test → scope.loops ≡ true
+      → is_eligible post before (weight test) body step ≡ true → NoCallEnds before × NoCallEnds body × NoCallEnds step → scope.loops ≡ true
       → is_loop_node (converted_loop scope.widths (is_eligible post before (weight test) body step && scope.loops) post (converted_sequence scope (numbered_sequence numbering (lowered lower before (λ b. last (ends_by_test test b)) (begun first))))
       (converted_sequence scope (numbered_sequence numbering (with_copies (is_eligible post before (weight test) body step) lower (lowered lower body (λ b1. stepped (λ b2. lowered lower step last b2) own b1) (begun again)))))
       (converted_side scope (numbered_side numbering (side_from (λ b1. lowered lower step last b1) own)))) ≡ true
-  loop_overlaps numbering post before test body step first again (Some point) own e calls vary loops =
+  loop_overlaps numbering post before test body step first again (Some point) own e calls loops =
       let p = eligible_parts post before (weight test) body step e in
       absurd (no_point (sym own ∙ ap (λ c1. if c1 then first_point step else None) (all_straight_go_on body p.body_straight))) where
         no_point : Some point ≡ None → ⊥
         no_point h = cc
-  loop_overlaps numbering post before test body step first again None own e calls vary loops =
+  loop_overlaps numbering post before test body step first again None own e calls loops =
       let p = eligible_parts post before (weight test) body step e in
       let eligible = is_eligible post before (weight test) body step in
-      let x = test_found numbering before test first p.marks calls.0 vary in
+      let x = test_found numbering before test first p.marks calls.0 in
       node_by scope.widths (eligible && scope.loops) post (converted_sequence scope (numbered_sequence numbering (lowered lower before (λ b. last (ends_by_test test b)) (begun first)))) (converted_sequence scope (numbered_sequence numbering (body_blocks lower eligible body step again))) no_side x.0
       (λ i. e i && loops i) p.first refl (merged_forks scope (numbered_sequence numbering (body_blocks lower eligible body step again)) (numbered_forks lower numbering eligible body step again p.body_straight p.step_straight calls.1 calls.2)) x.1
 
@@ -265,59 +264,59 @@ module _ (lower : Scope) (scope : c.Scope) where
   -- ---- pieces
 
   mutual
-    pieces_go : (numbering : n.Scope) (pieces : PieceTrees) (rest : Rest) → NoStraightCallEnds pieces → LoopTestsVary pieces → Goes numbering rest → Goes numbering (λ b. lowered lower pieces rest b)
-    pieces_go numbering tree.no_pieces rest calls vary h b = h b
-    pieces_go numbering (tree.then_ piece pieces) rest calls vary h b = piece_goes numbering piece (λ b1. lowered lower pieces rest b1) calls.0 vary.0 (pieces_go numbering pieces rest calls.1 vary.1 h) b
+    pieces_go : (numbering : n.Scope) (pieces : PieceTrees) (rest : Rest) → NoStraightCallEnds pieces → Goes numbering rest → Goes numbering (λ b. lowered lower pieces rest b)
+    pieces_go numbering tree.no_pieces rest calls h b = h b
+    pieces_go numbering (tree.then_ piece pieces) rest calls h b = piece_goes numbering piece (λ b1. lowered lower pieces rest b1) calls.0 (pieces_go numbering pieces rest calls.1 h) b
 
-    piece_goes : (numbering : n.Scope) (piece : PieceTree) (rest : Rest) → EndsNoStraightCall piece → TestVaries piece → Goes numbering rest → Goes numbering (λ b. lowered_piece lower piece rest b)
-    piece_goes numbering (tree.set name value) rest calls vary h b = h _
-    piece_goes numbering (tree.put array subscripts value at) rest calls vary h b = h _
-    piece_goes numbering (tree.fork test left right end) rest calls vary h b =
+    piece_goes : (numbering : n.Scope) (piece : PieceTree) (rest : Rest) → EndsNoStraightCall piece → Goes numbering rest → Goes numbering (λ b. lowered_piece lower piece rest b)
+    piece_goes numbering (tree.set name value) rest calls h b = h _
+    piece_goes numbering (tree.put array subscripts value at) rest calls h b = h _
+    piece_goes numbering (tree.fork test left right end) rest calls h b =
         followed_goes numbering (ends_by_fork lower test left right b) _ (rest (begun end)) (
           fork_merges numbering test left right end b calls,
-          side_goes numbering (λ b1. lowered lower left last b1) (first_point left) (pieces_go numbering left last calls.1 vary.0 (last_goes numbering)),
-          side_goes numbering (λ b1. lowered lower right last b1) (first_point right) (pieces_go numbering right last calls.2 vary.1 (last_goes numbering)),
+          side_goes numbering (λ b1. lowered lower left last b1) (first_point left) (pieces_go numbering left last calls.1 (last_goes numbering)),
+          side_goes numbering (λ b1. lowered lower right last b1) (first_point right) (pieces_go numbering right last calls.2 (last_goes numbering)),
         )
         (h (begun end))
-    piece_goes numbering (tree.repeat_ id post before test body step end) rest calls vary h b =
+    piece_goes numbering (tree.repeat_ id post before test body step end) rest calls h b =
         let eligible = is_eligible post before (weight test) body step in
         let inner = in_loop numbering eligible in
         let own = own_step body (first_point step) in
-        let stepping = pieces_go inner step last calls.3 vary.3 (last_goes inner) in
+        let stepping = pieces_go inner step last calls.3 (last_goes inner) in
         followed_goes numbering b _ (rest (begun end)) (
-          λ e. loop_overlaps inner post before test body step (or_at end (first_point before)) (or_at end (first_point body)) own refl (left_true eligible scope.loops e) (calls.0 (left_true eligible scope.loops e)) (vary.0 (left_true eligible scope.loops e)) (right_true eligible scope.loops e),
-          pieces_go inner before (λ b1. last (ends_by_test test b1)) calls.1 vary.1 (λ b1. tt) (begun (or_at end (first_point before))),
+          λ e. loop_overlaps inner post before test body step (or_at end (first_point before)) (or_at end (first_point body)) own refl (left_true eligible scope.loops e) (calls.0 (left_true eligible scope.loops e)) (right_true eligible scope.loops e),
+          pieces_go inner before (λ b1. last (ends_by_test test b1)) calls.1 (λ b1. tt) (begun (or_at end (first_point before))),
           copies_convert eligible inner (lowered lower body (λ b1. stepped (λ b2. lowered lower step last b2) own b1) (begun (or_at end (first_point body))))
-              (pieces_go inner body (λ b1. stepped (λ b2. lowered lower step last b2) own b1) calls.2 vary.2 (stepped_goes inner (λ b2. lowered lower step last b2) own stepping) (begun (or_at end (first_point body)))),
+              (pieces_go inner body (λ b1. stepped (λ b2. lowered lower step last b2) own b1) calls.2 (stepped_goes inner (λ b2. lowered lower step last b2) own stepping) (begun (or_at end (first_point body)))),
           side_goes inner (λ b1. lowered lower step last b1) own stepping,
         )
         (h (begun end))
-    piece_goes numbering (tree.pick test labels body end) rest calls vary h b =
+    piece_goes numbering (tree.pick test labels body end) rest calls h b =
         let dead = record (begun end) { exit = break_ } in
         followed_goes numbering (ends_by_cases test labels b) _ (rest (begun end)) (
-          parts_convert numbering (before_arm lower labels _ body dead) (before_dead labels _ body dead refl) (before_goes numbering labels _ body calls vary dead),
-          arms_go numbering labels _ body end calls vary,
+          parts_convert numbering (before_arm lower labels _ body dead) (before_dead labels _ body dead refl) (before_goes numbering labels _ body calls dead),
+          arms_go numbering labels _ body end calls,
         )
         (h (begun end))
-    piece_goes numbering tree.break_ rest calls vary h b = h _
-    piece_goes numbering tree.next_ rest calls vary h b = h _
-    piece_goes numbering (tree.leave call) rest calls vary h b = h _
-    piece_goes numbering (tree.land call end) rest calls vary h b = followed_goes numbering b _ (rest (begun end)) tt (h (begun end))
-    piece_goes numbering (tree.mark point) rest calls vary h b = h b
+    piece_goes numbering tree.break_ rest calls h b = h _
+    piece_goes numbering tree.next_ rest calls h b = h _
+    piece_goes numbering (tree.leave call) rest calls h b = h _
+    piece_goes numbering (tree.land call end) rest calls h b = followed_goes numbering b _ (rest (begun end)) tt (h (begun end))
+    piece_goes numbering (tree.mark point) rest calls h b = h b
 
-    before_goes : (numbering : n.Scope) (labels : List Label) (i : _) (pieces : PieceTrees) → NoStraightCallEnds pieces → LoopTestsVary pieces → Goes numbering (λ b. before_arm lower labels i pieces b)
-    before_goes numbering labels i tree.no_pieces calls vary b = tt
-    before_goes numbering labels i (tree.then_ piece pieces) calls vary b =
-        by (is_named labels i) (piece_goes numbering piece (λ b1. before_arm lower labels (i + 1) pieces b1) calls.0 vary.0 (before_goes numbering labels (i + 1) pieces calls.1 vary.1) b) where
+    before_goes : (numbering : n.Scope) (labels : List Label) (i : _) (pieces : PieceTrees) → NoStraightCallEnds pieces → Goes numbering (λ b. before_arm lower labels i pieces b)
+    before_goes numbering labels i tree.no_pieces calls b = tt
+    before_goes numbering labels i (tree.then_ piece pieces) calls b =
+        by (is_named labels i) (piece_goes numbering piece (λ b1. before_arm lower labels (i + 1) pieces b1) calls.0 (before_goes numbering labels (i + 1) pieces calls.1) b) where
           by : (named : Bool) → Convert numbering (lowered_piece lower piece (λ b1. before_arm lower labels (i + 1) pieces b1) b) → Convert numbering (if named then last b else lowered_piece lower piece (λ b1. before_arm lower labels (i + 1) pieces b1) b)
           by true h = tt
           by false h = h
 
-    arms_go : (numbering : n.Scope) (labels : List Label) (i : _) (pieces : PieceTrees) (end : Point) → NoStraightCallEnds pieces → LoopTestsVary pieces → ArmsConvert scope (numbered_arms numbering (arms lower labels i pieces end))
-    arms_go numbering labels i tree.no_pieces end calls vary = tt
-    arms_go numbering labels i (tree.then_ piece pieces) end calls vary =
-        by (is_named labels i) (piece_goes numbering piece (λ b1. before_arm lower labels (i + 1) pieces b1) calls.0 vary.0 (before_goes numbering labels (i + 1) pieces calls.1 vary.1) (begun (or_at end (point_of piece))))
-        (arms_go numbering labels (i + 1) pieces end calls.1 vary.1) where
+    arms_go : (numbering : n.Scope) (labels : List Label) (i : _) (pieces : PieceTrees) (end : Point) → NoStraightCallEnds pieces → ArmsConvert scope (numbered_arms numbering (arms lower labels i pieces end))
+    arms_go numbering labels i tree.no_pieces end calls = tt
+    arms_go numbering labels i (tree.then_ piece pieces) end calls =
+        by (is_named labels i) (piece_goes numbering piece (λ b1. before_arm lower labels (i + 1) pieces b1) calls.0 (before_goes numbering labels (i + 1) pieces calls.1) (begun (or_at end (point_of piece))))
+        (arms_go numbering labels (i + 1) pieces end calls.1) where
           arm : SequenceTree
           arm = lowered_piece lower piece (λ b1. before_arm lower labels (i + 1) pieces b1) (begun (or_at end (point_of piece)))
 
@@ -327,4 +326,4 @@ module _ (lower : Scope) (scope : c.Scope) where
           by false h more = more
 
 pub shapes : LoweredShapesConvert
-shapes scope numbering conversion pieces point calls vary = pieces_go scope conversion numbering pieces last calls vary (last_goes scope conversion numbering) (begun point)
+shapes scope numbering conversion pieces point calls = pieces_go scope conversion numbering pieces last calls (last_goes scope conversion numbering) (begun point)

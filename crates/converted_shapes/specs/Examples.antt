@@ -1,5 +1,5 @@
--- Two small loops: one that becomes a loop node with its fork merged, and one whose test has a condition of constants alone, which stays.
-use Rattle.std.specs.Prelude.{ℕ, ◌≡◌, true, false, [], ◌∷◌, refl}
+-- Two small loops that become loop nodes: one with its fork merged, and one whose test has conditions of constants alone.
+use Rattle.std.specs.Prelude.{ℕ, true, false, [], ◌∷◌, refl}
 use Rattle.hls_base.specs.declared.point.Point.{Point}
 use Rattle.hls_base.specs.declared.point.PointKind.{PointKind}
 use Rattle.hls_base.specs.declared.point.PointKind.TheVariants as point
@@ -16,7 +16,7 @@ use Rattle.numbering.specs.Numbering.{numbered_sequence}
 use Rattle.conversion.specs.Conversion as c
 use Rattle.loop_tests.specs.Examples.{constant_conditions}
 use Rattle.converted_shapes.specs.Converting.{AllConvert}
-use Rattle.converted_shapes.specs.Straight.{NoStraightCallEnds, LoopTestsVary}
+use Rattle.converted_shapes.specs.Straight.{NoStraightCallEnds}
 
 abbrev at : ℕ → PointKind → Point
 at line kind = record { path = []; at = record { line = line; column = 1; part = 0 }; kind = kind }
@@ -56,17 +56,12 @@ conversion = record { widths = 32 ∷ 32 ∷ 32 ∷ []; loops = true }
 calls_end_apart : NoStraightCallEnds (loop_of (less (v 0) (v 1)) body)
 calls_end_apart = ((λ e. ((tt, tt), (tt, ((((tt, (tt, tt)), tt)), (tt, tt))), tt), (tt, tt), (tt, ((λ e. ((tt, (tt, tt)), tt), (tt, (tt, tt)), tt), (tt, tt))), tt), tt)
 
-tests_vary : LoopTestsVary (loop_of (less (v 0) (v 1)) body)
-tests_vary = ((λ e. (refl, tt, tt), (tt, tt), (tt, (((tt, (tt, tt)), tt), (tt, tt))), tt), tt)
-
 -- while (v0 < v1) { .. }
 all_convert : AllConvert conversion (numbered (loop_of (less (v 0) (v 1)) body))
 unfolding joined
 all_convert = ((λ e. refl, tt, ((λ e. refl, tt, tt), tt), tt), tt)
 
 -- while (v0 && (1 && 6 / 3) + (0 && 8 / 4)) v0 = v1;
-loop_stays : AllConvert conversion (numbered (loop_of constant_conditions (piece_row (tree.mark (at 2 point.Body) ∷ tree.set (id 0) (v 1) ∷ [])))) → ⊥
+constant_conditions_convert : AllConvert conversion (numbered (loop_of constant_conditions (piece_row (tree.mark (at 2 point.Body) ∷ tree.set (id 0) (v 1) ∷ []))))
 unfolding joined junction
-loop_stays h = stays (h.0.0 refl) where
-  stays : false ≡ true → ⊥
-  stays e = cc
+constant_conditions_convert = ((λ e. refl, tt, tt, tt), tt)

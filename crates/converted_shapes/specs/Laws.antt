@@ -9,11 +9,11 @@ use Rattle.numbering.specs.Numbering.{numbered_sequence}
 use Rattle.conversion.specs.Conversion as c
 use Rattle.conversion.specs.Conversion.{converted_sequence}
 use Rattle.converted_shapes.specs.Converting.{AllConvert, HasNoFork}
-use Rattle.converted_shapes.specs.Straight.{NoStraightCallEnds, LoopTestsVary}
+use Rattle.converted_shapes.specs.Straight.{NoStraightCallEnds}
 
--- In the numbered tree of pieces each convertible fork is merged, and each eligible loop becomes a loop node, where no call ends in them and the conditions in the tests of these loops vary.
+-- In the numbered tree of pieces each convertible fork is merged, and each eligible loop becomes a loop node, where no call ends in them.
 abbrev pub LoweredShapesConvert : Type 0
-LoweredShapesConvert = (scope : Scope) (numbering : n.Scope) (conversion : c.Scope) (pieces : PieceTrees) (point : Point) → NoStraightCallEnds pieces → LoopTestsVary pieces
+LoweredShapesConvert = (scope : Scope) (numbering : n.Scope) (conversion : c.Scope) (pieces : PieceTrees) (point : Point) → NoStraightCallEnds pieces
     → AllConvert conversion (numbered_sequence numbering (lowered scope pieces last (begun point)))
 
 -- Where each convertible fork is merged, no convertible fork is left.

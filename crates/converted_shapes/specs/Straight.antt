@@ -1,11 +1,10 @@
--- Pieces of which those that may be merged hold no end of a call, and of which the loops that may be overlapped have tests whose conditions vary.
+-- Pieces of which those that may be merged hold no end of a call.
 use Rattle.std.specs.Prelude.{◌≡◌, true}
 use Rattle.pieces.specs.Trees as tree
 use Rattle.pieces.specs.Trees.{PieceTree, PieceTrees}
 use Rattle.pieces.specs.Weight.{weight}
 use Rattle.lowering.specs.Shapes.{is_straight, is_eligible}
 use Rattle.lowered_conversions.specs.Suiting.{NoCallEnds}
-use Rattle.loop_tests.specs.Conditions.{ConditionsVary}
 
 -- No call ends in a straight fork or in a loop that may be overlapped.
 abbrev mutual
@@ -20,16 +19,3 @@ abbrev mutual
   pub NoStraightCallEnds : PieceTrees → Type 0
   NoStraightCallEnds tree.no_pieces = Unit {0}
   NoStraightCallEnds (tree.then_ first rest) = EndsNoStraightCall first × NoStraightCallEnds rest
-
--- In the tests of loops that may be overlapped conditions vary.
-abbrev mutual
-  pub TestVaries : PieceTree → Type 0
-  TestVaries (tree.fork test left right end) = LoopTestsVary left × LoopTestsVary right
-  TestVaries (tree.repeat_ id post before test body step end) =
-      (is_eligible post before (weight test) body step ≡ true → ConditionsVary test) × LoopTestsVary before × LoopTestsVary body × LoopTestsVary step
-  TestVaries (tree.pick test labels body end) = LoopTestsVary body
-  TestVaries piece = Unit {0}
-
-  pub LoopTestsVary : PieceTrees → Type 0
-  LoopTestsVary tree.no_pieces = Unit {0}
-  LoopTestsVary (tree.then_ first rest) = TestVaries first × LoopTestsVary rest

@@ -1,10 +1,7 @@
 pub mod Numbers
 pub mod Heights
-pub mod Bits
 pub mod Steps
 pub mod Conversions
-pub mod Waiting
 pub mod Guards
 pub mod Expressions
-pub mod Last
 pub mod Tests

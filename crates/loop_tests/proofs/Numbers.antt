@@ -173,49 +173,24 @@ module _ (scope : Scope) where
 
   -- ---- as operations are added
 
-  -- What stands for the results of operations, and those that stay, stay the same behind more operations.
+  -- What stands for the results of operations stays the same behind more operations.
   pub record Grows (ops more : List OpTree) : Type 0 where
     pub count : length ops ≤ length more
-    pub kept_count : length (kept ops) ≤ length (kept more)
-    pub keeps : (i : ℕ) (k : OpTree) → slice_get (kept ops) i ≡ Some k → slice_get (kept more) i ≡ Some k
     pub values : (i : ℕ) (v : Value) → slice_get (state ops).values i ≡ Some v → slice_get (state more).values i ≡ Some v
 
   pub grows_none : (ops : List OpTree) → Grows ops ops
-  grows_none ops = record { count = omega arith; kept_count = omega arith; keeps = λ i k e. e; values = λ i v e. e }
+  grows_none ops = record { count = omega arith; values = λ i v e. e }
 
   pub grows_on : (ops more most : List OpTree) → Grows ops more → Grows more most → Grows ops most
   grows_on ops more most h g =
       let c1 = h.count in
       let c2 = g.count in
-      let k1 = h.kept_count in
-      let k2 = g.kept_count in record {
-        count = omega (arith, c1, c2);
-        kept_count = omega (arith, k1, k2);
-        keeps = λ i k e. g.keeps i k (h.keeps i k e);
-        values = λ i v e. g.values i v (h.values i v e);
-      }
-
-  abbrev KeepsAll : (ops : List OpTree) (op : OpTree) → Type 0
-  KeepsAll ops op = (length (kept ops) ≤ length (kept (ops ++ op ∷ []))) × ((i : ℕ) (k : OpTree) → slice_get (kept ops) i ≡ Some k → slice_get (kept (ops ++ op ∷ [])) i ≡ Some k)
-
-  same_keeps : (ops : List OpTree) (op : OpTree) → kept (ops ++ op ∷ []) ≡ kept ops → KeepsAll ops op
-  same_keeps ops op e = (let c = ap length e in omega (arith, c), λ i k h. ap (λ l. slice_get l i) e ∙ h)
+      record { count = omega (arith, c1, c2); values = λ i v e. g.values i v (h.values i v e) }
 
   pub grows_one : (ops : List OpTree) (op : OpTree) → Grows ops (ops ++ op ∷ [])
-  grows_one ops op = record { count = let c = length-append ops (op ∷ []) in omega (arith, c); kept_count = all.0; keeps = all.1; values = λ i v e. ap (λ l. slice_get l i) a.values ∙ left_of (state ops).values (a.value ∷ []) i v e } where
-    a : Adds ops op
-    a = adds ops op
-
-    keeping : IsComputed ops op ⊎ (IsJoined ops op ⊎ Stays ops op) → KeepsAll ops op
-    keeping (inl c) = same_keeps ops op c.same
-    keeping (inr (inl j)) = same_keeps ops op j.same
-    keeping (inr (inr s)) = (
-      let c = ap length s.more in let d = length-append (kept ops) (after ops op ∷ []) in omega (arith, c, d),
-      λ i k h. ap (λ l. slice_get l i) s.more ∙ left_of (kept ops) (after ops op ∷ []) i k h,
-    )
-
-    all : KeepsAll ops op
-    all = keeping a.becomes
+  grows_one ops op =
+      let a = adds ops op in
+      record { count = let c = length-append ops (op ∷ []) in omega (arith, c); values = λ i v e. ap (λ l. slice_get l i) a.values ∙ left_of (state ops).values (a.value ∷ []) i v e }
 
   -- what stands for an operand that is there stays the same
   pub value_stays : (ops more : List OpTree) → Grows ops more → (x : Operand) → IsEarly (length ops) x.value → value_of more x ≡ value_of ops x

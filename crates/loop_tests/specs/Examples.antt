@@ -1,5 +1,5 @@
 -- Two tests of loops, and their blocks.
-use Rattle.std.specs.Prelude.{ℕ, ◌≡◌, true, false, List, [], ◌∷◌, refl}
+use Rattle.std.specs.Prelude.{ℕ, ◌≡◌, true, List, [], ◌∷◌, refl}
 use Rattle.hls_base.specs.declared.place.Place.{Place}
 use Rattle.hls_base.specs.declared.point.Point.{Point}
 use Rattle.hls_base.specs.declared.point.PointKind.TheVariants as point
@@ -16,7 +16,6 @@ use Rattle.lowering.specs.Operations.{constant, entry_value, result_of, plain}
 use Rattle.lowering.specs.Expressions.{junction, joined}
 use Rattle.numbering.specs.Numbering.{Scope}
 use Rattle.conversion.specs.Overlapping.{is_test}
-use Rattle.loop_tests.specs.Conditions.{ConditionsVary}
 use Rattle.loop_tests.specs.Laws.{test_block}
 
 abbrev place : Place
@@ -51,14 +50,11 @@ abbrev block : List OpTree → Operand → BlockTree
 block ops test = record { point = here; ops = ops; outs = []; exit = branch test }
 
 -- v0 && v1 != 6 / 3
-abbrev pub varying : PureTree
-varying = on_ints b.LogAnd (v 0) (on_ints b.Ne (v 1) (on_ints b.Div (number 6) (number 3)))
-
-it_varies : ConditionsVary varying
-it_varies = (refl, tt, (refl, tt, (refl, tt, tt)))
+abbrev quotient_compared : PureTree
+quotient_compared = on_ints b.LogAnd (v 0) (on_ints b.Ne (v 1) (on_ints b.Div (number 6) (number 3)))
 
 -- The quotient is computed, and the last operation is the test.
-last_is_test : test_block scope varying here ≡ block (truth_of (entry 0) ∷ plain o.Ne 32 (entry 1 ∷ constant 2 ∷ []) ∷ both (result_of 0) (result_of 1) ∷ []) (result_of 2)
+last_is_test : test_block scope quotient_compared here ≡ block (truth_of (entry 0) ∷ plain o.Ne 32 (entry 1 ∷ constant 2 ∷ []) ∷ both (result_of 0) (result_of 1) ∷ []) (result_of 2)
 unfolding junction joined
 last_is_test = refl
 
@@ -68,14 +64,12 @@ constant_conditions =
     on_ints b.LogAnd (v 0)
     (on_ints b.Add (on_ints b.LogAnd (number 1) (on_ints b.Div (number 6) (number 3))) (on_ints b.LogAnd (number 0) (on_ints b.Div (number 8) (number 4))))
 
-they_do_not_vary : ConditionsVary constant_conditions → ⊥
-they_do_not_vary h = cc
-
 -- The quotients are computed, but the bits of their guards stay; the first one is the test too, and the second one stands behind it.
 another_is_last : test_block scope constant_conditions here ≡ block (truth_of (entry 0) ∷ both (result_of 0) (constant 1) ∷ both (result_of 0) (constant 0) ∷ []) (result_of 1)
 unfolding junction joined
 another_is_last = refl
 
-no_test : is_test (test_block scope constant_conditions here) (result_of 1) ≡ false
+-- It needs no guard.
+is_a_test : is_test (test_block scope constant_conditions here) (result_of 1) ≡ true
 unfolding junction joined
-no_test = refl
+is_a_test = refl

@@ -10,16 +10,14 @@ use Rattle.block_meaning.specs.TreeRuns.{tested_by}
 use Rattle.lowering.specs.Blocks.{begun, ends_by_test}
 use Rattle.numbering.specs.Numbering.{Scope, numbered_block}
 use Rattle.conversion.specs.Overlapping.{is_test}
-use Rattle.loop_tests.specs.Conditions.{ConditionsVary}
 
 -- the block of a test, once it is numbered
 abbrev pub test_block : Scope → PureTree → Point → BlockTree
 test_block scope test point = numbered_block scope (ends_by_test test (begun point))
 
--- It ends by a test, sets nothing, and its last operation makes the test; or it has none.
+-- It ends by a test, sets nothing, and behind the operation that makes the test no other one may be undefined or stores.
 abbrev pub NumberedTestsStand : Type 0
-NumberedTestsStand = (scope : Scope) (test : PureTree) (point : Point) → ConditionsVary test
-    → (x : Operand) × ((test_block scope test point).exit ≡ branch x) × (is_test (test_block scope test point) x ≡ true)
+NumberedTestsStand = (scope : Scope) (test : PureTree) (point : Point) → (x : Operand) × ((test_block scope test point).exit ≡ branch x) × (is_test (test_block scope test point) x ≡ true)
 
 -- It negates a bit or combines two of them, and C always gives it a value.
 pub record MakesBit (k : OpTree) : Type 0 where
@@ -28,7 +26,7 @@ pub record MakesBit (k : OpTree) : Type 0 where
   pub guard : k.guard ≡ None
   pub flag : k.flag ≡ None
 
--- Whatever is tested, the block ends by a test and sets nothing, and the operations behind the one that makes the test only make bits.
+-- The block ends by a test and sets nothing, and the operations behind the one that makes the test only make bits.
 abbrev pub OnlyBitsFollowTests : Type 0
 OnlyBitsFollowTests = (scope : Scope) (test : PureTree) (point : Point)
     → (x : Operand) × ((test_block scope test point).exit ≡ branch x) × ((test_block scope test point).outs ≡ [])

@@ -1,3 +1,2 @@
-pub mod Conditions
 pub mod Laws
 pub mod Examples

@@ -1,12 +1,12 @@
 //! Laws of the tests of loops.
 ghost use Rattle.loop_tests.specs.Laws.{NumberedTestsStand, OnlyBitsFollowTests};
 
-/// The numbered block of a test sets nothing, and its last operation makes the test; or it has none.
+/// The numbered block of a test sets nothing, and behind the operation that makes the test no other one may be undefined or stores.
 pub fn numbered_tests_stand()
     ensures { NumberedTestsStand }
 {}
 
-/// Whatever is tested, the operations behind the one that makes the test only make bits.
+/// The operations behind the one that makes the test only make bits.
 pub fn only_bits_follow_tests()
     ensures { OnlyBitsFollowTests }
 {}

@@ -1,4 +1,4 @@
-//! The block of a loop's test, once it is numbered: its last operation makes the test, where each condition depends on more than constants; else operations that make bits of guards may stand behind it.
+//! The block of a loop's test, once it is numbered: it sets nothing, and behind the operation that makes the test others only make bits of guards.
 #![tactic(auto)]
 
 pub mod laws;

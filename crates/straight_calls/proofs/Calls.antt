@@ -138,6 +138,6 @@ apart p = by (top_of p) where
   by (Some fn) = (top_apart p fn nothing).within
 
 pub convert : ExpandedShapesConvert
-convert p numbering conversion point vary =
-    let all = shapes (scope_of (expansion p)) numbering conversion (expansion p).pieces point (apart p) vary in
+convert p numbering conversion point =
+    let all = shapes (scope_of (expansion p)) numbering conversion (expansion p).pieces point (apart p) in
     (all, left conversion (numbered_blocks numbering (expansion p) point) all)

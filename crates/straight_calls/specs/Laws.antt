@@ -11,7 +11,7 @@ use Rattle.numbering.specs.Numbering.{numbered_sequence}
 use Rattle.conversion.specs.Conversion as c
 use Rattle.conversion.specs.Conversion.{converted_sequence}
 use Rattle.converted_shapes.specs.Converting.{AllConvert, HasNoFork}
-use Rattle.converted_shapes.specs.Straight.{NoStraightCallEnds, LoopTestsVary}
+use Rattle.converted_shapes.specs.Straight.{NoStraightCallEnds}
 
 -- No call ends in a straight fork, or in a loop that may be overlapped.
 abbrev pub CallsEndApart : Type 0
@@ -21,7 +21,7 @@ CallsEndApart = (p : CoreProgramTree) → NoStraightCallEnds (expansion p).piece
 abbrev pub numbered_blocks : n.Scope → ExpandedTree → Point → SequenceTree
 numbered_blocks numbering e point = numbered_sequence numbering (lowered (scope_of e) e.pieces last (begun point))
 
--- Each convertible fork is merged, no convertible fork is left, and each eligible loop becomes a loop node, where the conditions in the tests of these loops vary.
+-- Each convertible fork is merged, no convertible fork is left, and each eligible loop becomes a loop node.
 abbrev pub ExpandedShapesConvert : Type 0
-ExpandedShapesConvert = (p : CoreProgramTree) (numbering : n.Scope) (conversion : c.Scope) (point : Point) → LoopTestsVary (expansion p).pieces
+ExpandedShapesConvert = (p : CoreProgramTree) (numbering : n.Scope) (conversion : c.Scope) (point : Point)
     → AllConvert conversion (numbered_blocks numbering (expansion p) point) × HasNoFork (converted_sequence conversion (numbered_blocks numbering (expansion p) point))
