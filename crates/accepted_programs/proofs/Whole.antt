@@ -49,8 +49,9 @@ accepted_valid source p top name s light =
     let numbers = numbers_fit source s.tokens s.replaced s.spelled s.becomes in
     let subscripts = checked_fit (terminals s.replaced) s.end p top name numbers s.derives s.named s.faultless in (
       found.0,
+      found.1,
       λ choice cfg laid same.
           (let fits : IsSmallProgram cfg = compiled_small scope (numbering_of (frame_of e) choice) (conversion_of (frame_of e) choice) e.pieces found.0 e.result cfg pieces laid.nodes in
-          let valid : is_valid cfg ≡ true = found.1 choice cfg laid same (few_names cfg.frame e same small) (small_has_numbers cfg fits) in
+          let valid : is_valid cfg ≡ true = found.2 choice cfg laid same (few_names cfg.frame e same small) (small_has_numbers cfg fits) in
           (valid, fits, compiled_forward scope choice.apart choice.loops e.pieces found.0 e.result cfg fine.1.typed subscripts pieces laid.nodes valid)),
     )

@@ -1,5 +1,5 @@
 -- How the programs are that sources are compiled to.
-use Rattle.std.specs.Prelude.{◌≡◌, ◌≤◌, ◌+◌, ◌*◌, ℕ, true, List, length}
+use Rattle.std.specs.Prelude.{◌≡◌, ◌≤◌, ◌+◌, ◌*◌, ℕ, true, List, length, Some}
 use Rattle.std.specs.List.{All}
 use Rattle.hls_base.specs.declared.point.Point.{Point}
 use Rattle.c_tree.specs.Tree.{ProgramTree}
@@ -9,6 +9,7 @@ use Rattle.piece_meaning.specs.Runs.{frame_of}
 use Rattle.block_meaning.specs.Trees.{SequenceTree}
 use Rattle.ir_core.specs.declared.cfg.Cfg.{Cfg}
 use Rattle.ir_core.specs.declared.stamp.Untimed.{Untimed}
+use Rattle.lowering.specs.Shapes.{first_point}
 use Rattle.lowering.specs.Blocks.{begun}
 use Rattle.lowering.specs.Lowering.{last, lowered}
 use Rattle.lower_runs.specs.Suits.{scope_of}
@@ -25,7 +26,8 @@ use Rattle.source_runs.specs.Laws.{IsFaultless, expanded}
 -- Of each source without faults that weighs at most 8,192 once its calls are expanded: there is a point at which its pieces begin, and each program that is laid out from them, beside what stands beside them, is valid and small, so that there always are numbers enough, and each of its operations comes behind those that it waits for, so that it can be given times.
 abbrev pub AcceptedSourcesCompileToValid : Type 0
 AcceptedSourcesCompileToValid = (source : List ℕ) (p : ProgramTree) (top : ℕ) (name : List ℕ) → IsFaultless source p top name → expanded_weight (program_elaborated p top) ≤ 8192
-    → (start : Point) × ((choice : Choice) (cfg : Cfg Untimed) → IsLaidOut (frame_of (expanded p top)) choice (expanded p top).pieces start (expanded p top).result cfg
+    → (start : Point) × (first_point (expanded p top).pieces ≡ Some start)
+    × ((choice : Choice) (cfg : Cfg Untimed) → IsLaidOut (frame_of (expanded p top)) choice (expanded p top).pieces start (expanded p top).result cfg
     → frame_view cfg.frame ≡ expanded_frame (expanded p top) → (is_valid cfg ≡ true) × IsSmallProgram cfg × All HasForwardBody cfg.nodes.items)
 
 -- the tree of blocks that a source is lowered to, which begins at this point

@@ -1,4 +1,4 @@
-ghost use Rattle.std.specs.Prelude.{◌≡◌, ◌≤◌, ◌↔◌, IsTrue, IfOk};
+ghost use Rattle.std.specs.Prelude.{◌≡◌, ◌≤◌, ◌↔◌, true, IsTrue, IfOk};
 ghost use Rattle.std.specs.List.{All};
 ghost use Rattle.hls_base.specs.Refusals.{IfRefused};
 ghost use Rattle.c_tree.specs.View.{program_of};
@@ -9,11 +9,12 @@ ghost use Rattle.ir_lower.specs.Frames.{frame_view};
 ghost use Rattle.rtl_core.specs.Netlist.{netlist_of};
 ghost use Rattle.cycle_report.specs.PlainReport.{plain_of};
 ghost use Rattle.report_rows.specs.Resources.{IsReportable};
-ghost use Rattle.circuit_context.specs.Programs.{IsBuildable};
+ghost use Rattle.program_validity.specs.Programs.{is_consistent};
 ghost use Rattle.compile_steps.specs.Flat.{IsFlatOf};
 ghost use Rattle.compile_steps.specs.Resets.{expanded_frame, AreAddressable, reset_cycles};
 ghost use Rattle.compile_steps.specs.Reports.{allowed_units, IsTimed, EachNodeCounts, IsReportOf, KeepsSettings};
 ghost use Rattle.compile_flow.specs.Circuits.{HasCircuit};
+ghost use Rattle.compile_flow.specs.Compilable.{BecomesCompilable, IsOfSource};
 
 use crate::settings::copy_settings;
 use c_checked::checked::Checked;
@@ -27,7 +28,6 @@ use ir_core::cfg::Cfg;
 use ir_core::stamp::Untimed;
 use live_variables::live::live_variables;
 use pieces::expanded::Expanded;
-use program_validity::program::consistent;
 use reg_binding::assign::assign;
 use reg_binding::small_times::has_small_times;
 use report_rows::costs::formula_of;
@@ -57,19 +57,13 @@ fn units_of(settings: &Settings) -> Units
     }
 }
 
-/// Whether a circuit can be made of a program with times, as it can of each that was compiled.
-fn is_buildable(timed: &Cfg<Timed>) -> bool
-    ensures { IsTrue result ↔ IsBuildable timed.now }
-{
-    consistent(timed) && has_small_times(timed)
-}
-
 /// The circuit of a program with times.
 fn circuit_of(alloc: Global, timed: &Cfg<Timed>) -> Result<Design, AllocError>
+    requires { is_consistent timed.now ≡ true }
     ensures { IfOk result (λ d. HasCircuit timed.now (netlist_of d)) }
 {
     numbers_are_small(timed);
-    if !is_buildable(timed) {
+    if !has_small_times(timed) {
         return Err(impossible());
     }
     let live = live_variables(alloc, timed)?;
@@ -126,12 +120,13 @@ fn keeps_settings(report: &Report, settings: &Settings) -> bool
         && (!settings.plain || report.loops.is_empty())
 }
 
-/// Compiles an expanded program.
+/// Compiles an expanded program, whose flat programs are valid and can be given times.
 pub fn compile_expanded(
     alloc: Global,
     expanded: &Expanded,
     settings: &Settings,
 ) -> Result<Compiled, AllocError>
+    requires { BecomesCompilable (expanded_of expanded.now) }
     ensures report { IfOk result (λ c. IsReportOf (plain_of c.report) settings.now c.timed (netlist_of c.design)) }
     ensures circuit { IfOk result (λ c. HasCircuit c.timed (netlist_of c.design)) }
     ensures timed { IfOk result (λ c. IsTimed (allowed_units settings.now) c.untimed c.timed (plain_of c.report).loops) }
@@ -162,6 +157,7 @@ pub fn compile_expanded(
 
 /// Compiles a program without faults. It is refused where it is too large once its calls are expanded.
 pub fn compile(alloc: Global, checked: &Checked, settings: &Settings) -> Result<Compiled, Fail>
+    requires { IsOfSource (program_of checked.now.program) checked.now.top }
     ensures report { IfOk result (λ c. IsReportOf (plain_of c.report) settings.now c.timed (netlist_of c.design)) }
     ensures circuit { IfOk result (λ c. HasCircuit c.timed (netlist_of c.design)) }
     ensures timed { IfOk result (λ c. IsTimed (allowed_units settings.now) c.untimed c.timed (plain_of c.report).loops) }

@@ -19,7 +19,7 @@ use c_elaborate::elaborate::elaborate;
 use c_expand::expand::expand;
 use clock_ir::timed::Timed;
 use cycle_report::report::LoopRow;
-use hls_base::refusal::{Fail, impossible};
+use hls_base::refusal::Fail;
 use hls_base::settings::{Settings, Units};
 use if_convert::convert::convert;
 use ir_core::cfg::Cfg;
@@ -27,7 +27,6 @@ use ir_core::stamp::Untimed;
 use ir_layout::layout::lay_out;
 use ir_lower::lower::lower;
 use pieces::expanded::Expanded;
-use program_times::forward::are_forward;
 use program_times::nodes::{TimedNodes, timed_nodes};
 use std::alloc::{AllocError, Global};
 use value_number::number::number;
@@ -51,15 +50,11 @@ pub fn flat_program(
 ) -> Result<Cfg<Untimed>, AllocError>
     ensures frame { IfOk result (λ cfg. frame_view cfg.frame ≡ frame_of expanded.now) }
     ensures flat { IfOk result (λ cfg. IsFlatOf (expanded_of expanded.now) settings.now.plain cfg) }
-    ensures forward { IfOk result (λ cfg. All HasForwardBody cfg.nodes.items) }
 {
     let tree = lower(alloc, expanded)?;
     let tree = number(alloc, tree)?;
     let tree = convert(alloc, tree, !settings.plain)?;
     let cfg = lay_out(alloc, tree)?;
-    if !are_forward(&cfg.nodes) {
-        return Err(impossible());
-    }
     Ok(cfg)
 }
 

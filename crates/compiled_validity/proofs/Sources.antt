@@ -39,6 +39,7 @@ sources_valid source p top name s =
     let differ = source_points source s.tokens s.replaced s.end p top s.spelled s.becomes s.derives in
     let arrays = dimensioned tokens s.end p top name s.derives s.faultless (sources_lengths source s.tokens s.replaced s.end p top name s.spelled s.becomes s.derives s.named s.faultless) in (
       fine.0,
+      fine.1.first,
       λ choice cfg laid same few many.
           (let lead : LoopsLeadToTheirEnds cfg =
           loops_lead (frame_of e) choice e.pieces fine.0 e.result cfg laid (points_differ (frame_of e) choice (begins_at e.pieces) e.pieces fine.0 e.result cfg fine.1 laid differ) (loops_end core) in

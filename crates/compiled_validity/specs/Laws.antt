@@ -1,5 +1,5 @@
 -- What is valid of compiled programs.
-use Rattle.std.specs.Prelude.{◌≡◌, ℕ, true, List}
+use Rattle.std.specs.Prelude.{◌≡◌, ℕ, true, List, Some}
 use Rattle.hls_base.specs.declared.point.Point.{Point}
 use Rattle.c_tree.specs.Tree.{ProgramTree}
 use Rattle.pieces.specs.Program.{ExpandedTree}
@@ -8,6 +8,7 @@ use Rattle.ir_core.specs.declared.cfg.Cfg.{Cfg}
 use Rattle.ir_core.specs.declared.stamp.Untimed.{Untimed}
 use Rattle.ir_lower.specs.Frames.{frame_view}
 use Rattle.compile_steps.specs.Resets.{expanded_frame}
+use Rattle.lowering.specs.Shapes.{first_point}
 use Rattle.lower_runs.specs.Suits.{scope_of}
 use Rattle.lowered_conversions.specs.Suiting.{PiecesSuit}
 use Rattle.flat_runs.specs.Laws.{Choice, IsLaidOut}
@@ -30,5 +31,6 @@ LaidOutExpansionsAreValid = (e : ExpandedTree) (choice : Choice) (point : Point)
 -- Of each source without faults: there is a point at which its pieces begin, and each program that is laid out from them, beside what stands beside them, is valid, where there are numbers enough for its variables, memories, nodes and operations.
 abbrev pub SourcesCompileToValid : Type 0
 SourcesCompileToValid = (source : List ℕ) (p : ProgramTree) (top : ℕ) (name : List ℕ) → IsFaultless source p top name
-    → (start : Point) × ((choice : Choice) (cfg : Cfg Untimed) → IsLaidOut (frame_of (expanded p top)) choice (expanded p top).pieces start (expanded p top).result cfg
+    → (start : Point) × (first_point (expanded p top).pieces ≡ Some start)
+    × ((choice : Choice) (cfg : Cfg Untimed) → IsLaidOut (frame_of (expanded p top)) choice (expanded p top).pieces start (expanded p top).result cfg
     → frame_view cfg.frame ≡ expanded_frame (expanded p top) → NamesAreFew cfg.frame → HasNumbers cfg → is_valid cfg ≡ true)

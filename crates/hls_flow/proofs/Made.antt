@@ -23,6 +23,8 @@ use Rattle.long_runs.proofs.Whole.{runs_long}
 use Rattle.c_meaning.specs.Run.{function_at}
 use Rattle.design_promise.specs.Promise.{KeepsPromise}
 use Rattle.design_promise.proofs.Whole.{promise_kept}
+use Rattle.compile_flow.specs.Compilable.{BecomesCompilable}
+use Rattle.compile_flow.proofs.Compilable.{accepted_compilable}
 use Rattle.hls_flow.specs.FirstFault.{IsAccepted}
 use Rattle.hls_flow.specs.Synthesis.{AreInRange, IsScheduledReport, IsSynthesis}
 use Rattle.hls_flow.specs.Made.{HasScheduledCircuit, HasScheduledTexts}
@@ -47,6 +49,11 @@ faultless_source source top p index the faultless named = record {
   named = named;
   faultless = faultless;
 }
+
+-- what such a source is expanded to can be compiled where it is not too large
+pub compilable : (source top : List ℕ) (p : ProgramTree) (index : ℕ) → IsTheProgramOf source p → program_faults p top ≡ [] → top_name p index ≡ Some top → expanded_weight (program_elaborated p index) ≤ 8192
+    → (e : ExpandedTree) → e ≡ expansion (program_elaborated p index) → BecomesCompilable e
+compilable source top p index the faultless named within e same = accepted_compilable source p index top (faultless_source source top p index the faultless named) within e same
 
 -- the circuit of a source without faults keeps the promise
 pub promise_of : (source : List ℕ) (settings : Settings) (p : ProgramTree) (index : ℕ) → IsTheProgramOf source p → program_faults p settings.top ≡ [] → top_name p index ≡ Some settings.top

@@ -9,6 +9,7 @@ ghost use Rattle.cycle_report.specs.FormulaValue.{cycles};
 ghost use Rattle.cosim_pins.specs.FunctionPins.{interface_of, plain};
 ghost use Rattle.cosim_levels.specs.Verdicts.{verdict_of, IfStopped};
 ghost use Rattle.cosim_levels.specs.Levels.{IsWaiting};
+ghost use Rattle.compile_flow.specs.Compilable.{BecomesCompilable};
 ghost use Rattle.hls_flow.specs.FirstFault.{IsFirstFault};
 ghost use Rattle.hls_flow.specs.Verdicts.{greatest_points, AreFiles, IsVerdictOn, IsVerdict, inputs_of};
 ghost use Rattle.hls_flow.specs.Comparing.{files_of, AreCompared, IsAgreement};
@@ -92,6 +93,7 @@ fn agreement(
     counted: &Counted,
     ended: &Final,
 ) -> Result<Verdict, AllocError>
+    requires { BecomesCompilable (expanded_of expanded.now) }
     ensures { IfOk result (λ v. IsAgreement (expanded_of expanded.now) counted.now.settings counted.now.inputs (function_of function.now) ended.now counted.now.cycles (verdict_of v)) }
 {
     let compiled = compile_expanded(alloc, expanded, &counted.settings)?;
@@ -115,6 +117,7 @@ fn compare(
 ) -> Result<Verdict, Stop>
     requires points { given.now.points ≤ greatest_points }
     requires expanded { expanded_of expanded.now ≡ expansion (program_elaborated (program_of checked.now.program) checked.now.top) }
+    requires compilable { BecomesCompilable (expanded_of expanded.now) }
     ensures ran { IfOk result (λ v. IsVerdictOn given.now (program_of checked.now.program) checked.now.top (function_of function.now) (verdict_of v)) }
     ensures stopped { IfStopped result (IsVerdictOn given.now (program_of checked.now.program) checked.now.top (function_of function.now)) }
 {

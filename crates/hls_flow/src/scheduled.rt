@@ -4,6 +4,7 @@ ghost use Rattle.pieces.specs.Program.{expanded_of};
 ghost use Rattle.rtl_core.specs.Netlist.{netlist_of};
 ghost use Rattle.cycle_report.specs.PlainReport.{plain_of};
 ghost use Rattle.compile_steps.specs.Reports.{KeepsSettings};
+ghost use Rattle.compile_flow.specs.Compilable.{BecomesCompilable};
 ghost use Rattle.hls_flow.specs.Made.{HasScheduledCircuit};
 
 use compile_flow::compile::{Compiled, compile_expanded};
@@ -17,6 +18,7 @@ pub fn scheduled(
     expanded: &Expanded,
     settings: &Settings,
 ) -> Result<Compiled, AllocError>
+    requires { BecomesCompilable (expanded_of expanded.now) }
     ensures made { IfOk result (λ c. HasScheduledCircuit settings.now (expanded_of expanded.now) (plain_of c.report) (netlist_of c.design)) }
     ensures kept { IfOk result (λ c. KeepsSettings (plain_of c.report) settings.now) }
 {

@@ -9,8 +9,13 @@ use Rattle.cycle_report.specs.PlainReport.{plain_of}
 use Rattle.hls_base.specs.declared.settings.Settings.{Settings}
 use Rattle.hls_flow.specs.Made.{HasScheduledCircuit}
 use Rattle.hls_flow.specs.SoakRun.{soak_settings}
-use Rattle.hls_flow.proofs.Made.{promise_of}
+use Rattle.hls_flow.proofs.Made.{compilable, promise_of}
 use Rattle.hls_flow.proofs.soak.compiled.Goals as goal
+
+pub scheduled-requires : goal.scheduled-requires
+scheduled-requires c =
+    compilable c.args.source.now c.in_ok-settings.settings.top (program_of c.in_ok-checked.checked.program) c.in_ok-checked.checked.top c.in_ok-checked.ensures.found c.in_ok-checked.ensures.faultless
+    c.in_ok-checked.ensures.top c.in_ok-expanded.ensures.within (expanded_of c.in_ok-expanded.expanded) c.in_ok-expanded.ensures.made
 
 pub returns : goal.returns
 returns c =

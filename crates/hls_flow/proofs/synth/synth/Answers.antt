@@ -13,7 +13,7 @@ use Rattle.cycle_report.specs.PlainReport.{plain_of}
 use Rattle.c_expand.specs.Expansion.{IsOverweight}
 use Rattle.hls_flow.specs.FirstFault as f
 use Rattle.hls_flow.specs.FirstFault.{IsFirstFault}
-use Rattle.hls_flow.proofs.Made.{names_printable, settings_fit, synthesis}
+use Rattle.hls_flow.proofs.Made.{compilable, names_printable, settings_fit, synthesis}
 use Rattle.hls_flow.proofs.Faults.{first_fault_once}
 use Rattle.hls_flow.proofs.TopPlace.{too_large}
 use Rattle.hls_flow.proofs.synth.synth.Goals as goal
@@ -51,6 +51,11 @@ returns-in_err-expanded-clause-once c =
     c.from_residual-in_err-expanded.ensures.1 (λ y e. e)
     (λ r large q other. first_fault_once source top r q
     (too_large source top program index r c.in_ok-checked.ensures.found c.in_ok-checked.ensures.faultless c.in_ok-checked.ensures.top large) other) c.in_err-expanded.ensures.refused
+
+pub scheduled-requires : goal.scheduled-requires
+scheduled-requires c =
+    compilable c.args.source.now c.args.settings.now.top (program_of c.in_ok-checked.checked.program) c.in_ok-checked.checked.top c.in_ok-checked.ensures.found c.in_ok-checked.ensures.faultless c.in_ok-checked.ensures.top
+    c.in_ok-expanded.ensures.within (expanded_of c.in_ok-expanded.expanded) c.in_ok-expanded.ensures.made
 
 pub returns-clause-made : goal.returns-clause-made
 returns-clause-made c =
