@@ -1,5 +1,5 @@
 -- The flat programs of sources without faults are compiled, and are valid with their times too.
-use Rattle.std.proofs.Common.{◌≡◌, ◌≤◌, ◌∙◌, ℕ, Bool, true, List, sym, subst}
+use Rattle.std.proofs.Common.{◌≡◌, ◌≤◌, ◌∙◌, ℕ, true, List, sym, subst}
 use Rattle.std.proofs.lemmas.Option.{same_Some}
 use Rattle.hls_base.specs.declared.settings.Units.{Units}
 use Rattle.c_tree.specs.Tree.{ProgramTree}

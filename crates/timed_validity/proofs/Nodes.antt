@@ -1,5 +1,5 @@
 -- Nodes are valid alike that are the same but for their times, and lead to the same ones.
-use Rattle.std.proofs.Common.{◌≡◌, ◌∙◌, ◌+◌, ℕ, zero, suc, refl, sym, ap, ap₂, Bool, cond, not, ◌&&◌, List, [], ◌∷◌, length, map, Option, Some, None}
+use Rattle.std.proofs.Common.{◌≡◌, ◌∙◌, ◌+◌, ℕ, zero, suc, refl, sym, ap, ap₂, Bool, cond, not, ◌&&◌, List, [], ◌∷◌, length, map, Some, None}
 use Rattle.std.specs.Prelude.{◌==◌, ◌||◌, nat_lt, slice_get}
 use Rattle.std.specs.List.{list_all, list_any, count_by}
 use Rattle.std.proofs.lemmas.List.Sums.{sum_by-cons}
@@ -18,7 +18,7 @@ use Rattle.body_times.specs.Copies.{IsEndCopy}
 use Rattle.ir_lower.specs.Frames.{FrameView, frame_view}
 use Rattle.program_validity.specs.Operands.{is_operand}
 use Rattle.program_validity.specs.Programs.{is_node, is_test, is_case, is_returned, is_end, is_valid_node}
-use Rattle.program_validity.specs.Targets.{end_leads_to, leads_to, is_end_of, is_block_at_end_of, is_left, is_left_if}
+use Rattle.program_validity.specs.Targets.{end_leads_to, leads_to, is_end_of, is_block_at_end_of, is_left_if}
 use Rattle.timed_validity.proofs.Lists.{both_same, all_same}
 use Rattle.timed_validity.proofs.Operands.{operand_same}
 use Rattle.timed_validity.proofs.Bodies.{IsSameBody, block_body_same, loop_body_same}
@@ -65,27 +65,28 @@ copied_leads n x (end.Jump next) h = ap (λ (e : End). end_leads_to n e) h
 copied_leads n x (end.Branch test left right) h = ap (λ (e : End). end_leads_to n e) h
 copied_leads n x (end.Return value) h = ap (λ (e : End). end_leads_to n e) h
 
-module _ {S T : Type 0} (f g : Frame) (framed : frame_view f ≡ frame_view g) (count : ℕ) where
+module _ (f g : Frame) (framed : frame_view f ≡ frame_view g) where
   widths : f.variables.items ≡ g.variables.items
   widths = ap (λ (v : FrameView). v.variables) framed
 
-  ret : f.ret ≡ g.ret
-  ret = ap (λ (v : FrameView). v.ret) framed
+  result : f.ret ≡ g.ret
+  result = ap (λ (v : FrameView). v.ret) framed
 
+module _ {S T : Type 0} (f g : Frame) (framed : frame_view f ≡ frame_view g) (count : ℕ) where
   module _ (ls : List (Op S)) (rs : List (Op T)) (ops : map op_of ls ≡ map op_of rs) where
     test_same : (x : Operand) → is_test f ls x ≡ is_test g rs x
-    test_same x = operand_same f.variables.items g.variables.items widths [] ls rs ops 1 x
+    test_same x = operand_same f.variables.items g.variables.items (widths f g framed) [] ls rs ops 1 x
 
     returned_same : (x : Operand) → is_returned f ls x ≡ is_returned g rs x
     returned_same x =
-        both_same (ap (λ n. nat_lt 0 n) ret)
-        (operand_same f.variables.items g.variables.items widths [] ls rs ops f.ret x ∙ ap (λ n. is_operand g.variables.items [] rs n x) ret)
+        both_same (ap (λ n. nat_lt 0 n) (result f g framed))
+        (operand_same f.variables.items g.variables.items (widths f g framed) [] ls rs ops f.ret x ∙ ap (λ n. is_operand g.variables.items [] rs n x) (result f g framed))
 
     end_same : (x : End) → is_end f ls count x ≡ is_end g rs count x
     end_same (end.Jump next) = refl
     end_same (end.Branch test left right) = both_same (test_same test) refl
     end_same (end.Choose cases other) = both_same (all_same (is_case f ls count) (is_case g rs count) (λ (c : Operand × NodeId). both_same (test_same c.0) refl) cases.items) refl
-    end_same (end.Return None) = ap (λ n. n == 0) ret
+    end_same (end.Return None) = ap (λ n. n == 0) (result f g framed)
     end_same (end.Return (Some x)) = returned_same x
 
   -- ---- nodes

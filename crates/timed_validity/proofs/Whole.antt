@@ -6,7 +6,6 @@ use Rattle.hls_base.specs.declared.number.NodeId.{NodeId}
 use Rattle.hls_base.specs.declared.settings.Units.{Units}
 use Rattle.ir_core.specs.declared.body.Body.{Body}
 use Rattle.ir_core.specs.declared.body.Op.{Op}
-use Rattle.ir_core.specs.declared.body.Operand.{Operand}
 use Rattle.ir_core.specs.declared.cfg.Cfg.{Cfg}
 use Rattle.ir_core.specs.declared.cfg.Loop.{Loop}
 use Rattle.ir_core.specs.declared.cfg.Memory.{Memory}
