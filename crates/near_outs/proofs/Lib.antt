@@ -1,0 +1,3 @@
+pub mod Laid
+pub mod Iterations
+pub mod Whole

@@ -1,0 +1,3 @@
+pub mod NearOuts
+pub mod Examples
+pub mod Laws

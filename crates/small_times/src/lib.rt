@@ -1,0 +1,4 @@
+//! Small programs that are given times have small ones.
+#![tactic(auto)]
+
+pub mod laws;
