@@ -1,4 +1,4 @@
--- Which expanded programs are compiled: those whose flat programs are valid and can be given times.
+-- Which expanded programs are compiled: those whose flat programs are valid and can be given small times.
 use Rattle.std.specs.Prelude.{◌≡◌, ℕ, Bool, true, List}
 use Rattle.std.specs.List.{All}
 use Rattle.c_tree.specs.Tree.{ProgramTree}
@@ -12,12 +12,14 @@ use Rattle.compiled_sizes.specs.Laws.{IsSmallProgram}
 use Rattle.compile_steps.specs.Flat.{IsFlatOf}
 use Rattle.compile_steps.specs.Resets.{expanded_frame}
 use Rattle.source_runs.specs.Laws.{IsFaultless}
+use Rattle.small_times.specs.NearOuts.{OutsAreNear}
 
--- a valid program of few nodes and operations, each of which comes behind those that it waits for
+-- a valid program of few nodes and operations, each of which comes behind those that it waits for, with outs and tests of few iterations before
 pub record IsCompilable (cfg : Cfg Untimed) : Type 0 where
   pub valid : is_valid cfg ≡ true
   pub small : IsSmallProgram cfg
   pub forward : All HasForwardBody cfg.nodes.items
+  pub near : OutsAreNear cfg
 
 -- Each flat program that the expanded program becomes, with or without loops that are overlapped, is so.
 abbrev pub BecomesCompilable : ExpandedTree → Type 0

@@ -1,4 +1,4 @@
-ghost use Rattle.std.specs.Prelude.{◌≡◌, ◌≤◌, ◌↔◌, true, IsTrue, IfOk};
+ghost use Rattle.std.specs.Prelude.{◌≡◌, ◌≤◌, ◌↔◌, IsTrue, IfOk};
 ghost use Rattle.std.specs.List.{All};
 ghost use Rattle.hls_base.specs.Refusals.{IfRefused};
 ghost use Rattle.c_tree.specs.View.{program_of};
@@ -9,7 +9,7 @@ ghost use Rattle.ir_lower.specs.Frames.{frame_view};
 ghost use Rattle.rtl_core.specs.Netlist.{netlist_of};
 ghost use Rattle.cycle_report.specs.PlainReport.{plain_of};
 ghost use Rattle.report_rows.specs.Resources.{IsReportable};
-ghost use Rattle.program_validity.specs.Programs.{is_consistent};
+ghost use Rattle.circuit_context.specs.Programs.{IsBuildable};
 ghost use Rattle.compile_steps.specs.Flat.{IsFlatOf};
 ghost use Rattle.compile_steps.specs.Resets.{expanded_frame, AreAddressable, reset_cycles};
 ghost use Rattle.compile_steps.specs.Reports.{allowed_units, IsTimed, EachNodeCounts, IsReportOf, KeepsSettings};
@@ -29,7 +29,6 @@ use ir_core::stamp::Untimed;
 use live_variables::live::live_variables;
 use pieces::expanded::Expanded;
 use reg_binding::assign::assign;
-use reg_binding::small_times::has_small_times;
 use report_rows::costs::formula_of;
 use report_rows::initial::initial_cycles;
 use report_rows::resources::{Resources, is_reportable, resources_of};
@@ -59,13 +58,10 @@ fn units_of(settings: &Settings) -> Units
 
 /// The circuit of a program with times.
 fn circuit_of(alloc: Global, timed: &Cfg<Timed>) -> Result<Design, AllocError>
-    requires { is_consistent timed.now ≡ true }
+    requires { IsBuildable timed.now }
     ensures { IfOk result (λ d. HasCircuit timed.now (netlist_of d)) }
 {
     numbers_are_small(timed);
-    if !has_small_times(timed) {
-        return Err(impossible());
-    }
     let live = live_variables(alloc, timed)?;
     let registers = assign(alloc, timed, &live)?;
     let design = build(alloc, timed, &registers, live)?;
@@ -120,7 +116,7 @@ fn keeps_settings(report: &Report, settings: &Settings) -> bool
         && (!settings.plain || report.loops.is_empty())
 }
 
-/// Compiles an expanded program, whose flat programs are valid and can be given times.
+/// Compiles an expanded program, whose flat programs are valid and can be given small times.
 pub fn compile_expanded(
     alloc: Global,
     expanded: &Expanded,

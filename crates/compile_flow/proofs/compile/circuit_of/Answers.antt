@@ -1,4 +1,3 @@
-use Rattle.std.proofs.Common.{refl}
 use Rattle.compile_flow.proofs.compile.circuit_of.Goals as goal
 
 pub returns : goal.returns
@@ -11,6 +10,3 @@ returns c = record {
   valid = c.in_ok-design.ensures.valid;
   built = c.in_ok-design.ensures.built;
 }
-
-pub build-requires-clause-buildable : goal.build-requires-clause-buildable
-build-requires-clause-buildable c = record { valid = c.requires; times = c.if-not-has_small_times.ensures.0 refl }

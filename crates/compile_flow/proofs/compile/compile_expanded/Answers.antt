@@ -6,7 +6,7 @@ use Rattle.ir_lower.specs.Frames.{frame_view}
 use Rattle.compile_steps.specs.Resets.{expanded_frame}
 use Rattle.compile_steps.proofs.Counting.{each_node_counts}
 use Rattle.compile_steps.proofs.Resets.{frame_is, reset_is}
-use Rattle.compile_flow.proofs.Compilable.{timed_consistent}
+use Rattle.compile_flow.proofs.Compilable.{timed_buildable}
 use Rattle.compile_flow.proofs.compile.compile_expanded.Goals as goal
 
 pub timed_program-requires : goal.timed_program-requires
@@ -15,7 +15,7 @@ timed_program-requires c =
 
 pub circuit_of-requires : goal.circuit_of-requires
 circuit_of-requires c =
-    timed_consistent c.units_of-units.result c.in_ok-untimed.untimed c.in_ok-timed.field-0.timed (map loop_of c.in_ok-timed.field-0.loops.items) c.in_ok-timed.ensures
+    timed_buildable c.units_of-units.result c.in_ok-untimed.untimed c.in_ok-timed.field-0.timed (map loop_of c.in_ok-timed.field-0.loops.items) c.in_ok-timed.ensures
     (c.requires c.args.settings.now.plain c.in_ok-untimed.untimed c.in_ok-untimed.ensures.flat (c.in_ok-untimed.ensures.frame ∙ frame_is c.args.expanded.now))
 
 pub returns-clause-longer : goal.returns-clause-longer
