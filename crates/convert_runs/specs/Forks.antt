@@ -27,7 +27,7 @@ abbrev mutual
 abbrev pub ForksAreMerged : Type 0
 ForksAreMerged = (scope : Scope) (blocks : SequenceTree) → HoldsForks blocks → is_only (converted_sequence scope blocks) ≡ true
 
--- An eligible loop of one block for its test, which sets nothing and whose last operation makes the test, with such a body, is overlapped.
+-- An eligible loop whose test is one block alone, of which `is_test` holds, and whose body is so, is overlapped.
 abbrev pub LoopsAreOverlapped : Type 0
 LoopsAreOverlapped = (scope : Scope) (head : BlockTree) (test : Operand) (body : SequenceTree) → scope.loops ≡ true → head.exit ≡ branch test → is_test head test ≡ true → HoldsForks body
     → converted_shape scope (loop false (sequence head no_part) body no_side true) ≡ overlapping scope.widths test (opened head) (first_of (converted_sequence scope body))
