@@ -1,5 +1,5 @@
 -- The outs and tests of the programs that sources are compiled to are near.
-use Rattle.std.proofs.Common.{◌≡◌, Bool, true}
+use Rattle.std.proofs.Common.{Bool, true}
 use Rattle.hls_base.specs.declared.point.Point.{Point}
 use Rattle.c_tree.specs.Terminals.{terminals}
 use Rattle.pieces.specs.Program.{ExpandedTree}
