@@ -229,16 +229,20 @@ class Writer:
             lines.insert(self.draw.randint(0, len(lines)), f"if ({self.expression(quiet, 2)}) {self.assignment(quiet)}")
         return ["{", *indented(lines), "}"]
 
+    def test(self, scope, counted):
+        """The test of a loop, with a further condition perhaps."""
+        return f"{counted} && {self.expression(scope, 2)}" if self.chance(0.3) else counted
+
     def counted(self, scope, depth):
         d = self.draw
         name, kind, bound = self.name("i"), d.choice(("int", "unsigned", "unsigned char", "long")), d.choice((1, 2, 3, 4, 5, 7, 8, 12, 16))
         inner = scope.inner(in_loop=True)
         inner.counters.append(Object(name, kind))
         if self.chance(0.25):
-            first, test = (bound - 1, ">= 0") if TYPES[kind][1] else (bound, "!= 0")
-            head = f"for ({kind} {name} = {first}; {name} {test}; {name}--)"
+            first, end = (bound - 1, ">= 0") if TYPES[kind][1] else (bound, "!= 0")
+            head = f"for ({kind} {name} = {first}; {self.test(inner, f'{name} {end}')}; {name}--)"
         else:
-            head = f"for ({kind} {name} = 0; {name} < {bound}; {name} {d.choice(('++', '++', '+= 1', '+= 2'))})"
+            head = f"for ({kind} {name} = 0; {self.test(inner, f'{name} < {bound}')}; {name} {d.choice(('++', '++', '+= 1', '+= 2'))})"
         return [head, *(self.simple_block(inner) if self.chance(0.5) else self.block(inner, depth))]
 
     def repeated(self, scope, depth):
