@@ -20,7 +20,7 @@ use Rattle.source_runs.specs.Laws.{IsFaultless, expanded}
 use Rattle.accepted_programs.proofs.Whole.{accepted_valid}
 use Rattle.small_times.proofs.Whole.{times_small}
 use Rattle.near_outs.proofs.Whole.{sources_near}
-use Rattle.compile_flow.specs.Compilable.{IsCompilable, BecomesCompilable, IsOfSource}
+use Rattle.compile_flow.specs.Compilable.{IsCompilable, BecomesCompilable}
 
 -- a source without faults, whose weight is within the limit, becomes programs that are compiled
 source_compilable : (source : List ℕ) (p : ProgramTree) (top : ℕ) (name : List ℕ) → IsFaultless source p top name → expanded_weight (program_elaborated p top) ≤ 8192 → BecomesCompilable (expanded p top)
@@ -35,9 +35,6 @@ source_compilable source p top name s light plain cfg flat frame =
 pub accepted_compilable : (source : List ℕ) (p : ProgramTree) (top : ℕ) (name : List ℕ) → IsFaultless source p top name → expanded_weight (program_elaborated p top) ≤ 8192
     → (e : ExpandedTree) → e ≡ expansion (program_elaborated p top) → BecomesCompilable e
 accepted_compilable source p top name s light e same = subst BecomesCompilable (sym same) (source_compilable source p top name s light)
-
-pub program_compilable : (p : ProgramTree) (top : ℕ) → IsOfSource p top → expanded_weight (program_elaborated p top) ≤ 8192 → (e : ExpandedTree) → e ≡ expansion (program_elaborated p top) → BecomesCompilable e
-program_compilable p top of light e same = accepted_compilable of.source p top of.name of.faultless light e same
 
 -- a circuit can be made of such a program with its times
 pub timed_buildable : (units : Units) (untimed : Cfg Untimed) (timed : Cfg Timed) (rows : List PlainLoop) → IsTimed units untimed timed rows → IsCompilable untimed → IsBuildable timed

@@ -1,7 +1,6 @@
 -- Which expanded programs are compiled: those whose flat programs are valid and can be given small times.
-use Rattle.std.specs.Prelude.{◌≡◌, ℕ, Bool, true, List}
+use Rattle.std.specs.Prelude.{◌≡◌, Bool, true}
 use Rattle.std.specs.List.{All}
-use Rattle.c_tree.specs.Tree.{ProgramTree}
 use Rattle.pieces.specs.Program.{ExpandedTree}
 use Rattle.ir_core.specs.declared.cfg.Cfg.{Cfg}
 use Rattle.ir_core.specs.declared.stamp.Untimed.{Untimed}
@@ -11,7 +10,6 @@ use Rattle.program_times.specs.ForwardNodes.{HasForwardBody}
 use Rattle.compiled_sizes.specs.Laws.{IsSmallProgram}
 use Rattle.compile_steps.specs.Flat.{IsFlatOf}
 use Rattle.compile_steps.specs.Resets.{expanded_frame}
-use Rattle.source_runs.specs.Laws.{IsFaultless}
 use Rattle.small_times.specs.NearOuts.{OutsAreNear}
 
 -- a valid program of few nodes and operations, each of which comes behind those that it waits for, with outs and tests of few iterations before
@@ -24,9 +22,3 @@ pub record IsCompilable (cfg : Cfg Untimed) : Type 0 where
 -- Each flat program that the expanded program becomes, with or without loops that are overlapped, is so.
 abbrev pub BecomesCompilable : ExpandedTree → Type 0
 BecomesCompilable e = (plain : Bool) (cfg : Cfg Untimed) → IsFlatOf e plain cfg → frame_view cfg.frame ≡ expanded_frame e → IsCompilable cfg
-
--- The program is that of a source without faults.
-pub record IsOfSource (p : ProgramTree) (top : ℕ) : Type 0 where
-  pub source : List ℕ
-  pub name : List ℕ
-  pub faultless : IsFaultless source p top name

@@ -1,10 +1,6 @@
 ghost use Rattle.std.specs.Prelude.{◌≡◌, ◌≤◌, ◌↔◌, IsTrue, IfOk};
 ghost use Rattle.std.specs.List.{All};
-ghost use Rattle.hls_base.specs.Refusals.{IfRefused};
-ghost use Rattle.c_tree.specs.View.{program_of};
-ghost use Rattle.c_elaborate.specs.Programs.{program_elaborated};
 ghost use Rattle.pieces.specs.Program.{expanded_of};
-ghost use Rattle.c_expand.specs.Expansion.{expansion, IsOverweight};
 ghost use Rattle.ir_lower.specs.Frames.{frame_view};
 ghost use Rattle.rtl_core.specs.Netlist.{netlist_of};
 ghost use Rattle.cycle_report.specs.PlainReport.{plain_of};
@@ -14,15 +10,14 @@ ghost use Rattle.compile_steps.specs.Flat.{IsFlatOf};
 ghost use Rattle.compile_steps.specs.Resets.{expanded_frame, AreAddressable, reset_cycles};
 ghost use Rattle.compile_steps.specs.Reports.{allowed_units, IsTimed, EachNodeCounts, IsReportOf, KeepsSettings};
 ghost use Rattle.compile_flow.specs.Circuits.{HasCircuit};
-ghost use Rattle.compile_flow.specs.Compilable.{BecomesCompilable, IsOfSource};
+ghost use Rattle.compile_flow.specs.Compilable.{BecomesCompilable};
 
 use crate::settings::copy_settings;
-use c_checked::checked::Checked;
 use circuit_build::build::build;
 use clock_ir::timed::Timed;
-use compile_steps::steps::{Schedule, expanded, flat_program, timed_program};
+use compile_steps::steps::{Schedule, flat_program, timed_program};
 use cycle_report::report::{LoopRow, MemoryRow, Report};
-use hls_base::refusal::{Fail, impossible};
+use hls_base::refusal::impossible;
 use hls_base::settings::{Settings, Units};
 use ir_core::cfg::Cfg;
 use ir_core::stamp::Untimed;
@@ -149,21 +144,4 @@ pub fn compile_expanded(
         design,
         report,
     })
-}
-
-/// Compiles a program without faults. It is refused where it is too large once its calls are expanded.
-pub fn compile(alloc: Global, checked: &Checked, settings: &Settings) -> Result<Compiled, Fail>
-    requires { IsOfSource (program_of checked.now.program) checked.now.top }
-    ensures report { IfOk result (λ c. IsReportOf (plain_of c.report) settings.now c.timed (netlist_of c.design)) }
-    ensures circuit { IfOk result (λ c. HasCircuit c.timed (netlist_of c.design)) }
-    ensures timed { IfOk result (λ c. IsTimed (allowed_units settings.now) c.untimed c.timed (plain_of c.report).loops) }
-    ensures kept { IfOk result (λ c. KeepsSettings (plain_of c.report) settings.now) }
-    ensures longer { IfOk result (λ c. EachNodeCounts c.timed.nodes.items (plain_of c.report)) }
-    ensures flat { IfOk result (λ c. IsFlatOf (expansion (program_elaborated (program_of checked.now.program) checked.now.top)) settings.now.plain c.untimed) }
-    ensures frame { IfOk result (λ c. frame_view c.timed.frame ≡ expanded_frame (expansion (program_elaborated (program_of checked.now.program) checked.now.top))) }
-    ensures init { IfOk result (λ c. AreAddressable (expanded_frame (expansion (program_elaborated (program_of checked.now.program) checked.now.top))) → (plain_of c.report).init ≡ reset_cycles (expanded_frame (expansion (program_elaborated (program_of checked.now.program) checked.now.top)))) }
-{
-    let expanded = expanded(alloc, checked)?;
-    let compiled = compile_expanded(alloc, &expanded, settings)?;
-    Ok(compiled)
 }
