@@ -3,6 +3,7 @@ mod TopPlace
 pub mod PinNames
 pub mod ShortCycles
 mod Made
+mod Ended
 pub mod Stopped
 pub mod ScalarCount
 pub mod VerdictCases

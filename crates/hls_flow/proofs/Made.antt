@@ -38,7 +38,7 @@ accepted_of source top p index the faultless named within =
     record { program = p; is = the; faultless = faultless; index = index; function = is.0; top_is = is.1; within = within }
 
 -- the source as the laws on the way to the clocked run take it
-faultless_source : (source top : List ℕ) (p : ProgramTree) (index : ℕ) → IsTheProgramOf source p → program_faults p top ≡ [] → top_name p index ≡ Some top → IsFaultless source p index top
+pub faultless_source : (source top : List ℕ) (p : ProgramTree) (index : ℕ) → IsTheProgramOf source p → program_faults p top ≡ [] → top_name p index ≡ Some top → IsFaultless source p index top
 faultless_source source top p index the faultless named = record {
   tokens = the.is.replaced.tokens;
   replaced = the.is.tokens;

@@ -1,6 +1,5 @@
 -- How many cycles the runs take whose levels are compared.
 use Rattle.std.proofs.Common.{◌≡◌, ℕ, ◌≤◌, true, List, Some, sym, ap, subst}
-use Rattle.std.specs.Prelude.{slice_get}
 use Rattle.c_tree.specs.Tree.{FunctionTree, ProgramTree}
 use Rattle.c_meaning.specs.declared.outcome.Final.{Final}
 use Rattle.c_meaning.specs.FittingInputs.{inputs_fit}

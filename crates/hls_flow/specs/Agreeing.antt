@@ -1,5 +1,5 @@
 -- Files that agree with their source, and a run of them that ends in time.
-use Rattle.std.specs.Prelude.{◌≤◌, ◌<◌, ℕ}
+use Rattle.std.specs.Prelude.{◌≤◌, ◌<◌}
 use Rattle.c_meaning.specs.declared.outcome.Final.{Final}
 use Rattle.c_meaning.specs.Run.{first_contents}
 use Rattle.c_box.specs.CAnswers.{c_answers}

@@ -3,6 +3,7 @@ pub mod Laws
 pub mod Synthesis
 pub mod Made
 pub mod Clocked
+pub mod Ending
 pub mod Verdicts
 pub mod Agreeing
 pub mod Comparing

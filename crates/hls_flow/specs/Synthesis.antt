@@ -1,5 +1,5 @@
 -- What it is that a synthesis is correct: the module is a circuit that agrees with the C program, to the cycle that the report's formula gives.
-use Rattle.std.specs.Prelude.{◌≡◌, ℕ, ◌≤◌, List, [], ◌++◌, codes}
+use Rattle.std.specs.Prelude.{◌≡◌, ℕ, ◌≤◌, List, ◌++◌, codes}
 use Rattle.hls_base.specs.declared.refusal.Refusal.{Refusal}
 use Rattle.hls_base.specs.declared.settings.Settings.{Settings}
 use Rattle.c_meaning.specs.Run.{first_contents}

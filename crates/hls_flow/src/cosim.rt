@@ -1,16 +1,18 @@
-ghost use Rattle.std.specs.Prelude.{◌≡◌, ◌<◌, ◌≤◌, ◌^◌, length, IfOk};
+ghost use Rattle.std.specs.Prelude.{◌≡◌, ◌<◌, ◌≤◌, ◌^◌, length, slice_get, Some, IfOk};
 ghost use Rattle.hls_base.specs.Refusals.{IfRefused};
 ghost use Rattle.hls_base.specs.declared.refusal.Refusal.{Refusal};
+ghost use Rattle.c_tree.specs.Tree as tree;
 ghost use Rattle.c_tree.specs.View.{program_of, function_of};
 ghost use Rattle.c_elaborate.specs.Programs.{program_elaborated};
-ghost use Rattle.c_expand.specs.Expansion.{expansion};
+ghost use Rattle.c_expand.specs.Expansion.{expansion, expanded_weight};
 ghost use Rattle.pieces.specs.Program.{expanded_of};
 ghost use Rattle.cycle_report.specs.FormulaValue.{cycles};
 ghost use Rattle.cosim_pins.specs.FunctionPins.{interface_of, plain};
 ghost use Rattle.cosim_levels.specs.Verdicts.{verdict_of, IfStopped};
 ghost use Rattle.cosim_levels.specs.Levels.{IsWaiting};
-ghost use Rattle.compile_flow.specs.Compilable.{BecomesCompilable};
+ghost use Rattle.source_runs.specs.Laws.{IsFaultless};
 ghost use Rattle.hls_flow.specs.FirstFault.{IsFirstFault};
+ghost use Rattle.hls_flow.specs.Ending.{HasEnded};
 ghost use Rattle.hls_flow.specs.Verdicts.{greatest_points, AreFiles, IsVerdictOn, IsVerdict, inputs_of};
 ghost use Rattle.hls_flow.specs.Comparing.{files_of, AreCompared, IsAgreement};
 
@@ -28,6 +30,7 @@ use cosim_levels::compared::{agreeing, differing};
 use cosim_levels::difference::first_difference;
 use cosim_levels::levels::{c_level, module_level, short_cycles};
 use cosim_levels::verdict::{Difference, Stop, Verdict};
+use ended_machines::laws::clocked_runs_end_in_time;
 use hls_base::inputs::Inputs;
 use hls_base::refusal::Fail;
 use hls_base::settings::Settings;
@@ -93,17 +96,12 @@ fn agreement(
     counted: &Counted,
     ended: &Final,
 ) -> Result<Verdict, AllocError>
-    requires { BecomesCompilable (expanded_of expanded.now) }
+    requires { HasEnded (expanded_of expanded.now) counted.now.inputs ended.now }
     ensures { IfOk result (λ v. IsAgreement (expanded_of expanded.now) counted.now.settings counted.now.inputs (function_of function.now) ended.now counted.now.cycles (verdict_of v)) }
 {
     let compiled = compile_expanded(alloc, expanded, &counted.settings)?;
-    let clock = clocked_steps(
-        alloc,
-        &compiled.untimed,
-        &compiled.timed,
-        &counted.inputs,
-        ended,
-    )?;
+    clocked_runs_end_in_time();
+    let clock = clocked_steps(alloc, &compiled.timed, &counted.inputs)?;
     agreeing(alloc, function, ended, counted.cycles, u128::from(clock))
 }
 
@@ -117,7 +115,9 @@ fn compare(
 ) -> Result<Verdict, Stop>
     requires points { given.now.points ≤ greatest_points }
     requires expanded { expanded_of expanded.now ≡ expansion (program_elaborated (program_of checked.now.program) checked.now.top) }
-    requires compilable { BecomesCompilable (expanded_of expanded.now) }
+    requires source { IsFaultless given.now.source (program_of checked.now.program) checked.now.top given.now.top }
+    requires within { expanded_weight (program_elaborated (program_of checked.now.program) checked.now.top) ≤ 8192 }
+    requires item { slice_get (program_of checked.now.program).items checked.now.top ≡ Some (tree.function (function_of function.now)) }
     ensures ran { IfOk result (λ v. IsVerdictOn given.now (program_of checked.now.program) checked.now.top (function_of function.now) (verdict_of v)) }
     ensures stopped { IfStopped result (IsVerdictOn given.now (program_of checked.now.program) checked.now.top (function_of function.now)) }
 {

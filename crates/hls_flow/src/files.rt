@@ -111,6 +111,7 @@ fn inputs_of(alloc: Global, given: &CosimInputs, function: &Function) -> Result<
 pub fn read_files(alloc: Global, given: &CosimInputs, function: &Function) -> Result<Read, Stop>
     ensures interface { IfOk result (λ r. plain r.interface ≡ interface_of (function_of function.now)) }
     ensures files { IfOk result (λ r. AreFiles given.now (function_of function.now) (files_of r)) }
+    ensures fit { IfOk result (λ r. IsTrue (inputs_fit (function_of function.now).params r.inputs.scalars r.inputs.arrays)) }
     ensures scalars { IfOk result (λ r. length r.inputs.scalars ≡ length r.interface.scalars.items) }
     ensures refused { IfStopped result (IsStoppedAtFiles given.now (function_of function.now)) }
 {

@@ -5,6 +5,7 @@ ghost use Rattle.rtl_core.specs.Netlist.{netlist_of};
 ghost use Rattle.cycle_report.specs.PlainReport.{plain_of};
 ghost use Rattle.driven_circuits.specs.Driven.{AgreesWithC};
 ghost use Rattle.long_runs.specs.Laws.{RunsAreLong};
+ghost use Rattle.hls_flow.specs.Ending.{RunsEndInTime};
 ghost use Rattle.hls_flow.specs.SoakRun.{soak_settings, IsCompiled, IsAgreedRun, IsSoakRun};
 
 use crate::machines::clocked_steps;
@@ -21,6 +22,7 @@ use cosim_levels::difference::first_difference;
 use cosim_levels::levels::{c_level, module_level, short_cycles};
 use cosim_levels::verdict::Stop;
 use cosim_pins::interface::interface_of;
+use ended_machines::laws::clocked_runs_end_in_time;
 use hls_base::inputs::Inputs;
 use hls_base::refusal::{Fail, impossible};
 use hls_base::settings::Settings;
@@ -52,14 +54,16 @@ fn settings(alloc: Global) -> Result<Settings, AllocError>
     })
 }
 
-/// The program without faults, and what it is compiled to.
+/// The program without faults, and what it is compiled to, whose clocked runs end where the runs in C do.
 fn compiled(alloc: Global, source: &[u8]) -> Result<(Checked, Compiled), Fail>
-    ensures { IfOk result (λ made. IsCompiled source.now (program_of made.0.program) made.0.top (plain_of made.1.report) (netlist_of made.1.design)) }
+    ensures timely { IfOk result (λ made. RunsEndInTime (program_of made.0.program) made.0.top made.1.timed) }
+    ensures made { IfOk result (λ made. IsCompiled source.now (program_of made.0.program) made.0.top (plain_of made.1.report) (netlist_of made.1.design)) }
 {
     let settings = settings(alloc)?;
     let checked = read_checked(alloc, source, &settings.top)?;
     let expanded = expanded(alloc, &checked)?;
     let compiled = scheduled(alloc, &expanded, &settings)?;
+    clocked_runs_end_in_time();
     Ok((checked, compiled))
 }
 
@@ -84,14 +88,15 @@ fn run_levels(
 ) -> Result<Option<(Final, u128)>, Stop>
     requires agrees { AgreesWithC (program_of checked.now.program) checked.now.top (function_of function.now) (plain_of compiled.report) (netlist_of compiled.design) }
     requires long { RunsAreLong (program_of checked.now.program) checked.now.top (plain_of compiled.report) }
+    requires timely { RunsEndInTime (program_of checked.now.program) checked.now.top compiled.timed }
     requires fit { IsTrue (inputs_fit (function_of function.now).params inputs.now.scalars inputs.now.arrays) }
     ensures { IfOk result (λ o. IfSome o (λ run. IsAgreedRun (program_of checked.now.program) checked.now.top (function_of function.now) inputs.now.scalars inputs.now.arrays (plain_of compiled.report) (netlist_of compiled.design) run.0 run.1)) }
 {
     let Compiled {
-        untimed,
         timed,
         design,
         report,
+        ..
     } = compiled;
     let interface = interface_of(alloc, function)?;
     let ended = c_level(alloc, checked, inputs, LIMIT)?;
@@ -101,7 +106,7 @@ fn run_levels(
     if difference.is_some() {
         return Ok(None);
     }
-    let clock = clocked_steps(alloc, &untimed, &timed, inputs, &ended)?;
+    let clock = clocked_steps(alloc, &timed, inputs)?;
     Ok(counted(ended, cycles, clock))
 }
 

@@ -3,7 +3,24 @@ use Rattle.std.proofs.lemmas.Result.{IfOk-weaker}
 use Rattle.pieces.specs.Program.{expanded_of}
 use Rattle.cycle_report.specs.PlainReport.{plain_of}
 use Rattle.hls_flow.specs.Clocked.{TakesEdges, IsClockOf}
+use Rattle.compile_flow.proofs.Compilable.{accepted_compilable}
+use Rattle.hls_flow.proofs.Ended.{ended_in_time}
 use Rattle.hls_flow.proofs.cosim.agreement.Goals as goal
+
+pub compile_expanded-requires : goal.compile_expanded-requires
+compile_expanded-requires c =
+    let h = c.requires in
+    accepted_compilable h.source h.program h.index h.name h.faultless h.within (expanded_of c.args.expanded.now) h.is
+
+pub clocked_steps-requires : goal.clocked_steps-requires
+clocked_steps-requires c =
+    let made = c.in_ok-compiled.compiled in
+    ended_in_time c.clocked_runs_end_in_time.ensures c.args.expanded.now c.args.counted.now.inputs c.args.ended.now c.requires c.args.counted.now.settings made.untimed made.timed (record {
+      rows = (plain_of made.report).loops;
+      flat = c.in_ok-compiled.ensures.flat;
+      is_timed = c.in_ok-compiled.ensures.timed;
+      frame = c.in_ok-compiled.ensures.frame;
+    })
 
 pub returns : goal.returns
 returns c =

@@ -1,6 +1,7 @@
-use Rattle.std.proofs.Common.{◌≡◌, sym, subst, Some, None}
+use Rattle.std.proofs.Common.{◌≡◌, ap, sym, subst, Some, None}
+use Rattle.hls_base.specs.declared.inputs.Inputs.{Inputs}
 use Rattle.c_tree.specs.View.{program_of, function_of}
-use Rattle.c_meaning.specs.Run.{first_contents}
+use Rattle.c_meaning.specs.Run.{function_at, first_contents}
 use Rattle.cosim_levels.proofs.FewCycles.{passed_low, cycles_low}
 use Rattle.c_meaning.specs.declared.outcome.Final.{Final}
 use Rattle.cosim_pins.specs.FunctionPins.{interface_of}
@@ -12,6 +13,8 @@ use Rattle.hls_flow.specs.Verdicts.{IsStoppedAtFiles, IsVerdictOn, run_in_c, at_
 use Rattle.c_elaborate.specs.Programs.{program_elaborated}
 use Rattle.c_expand.specs.Expansion.{expansion}
 use Rattle.hls_flow.specs.Comparing.{files_of, IsAgreement}
+use Rattle.ended_machines.specs.Laws.{EndsInC}
+use Rattle.hls_flow.proofs.Ended.{ends_in_c}
 use Rattle.hls_flow.proofs.Stopped.{stopped_on}
 use Rattle.hls_flow.proofs.VerdictCases.{differs, agrees}
 use Rattle.hls_flow.proofs.cosim.compare.Goals as goal
@@ -69,6 +72,26 @@ returns-clause-ran c =
     (subst (λ x. IsAgreement x counted.settings counted.inputs f final counted.cycles verdict) c.requires.expanded c.in_ok-agreement-in-None.ensures)) in
     compared files c.in_ok-ended.ended c.in_ok-read.ensures.files c.in_ok-ended.ensures.ended
     (agrees c.args.given.now program index f files c.in_ok-ended.ended c.in_ok-counted.field-0.counted.cycles c.in_ok-counted.field-0.difference c.in_ok-counted.ensures.compared verdict same agreement)
+
+pub agreement-requires : goal.agreement-requires
+agreement-requires c =
+    let given = c.args.given.now in
+    let program = program_of c.args.checked.now.program in
+    let index = c.args.checked.now.top in
+    let f = function_of c.args.function.now in
+    let files = files_of c.in_ok-read.read in
+    let final = c.in_ok-ended.ended in
+    let ends = ends_in_c program index f (inputs_of files) given.points final (ap function_at c.requires.item) c.in_ok-read.ensures.fit c.requires.points c.in_ok-ended.ensures.ended in
+    record {
+      source = given.source;
+      name = given.top;
+      program = program;
+      index = index;
+      faultless = c.requires.source;
+      within = c.requires.within;
+      is = c.requires.expanded;
+      ends = subst (λ (i : Inputs). EndsInC program index i final.ret final.arrays) (sym c.in_ok-counted.ensures.inputs) ends;
+    }
 
 pub compare_module-requires-clause-cycles : goal.compare_module-requires-clause-cycles
 compare_module-requires-clause-cycles c =

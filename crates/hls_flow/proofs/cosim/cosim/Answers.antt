@@ -7,12 +7,11 @@ use Rattle.checked_source.specs.SourceFaults.{IsSourceFault}
 use Rattle.checked_source.proofs.Outcomes.{passed_on}
 use Rattle.c_elaborate.specs.Programs.{program_elaborated}
 use Rattle.pieces.specs.declared.expanded.Expanded.{Expanded}
-use Rattle.pieces.specs.Program.{expanded_of}
 use Rattle.c_expand.specs.Expansion.{IsOverweight}
 use Rattle.hls_flow.specs.FirstFault as f
 use Rattle.hls_flow.specs.FirstFault.{IsFirstFault}
 use Rattle.hls_flow.proofs.Faults.{first_fault_once}
-use Rattle.hls_flow.proofs.Made.{compilable}
+use Rattle.hls_flow.proofs.Made.{faultless_source}
 use Rattle.hls_flow.proofs.TopPlace.{too_large}
 use Rattle.hls_flow.proofs.VerdictCases.{accepted_at}
 use Rattle.hls_flow.proofs.cosim.cosim.Goals as goal
@@ -53,12 +52,11 @@ returns-in_err-expanded-clause-once c =
     (λ r large q other. first_fault_once source top r q
     (too_large source top program index r the c.in_ok-checked.ensures.faultless c.in_ok-checked.ensures.top large) other) c.in_err-expanded.ensures.refused
 
-pub compare-requires-clause-compilable : goal.compare-requires-clause-compilable
-compare-requires-clause-compilable c =
+pub compare-requires-clause-source : goal.compare-requires-clause-source
+compare-requires-clause-source c =
     let program = program_of c.in_ok-checked.checked.program in
     let the : IsTheProgramOf c.args.given.now.source program = rw c.items.ensures at c.in_ok-checked.ensures.found in
-    compilable c.args.given.now.source c.args.given.now.top program c.in_ok-checked.checked.top the c.in_ok-checked.ensures.faultless c.in_ok-checked.ensures.top c.in_ok-expanded.ensures.within
-    (expanded_of c.in_ok-expanded.expanded) c.in_ok-expanded.ensures.made
+    faultless_source c.args.given.now.source c.args.given.now.top program c.in_ok-checked.checked.top the c.in_ok-checked.ensures.faultless c.in_ok-checked.ensures.top
 
 pub returns-in-Ok-clause-verdict : goal.returns-in-Ok-clause-verdict
 returns-in-Ok-clause-verdict c = record {

@@ -9,7 +9,8 @@ use Rattle.cycle_report.specs.PlainReport.{plain_of}
 use Rattle.hls_base.specs.declared.settings.Settings.{Settings}
 use Rattle.hls_flow.specs.Made.{HasScheduledCircuit}
 use Rattle.hls_flow.specs.SoakRun.{soak_settings}
-use Rattle.hls_flow.proofs.Made.{compilable, promise_of}
+use Rattle.hls_flow.proofs.Made.{compilable, faultless_source, promise_of}
+use Rattle.hls_flow.proofs.Ended.{runs_end}
 use Rattle.hls_flow.proofs.soak.compiled.Goals as goal
 
 pub scheduled-requires : goal.scheduled-requires
@@ -17,8 +18,18 @@ scheduled-requires c =
     compilable c.args.source.now c.in_ok-settings.settings.top (program_of c.in_ok-checked.checked.program) c.in_ok-checked.checked.top c.in_ok-checked.ensures.found c.in_ok-checked.ensures.faultless
     c.in_ok-checked.ensures.top c.in_ok-expanded.ensures.within (expanded_of c.in_ok-expanded.expanded) c.in_ok-expanded.ensures.made
 
-pub returns : goal.returns
-returns c =
+pub returns-clause-timely : goal.returns-clause-timely
+returns-clause-timely c =
+    let program = program_of c.in_ok-checked.checked.program in
+    let index = c.in_ok-checked.checked.top in
+    let settings = c.in_ok-settings.settings in
+    let compiled = c.in_ok-compiled.compiled in
+    runs_end c.clocked_runs_end_in_time.ensures c.args.source.now program index settings.top
+    (faultless_source c.args.source.now settings.top program index c.in_ok-checked.ensures.found c.in_ok-checked.ensures.faultless c.in_ok-checked.ensures.top) c.in_ok-expanded.ensures.within
+    c.in_ok-expanded.expanded c.in_ok-expanded.ensures.made settings compiled.untimed compiled.timed c.in_ok-compiled.ensures.compiled
+
+pub returns-clause-made : goal.returns-clause-made
+returns-clause-made c =
     let program = program_of c.in_ok-checked.checked.program in
     let index = c.in_ok-checked.checked.top in
     let report = plain_of c.in_ok-compiled.compiled.report in

@@ -1,16 +1,17 @@
-use Rattle.std.proofs.Common.{rules, ◌≡◌, ◌≤◌, false, Some, None, length, sym, ap, ◌∙◌, subst, arith}
+use Rattle.std.proofs.Common.{rules, ◌≡◌, false, Some, length, sym, ap, ◌∙◌, subst, arith}
 use Rattle.std.specs.Prelude.{is_some}
 use Rattle.c_tree.specs.View.{program_of, function_of}
-use Rattle.c_meaning.specs.Run.{first_contents}
+use Rattle.c_elaborate.specs.Programs.{program_elaborated}
+use Rattle.c_expand.specs.Expansion.{expansion}
 use Rattle.rtl_core.specs.Netlist.{netlist_of}
 use Rattle.rtl_core.specs.Interface.{Interface, HasPins}
 use Rattle.cycle_report.specs.PlainReport.{plain_of}
-use Rattle.cycle_report.specs.FormulaValue.{cycles}
 use Rattle.cosim_pins.specs.ModuleRun.{module_run}
 use Rattle.driven_circuits.proofs.ShortArrays.{shown_short}
 use Rattle.hls_flow.specs.SoakRun.{most, IsAgreedRun}
 use Rattle.hls_flow.proofs.ScalarCount.{scalar_count}
 use Rattle.hls_flow.proofs.ShortCycles.{agreed_cycles}
+use Rattle.hls_flow.proofs.Ended.{ends_in_c}
 use Rattle.hls_flow.proofs.SoakMade.{some_at, none_left}
 use Rattle.hls_flow.proofs.soak.run_levels.Goals as goal
 
@@ -53,6 +54,15 @@ first_difference-requires-clause-cycles c =
     c.args.inputs.now.scalars c.args.inputs.now.arrays c.requires.fit most most c.in_ok-ended.ended c.in_ok-ended.ensures.ended shown run in
     let same = c.short_cycles-cycles.ensures in
     omega (arith, few, same)
+
+pub clocked_steps-requires : goal.clocked_steps-requires
+clocked_steps-requires c =
+    let program = program_of c.args.checked.now.program in
+    let index = c.args.checked.now.top in
+    let final = c.in_ok-ended.ended in
+    let inputs = c.args.inputs.now in
+    let ends = ends_in_c program index (function_of c.args.function.now) inputs most final c.requires.agrees.function c.requires.fit (omega arith) c.in_ok-ended.ensures.ended in
+    (expansion (program_elaborated program index), final.ret, final.arrays, c.requires.timely inputs final.ret final.arrays ends)
 
 pub returns : goal.returns
 returns c =
