@@ -101,7 +101,7 @@ fn agreement(
 {
     let compiled = compile_expanded(alloc, expanded, &counted.settings)?;
     clocked_runs_end_in_time();
-    let clock = clocked_steps(alloc, &compiled.timed, &counted.inputs)?;
+    let clock = clocked_steps(alloc, &compiled.untimed, &compiled.timed, &counted.inputs)?;
     agreeing(alloc, function, ended, counted.cycles, u128::from(clock))
 }
 
