@@ -13,11 +13,7 @@ use seq_machine::machine::SeqMachine;
 use std::alloc::{AllocError, Global};
 
 /// Runs a compiled program operation by operation.
-fn run_in_sequence(
-    alloc: Global,
-    cfg: &Cfg<Untimed>,
-    inputs: &Inputs,
-) -> Result<(), AllocError> {
+fn run_in_sequence(alloc: Global, cfg: &Cfg<Untimed>, inputs: &Inputs) -> Result<(), AllocError> {
     let mut machine = SeqMachine::new(alloc, cfg, inputs)?;
     machine.run(u64::MAX);
     Ok(())
