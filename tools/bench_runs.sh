@@ -6,7 +6,7 @@ root=$(cd "$(dirname "${BASH_SOURCE[0]}")/.." && pwd)
 command -v rt >/dev/null || { echo "bench: the command rt of the Rattle kit is not on the path" >&2; exit 1; }
 work=$(mktemp -d)
 trap 'rm -rf "$work"' EXIT
-used="hls_base c_token c_lexer c_macro c_tree syntax_sorts syntax_steps c_syntax c_cursor c_parser c_value c_checked c_declarations c_labels c_conflicts c_calls c_types c_meaning c_state c_machine c_frames c_moves c_interpreter c_execution"
+used="hls_base c_token c_lexer c_macro c_tree c_syntax c_parser c_value pieces c_meaning c_names c_calls c_types c_machine c_moves c_interpreter"
 mkdir -p "$work/crates/bench_runs/src"
 for crate in $used; do
     cp -r "$root/crates/$crate" "$work/crates/"
@@ -18,8 +18,8 @@ cat >"$work/crates/bench_runs/src/main.rt" <<'RT'
 //! Runs a program of C for 1,000,000 points.
 #![tactic(auto)]
 
-use c_checked::checked::Checked;
-use c_execution::run::start;
+use c_meaning::checks::Checked;
+use c_interpreter::execution::run::start;
 use c_lexer::lex;
 use c_macro::replace;
 use c_meaning::outcome::Outcome;

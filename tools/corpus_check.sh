@@ -12,12 +12,12 @@ trap 'rm -rf "$work"' EXIT
 
 # A repository of its own: the crates below, and a program that reads a case and runs it.
 mkdir -p "$work/crates/corpus_probe"/{src,specs,proofs}
-for crate in hls_base c_token c_lexer c_macro c_tree syntax_sorts syntax_steps c_syntax c_cursor c_parser c_value c_checked c_declarations c_labels c_conflicts c_calls c_types c_meaning c_state c_machine c_frames c_moves c_interpreter c_execution; do
+for crate in hls_base c_token c_lexer c_macro c_tree c_syntax c_parser c_value pieces c_meaning c_names c_calls c_types c_machine c_moves c_interpreter; do
     mkdir "$work/crates/$crate"
     cp -r "$root/crates/$crate/src" "$root/crates/$crate/specs" "$root/crates/$crate/proofs" "$work/crates/$crate/"
     grep "^$crate:" "$root/crates.txt" >>"$work/crates.txt"
 done
-echo "corpus_probe: hls_base c_token c_lexer c_macro c_tree c_parser c_value c_checked c_types c_meaning c_execution" >>"$work/crates.txt"
+echo "corpus_probe: hls_base c_token c_lexer c_macro c_tree c_parser c_value c_meaning c_types c_interpreter" >>"$work/crates.txt"
 touch "$work/crates/corpus_probe"/{specs,proofs}/Lib.antt
 cp "$root/tools/corpus/run.txt" "$work/crates/corpus_probe/src/main.rt"
 cd "$work/crates/corpus_probe" || exit 1

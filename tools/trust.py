@@ -11,12 +11,17 @@ import re
 import sys
 
 CRATES = pathlib.Path(__file__).resolve().parent.parent / "crates"
-USED = re.compile(r"use\s+(?:Rattle\.)?(\w+)\.specs\.(\w+)")
+USED = re.compile(r"use\s+(?:Rattle\.)?(\w+)\.specs\.(\w+(?:\.\w+)*)")
 
 
 def used(text):
     """The definitions that a text names, each as its crate and its file, where they are of this repository."""
-    return {(crate, name) for crate, name in USED.findall(text) if (CRATES / crate / "specs" / f"{name}.antt").exists()}
+    found = set()
+    for crate, path in USED.findall(text):
+        parts = path.split(".")
+        files = ["/".join(parts[: count + 1]) for count in range(len(parts))]
+        found |= {(crate, name) for name in [it for it in files if (CRATES / crate / "specs" / f"{it}.antt").exists()][-1:]}
+    return found
 
 
 def main(words):

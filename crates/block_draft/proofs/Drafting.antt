@@ -8,11 +8,11 @@ use Rattle.c_value.specs.Values.{width}
 use Rattle.ir_core.specs.declared.body.OpKind.TheVariants as o
 use Rattle.ir_core.specs.declared.body.Operand.{Operand}
 use Rattle.ir_core.specs.declared.body.Out.{Out}
-use Rattle.block_meaning.specs.Bodies.{OpTree}
-use Rattle.block_meaning.specs.Trees.{BlockTree}
-use Rattle.lowering.specs.Operations.{Emitted, added, constant, plain}
-use Rattle.lowering.specs.Outs.{with_out}
-use Rattle.lowering.specs.Blocks.{Scope, Cases, with_case, case_or, cases, set_to}
+use Rattle.ir_core.specs.Bodies.{OpTree}
+use Rattle.ir_core.specs.Trees.{BlockTree}
+use Rattle.passes.specs.Lowering.Operations.{Emitted, added, constant, plain}
+use Rattle.passes.specs.Lowering.Outs.{with_out}
+use Rattle.passes.specs.Lowering.Blocks.{Scope, Cases, with_case, case_or, cases, set_to}
 use Rattle.block_draft.specs.declared.operations.Form.{Form}
 use Rattle.block_draft.specs.Views.{defined_as, plain_form}
 use Rattle.block_draft.specs.Drafts.{with_earlier}

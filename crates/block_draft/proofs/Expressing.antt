@@ -15,10 +15,10 @@ use Rattle.ir_core.specs.declared.body.OpKind.{OpKind}
 use Rattle.ir_core.specs.declared.body.OpKind.TheVariants as o
 use Rattle.ir_core.specs.declared.body.Operand.{Operand}
 use Rattle.ir_core.specs.declared.body.Out.{Out}
-use Rattle.block_meaning.specs.Bodies.{OpTree}
-use Rattle.lowering.specs.Operations.{Emitted, added, plain, defined, flagged, tested, balanced, valued}
-use Rattle.lowering.specs.Guards.{Guard, only_where, outside, guarded}
-use Rattle.lowering.specs.Expressions.{Evaluated, Subscripts, Next, with_value, with_truth, under_guard, is_total, computed, operated, operation, junction, joined, binary, choice, subscript, emitted}
+use Rattle.ir_core.specs.Bodies.{OpTree}
+use Rattle.passes.specs.Lowering.Operations.{Emitted, added, plain, defined, flagged, tested, balanced, valued}
+use Rattle.passes.specs.Lowering.Guards.{Guard, only_where, outside, guarded}
+use Rattle.passes.specs.Lowering.Expressions.{Evaluated, Subscripts, Next, with_value, with_truth, under_guard, is_total, computed, operated, operation, junction, joined, binary, choice, subscript, emitted}
 use Rattle.block_draft.specs.declared.expression.Comparison.{Comparison}
 use Rattle.block_draft.specs.Operators.{behind_left, unwound, with_front, junction_of, joined_by, joined_with, comparison_of, compared_as, Side, sided, chosen_other, chosen}
 

@@ -7,10 +7,10 @@ use Rattle.c_token.specs.declared.ctype.CType.TheVariants as type
 use Rattle.c_value.specs.Values.{width, is_signed}
 use Rattle.ir_core.specs.declared.body.OpKind.TheVariants as op
 use Rattle.ir_core.specs.declared.body.Operand.{Operand}
-use Rattle.lowering.specs.Operations.{conversion, plain, defined}
-use Rattle.lowering.specs.Guards as g
-use Rattle.block_meaning.specs.Bodies.{OpTree}
-use Rattle.lowering.specs.Guards.{outside, guarded, within, with_bit, bit_of}
+use Rattle.passes.specs.Lowering.Operations.{conversion, plain, defined}
+use Rattle.passes.specs.Lowering.Guards as g
+use Rattle.ir_core.specs.Bodies.{OpTree}
+use Rattle.passes.specs.Lowering.Guards.{outside, guarded, within, with_bit, bit_of}
 use Rattle.block_draft.specs.declared.guards.Guard.{Guard}
 use Rattle.block_draft.specs.declared.operations.Operations.{Operations}
 use Rattle.block_draft.specs.Views.{plain_form, conversion_form, defined_as, guard_of, guards_within, guards_of, ops_of, made, guarded_of}

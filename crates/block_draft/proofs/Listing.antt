@@ -5,9 +5,9 @@ use Rattle.std.proofs.lemmas.Bool.{false≢true}
 use Rattle.std.proofs.lemmas.Bool.Decides.{Decides-eqb}
 use Rattle.hls_base.specs.declared.number.VarId.{VarId}
 use Rattle.ir_core.specs.declared.body.Out.{Out}
-use Rattle.lowering.specs.Outs.{operand_eq, without, own_out}
-use Rattle.lowering.specs.Operations.{entry_value}
-use Rattle.lowering.specs.Copies.{outs_set}
+use Rattle.passes.specs.Lowering.Outs.{operand_eq, without, own_out}
+use Rattle.passes.specs.Lowering.Operations.{entry_value}
+use Rattle.passes.specs.Lowering.Copies.{outs_set}
 use Rattle.block_draft.specs.declared.outs.Latest.{Latest}
 use Rattle.block_draft.specs.Settings.{settled_behind, settled, latest_from, placed, own_if}
 

@@ -11,8 +11,8 @@ use Rattle.ir_core.specs.declared.body.Out.{Out}
 use Rattle.ir_core.specs.declared.body.Source.{Source}
 use Rattle.ir_core.specs.declared.body.Source.TheVariants as source
 use Rattle.ir_core.specs.contracts.body.SourcePartialEq.TheImpl as source_impl
-use Rattle.lowering.specs.Operations.{entry_value}
-use Rattle.lowering.specs.Outs.{operand_eq, held, without, own_out, with_out}
+use Rattle.passes.specs.Lowering.Operations.{entry_value}
+use Rattle.passes.specs.Lowering.Outs.{operand_eq, held, without, own_out, with_out}
 use Rattle.block_draft.specs.declared.outs.Latest.{Latest}
 use Rattle.block_draft.specs.Settings.{var_eq, settled_behind, settled, latest_from, IsLatest}
 

@@ -12,11 +12,11 @@ use Rattle.pieces.specs.Kind.{kind}
 use Rattle.pieces.specs.Program.{array_of}
 use Rattle.ir_core.specs.declared.body.Operand.{Operand}
 use Rattle.ir_core.specs.declared.body.Out.{Out}
-use Rattle.block_meaning.specs.Bodies.{OpTree}
-use Rattle.block_meaning.specs.Trees.{ExitTree, BlockTree}
-use Rattle.lowering.specs.Operations.{Emitted}
-use Rattle.lowering.specs.Expressions.{Subscripts, emitted, emitted_all}
-use Rattle.lowering.specs.Blocks.{Scope, Cases, cases, stored, given_as, promoted_given}
+use Rattle.ir_core.specs.Bodies.{OpTree}
+use Rattle.ir_core.specs.Trees.{ExitTree, BlockTree}
+use Rattle.passes.specs.Lowering.Operations.{Emitted}
+use Rattle.passes.specs.Lowering.Expressions.{Subscripts, emitted, emitted_all}
+use Rattle.passes.specs.Lowering.Blocks.{Scope, Cases, cases, stored, given_as, promoted_given}
 use Rattle.block_draft.specs.declared.operations.Operations.{Operations}
 use Rattle.block_draft.specs.declared.draft.Draft.{Draft}
 use Rattle.block_draft.specs.Views.{ops_of}

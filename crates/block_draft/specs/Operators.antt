@@ -14,10 +14,10 @@ use Rattle.ir_core.specs.declared.body.OpKind.{OpKind}
 use Rattle.ir_core.specs.declared.body.OpKind.TheVariants as o
 use Rattle.ir_core.specs.declared.body.Operand.{Operand}
 use Rattle.ir_core.specs.declared.body.Out.{Out}
-use Rattle.block_meaning.specs.Bodies.{OpTree}
-use Rattle.lowering.specs.Operations.{Emitted, added, plain, defined, tested, balanced, kind_of}
-use Rattle.lowering.specs.Guards.{Guard, only_where, outside}
-use Rattle.lowering.specs.Expressions.{Evaluated, Subscripts, Next, with_value, with_truth, left_type, right_type, joined, binary, emitted}
+use Rattle.ir_core.specs.Bodies.{OpTree}
+use Rattle.passes.specs.Lowering.Operations.{Emitted, added, plain, defined, tested, balanced, kind_of}
+use Rattle.passes.specs.Lowering.Guards.{Guard, only_where, outside}
+use Rattle.passes.specs.Lowering.Expressions.{Evaluated, Subscripts, Next, with_value, with_truth, left_type, right_type, joined, binary, emitted}
 use Rattle.block_draft.specs.declared.operations.Form.{Form}
 use Rattle.block_draft.specs.declared.operations.Operations.{Operations}
 use Rattle.block_draft.specs.declared.guards.Guard.{Guard as CodeGuard}

@@ -4,7 +4,7 @@ use Rattle.std.specs.Map.{lookup}
 use Rattle.hls_base.specs.declared.number.VarId.{VarId}
 use Rattle.hls_base.specs.contracts.number.VarIdPartialEq.TheImpl as var_impl
 use Rattle.ir_core.specs.declared.body.Out.{Out}
-use Rattle.lowering.specs.Outs.{without, own_out}
+use Rattle.passes.specs.Lowering.Outs.{without, own_out}
 use Rattle.block_draft.specs.declared.outs.Latest.{Latest}
 
 abbrev pub var_eq : VarId → VarId → Bool

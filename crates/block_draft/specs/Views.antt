@@ -8,12 +8,12 @@ use Rattle.c_value.specs.Values.{width, is_signed}
 use Rattle.ir_core.specs.declared.body.OpKind.{OpKind}
 use Rattle.ir_core.specs.declared.body.OpKind.TheVariants as op
 use Rattle.ir_core.specs.declared.body.Operand.{Operand}
-use Rattle.block_meaning.specs.Bodies.{OpTree, op_of}
-use Rattle.lowering.specs.Operations as o
-use Rattle.lowering.specs.Operations.{Emitted, defined, flagged}
-use Rattle.lowering.specs.Guards as g
-use Rattle.lowering.specs.Guards.{Guarded}
-use Rattle.lowering.specs.Expressions.{Evaluated, Subscripts}
+use Rattle.ir_core.specs.Bodies.{OpTree, op_of}
+use Rattle.passes.specs.Lowering.Operations as o
+use Rattle.passes.specs.Lowering.Operations.{Emitted, defined, flagged}
+use Rattle.passes.specs.Lowering.Guards as g
+use Rattle.passes.specs.Lowering.Guards.{Guarded}
+use Rattle.passes.specs.Lowering.Expressions.{Evaluated, Subscripts}
 use Rattle.block_draft.specs.declared.operations.Form.{Form}
 use Rattle.block_draft.specs.declared.operations.Given.{Given}
 use Rattle.block_draft.specs.declared.operations.Given.TheVariants as given

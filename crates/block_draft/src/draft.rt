@@ -1,10 +1,10 @@
 //! What pieces without control of their own add to the block that is open, and the tests that end it.
 ghost use Rattle.std.specs.Prelude.{◌≡◌, [], List, IfOk};
-ghost use Rattle.block_meaning.specs.Bodies.{OpTree};
-ghost use Rattle.lowering.specs.Blocks.{Cases};
+ghost use Rattle.ir_core.specs.Bodies.{OpTree};
+ghost use Rattle.passes.specs.Lowering.Blocks.{Cases};
 ghost use Rattle.pieces.specs.View.{pure_of, pures_of};
-ghost use Rattle.lowering.specs.Blocks as spec;
-ghost use Rattle.lowering.specs.Expressions.{emitted, emitted_all};
+ghost use Rattle.passes.specs.Lowering.Blocks as spec;
+ghost use Rattle.passes.specs.Lowering.Expressions.{emitted, emitted_all};
 ghost use Rattle.block_draft.specs.Views.{ops_of, made};
 ghost use Rattle.block_draft.specs.Drafts.{scope_of, cases_of, stored_in, with_earlier};
 
@@ -157,9 +157,9 @@ impl Draft {
     ghost use Rattle.std.specs.Prelude.{◌≡◌, [], IfOk, map};
     ghost use Rattle.hls_base.specs.declared.point.Point.{Point};
     ghost use Rattle.pieces.specs.View.{pure_of, pures_of};
-    ghost use Rattle.block_meaning.specs.Bodies.{op_of};
-    ghost use Rattle.block_meaning.specs.Trees.{ExitTree};
-    ghost use Rattle.lowering.specs.Blocks as spec;
+    ghost use Rattle.ir_core.specs.Bodies.{op_of};
+    ghost use Rattle.ir_core.specs.Trees.{ExitTree};
+    ghost use Rattle.passes.specs.Lowering.Blocks as spec;
     ghost use Rattle.block_draft.specs.Views.{ops_of, made};
     ghost use Rattle.block_draft.specs.Drafts.{scope_of, cases_of, contents, nothing, open_at, switched_cases};
 

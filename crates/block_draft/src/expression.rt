@@ -1,9 +1,9 @@
 //! The operations of expressions.
 ghost use Rattle.std.specs.Prelude.{◌≡◌, ◌∷◌, [], IfOk};
 ghost use Rattle.pieces.specs.View.{pure_of, pures_of};
-ghost use Rattle.lowering.specs.Expressions as spec;
-ghost use Rattle.lowering.specs.Operations.{added};
-ghost use Rattle.lowering.specs.Guards.{guarded};
+ghost use Rattle.passes.specs.Lowering.Expressions as spec;
+ghost use Rattle.passes.specs.Lowering.Operations.{added};
+ghost use Rattle.passes.specs.Lowering.Guards.{guarded};
 ghost use Rattle.pieces.specs.Kind.{kind};
 ghost use Rattle.block_draft.specs.Views.{ops_of, guards_of, made, flagged_as, evaluated_of, subscripts_of};
 ghost use Rattle.block_draft.specs.Operators as parts;
@@ -231,7 +231,7 @@ fn emit_side(
 // ---- operators
 
 /// A binary operator, with its type and its place.
-#[derive(Clone, Copy, Debug, PartialEq, Eq)]
+#[derive(Clone, Copy, PartialEq, Eq)]
 struct Operator {
     op: Binary,
     kind: CType,
@@ -239,14 +239,14 @@ struct Operator {
 }
 
 /// The types to which the operands of an operator are converted.
-#[derive(Clone, Copy, Debug, PartialEq, Eq)]
+#[derive(Clone, Copy, PartialEq, Eq)]
 struct Kinds {
     left: CType,
     right: CType,
 }
 
 /// What compares, and whether it does so with its operands exchanged.
-#[derive(Clone, Copy, Debug, PartialEq, Eq)]
+#[derive(Clone, Copy, PartialEq, Eq)]
 struct Comparison {
     kind: OpKind,
     exchanged: bool,

@@ -1,6 +1,6 @@
 //! Guards: bits that say whether control comes to an operation, where it may not.
 ghost use Rattle.std.specs.Prelude.{◌≡◌, [], ◌∷◌, IfOk};
-ghost use Rattle.lowering.specs.Guards as spec;
+ghost use Rattle.passes.specs.Lowering.Guards as spec;
 ghost use Rattle.block_draft.specs.Views.{ops_of, guard_of, guards_of, made, guarded_of};
 
 use crate::operations::{Operations, plain};
@@ -9,7 +9,7 @@ use std::alloc::AllocError;
 use std::mem;
 
 /// When control reaches an operand: where the test is 1, or where it is 0. `made` is the bit that says so, under the guards outside too, once an operation needs it.
-#[derive(Clone, Copy, Debug, PartialEq, Eq)]
+#[derive(Clone, Copy, PartialEq, Eq)]
 pub struct Guard {
     test: Operand,
     holds: bool,

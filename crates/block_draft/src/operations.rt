@@ -1,6 +1,6 @@
 //! Operations of a block that is open, and conversions between types.
 ghost use Rattle.std.specs.Prelude.{◌≡◌};
-ghost use Rattle.lowering.specs.Operations as spec;
+ghost use Rattle.passes.specs.Lowering.Operations as spec;
 ghost use Rattle.block_draft.specs.Views.{given_of, plain_form, conversion_form};
 
 use c_token::ctype::CType;
@@ -19,7 +19,7 @@ use std::mem;
 pub type Args = SmallVec<Operand, 4, Global>;
 
 /// What an operation makes of its operands, and with which width.
-#[derive(Clone, Copy, Debug, PartialEq, Eq)]
+#[derive(Clone, Copy, PartialEq, Eq)]
 pub struct Form {
     pub kind: OpKind,
     pub signed: bool,
@@ -27,7 +27,7 @@ pub struct Form {
 }
 
 /// What an expression gives: one bit that says whether it holds, or a value of a type.
-#[derive(Clone, Copy, Debug, PartialEq, Eq)]
+#[derive(Clone, Copy, PartialEq, Eq)]
 pub enum Given {
     Truth(Operand),
     Value(Operand, CType),
@@ -98,8 +98,8 @@ fn conversion(from: CType, to: CType) -> Form
 
 impl Operations {
     ghost use Rattle.std.specs.Prelude.{◌≡◌, [], ◌∷◌, IfOk, map};
-    ghost use Rattle.block_meaning.specs.Bodies.{op_of};
-    ghost use Rattle.lowering.specs.Operations as spec;
+    ghost use Rattle.ir_core.specs.Bodies.{op_of};
+    ghost use Rattle.passes.specs.Lowering.Operations as spec;
     ghost use Rattle.block_draft.specs.Views.{ops_of, given_of, defined_as, flagged_as, made};
 
     /// No operations.

@@ -11,7 +11,7 @@ use std::alloc::{AllocError, Global};
 use std::marker::Model;
 
 /// Where a variable was set last, and to what.
-#[derive(Clone, Copy, Debug, PartialEq, Eq)]
+#[derive(Clone, Copy, PartialEq, Eq)]
 pub struct Latest {
     place: usize,
     value: Operand,
@@ -39,7 +39,7 @@ impl Model for Outs {
 
 impl Outs {
     ghost use Rattle.std.specs.Prelude.{◌≡◌, [], IfOk};
-    ghost use Rattle.lowering.specs.Outs as spec;
+    ghost use Rattle.passes.specs.Lowering.Outs as spec;
 
     /// Nothing is set.
     pub fn new(alloc: Global) -> Outs

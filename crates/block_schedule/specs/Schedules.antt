@@ -9,12 +9,12 @@ use Rattle.ir_core.specs.declared.cfg.Block.{Block}
 use Rattle.ir_core.specs.declared.cfg.End.{End}
 use Rattle.ir_core.specs.declared.cfg.End.TheVariants as e
 use Rattle.ir_core.specs.declared.stamp.Untimed.{Untimed}
-use Rattle.clock_ir.specs.declared.timed.Timed.{Timed}
+use Rattle.ir_core.specs.declared.timed.Timed.{Timed}
 use Rattle.dep_graph.specs.declared.edge.Edge.{Edge}
 use Rattle.unit_binding.specs.declared.binding.Binding.{Binding}
-use Rattle.ir_operation.specs.Timing.{latency}
+use Rattle.ir_core.specs.Timing.{latency}
 use Rattle.diff_solve.specs.Times.{Solves, IsBelowAll}
-use Rattle.body_times.specs.Copies.{IsTimedBody, IsEndCopy}
+use Rattle.unit_binding.specs.Copies.{IsTimedBody, IsEndCopy}
 use Rattle.block_schedule.specs.Constraints.{block_constraints}
 
 -- the cycle from which a result is there, where operation k starts at the time of node k + 1

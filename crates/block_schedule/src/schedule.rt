@@ -8,8 +8,6 @@ ghost use Rattle.block_schedule.specs.Constraints.{block_constraints};
 ghost use Rattle.block_schedule.specs.Schedules.{ready, IsThereBefore, EndIsReady, IsLongEnough, IsScheduled};
 
 use crate::order::constraints;
-use body_times::copy::{end_copy, timed_body};
-use clock_ir::timed::Timed;
 use dep_graph::edge::Edge;
 use diff_solve::solve::{Solved, solve};
 use hls_base::number::NodeId;
@@ -17,9 +15,11 @@ use hls_base::words::Words;
 use ir_core::body::{Body, Operand, Source};
 use ir_core::cfg::{Block, End};
 use ir_core::stamp::Untimed;
-use ir_operation::timing::latency;
+use ir_core::timed::Timed;
+use ir_core::timing::latency;
 use std::alloc::{AllocError, Global};
 use unit_binding::binding::Binding;
+use unit_binding::copy::{end_copy, timed_body};
 
 /// The least time of each node.
 fn least_times(

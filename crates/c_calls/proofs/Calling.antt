@@ -11,11 +11,11 @@ use Rattle.c_tree.specs.declared.expression.Target.{Target}
 use Rattle.c_tree.specs.Tree as tree
 use Rattle.c_tree.specs.Tree.{ItemTree}
 use Rattle.c_tree.specs.View.{tree_of, target_of}
-use Rattle.c_checked.specs.Names.{Declared}
-use Rattle.c_checked.specs.Recursion.{Called, calls, target_calls, callers}
-use Rattle.c_checked.specs.Programs.{with_item}
+use Rattle.c_meaning.specs.Checks.Names.{Declared}
+use Rattle.c_meaning.specs.Checks.Recursion.{Called, calls, target_calls, callers}
+use Rattle.c_meaning.specs.Checks.Programs.{with_item}
 use Rattle.c_calls.specs.Called.{backwards}
-use Rattle.c_declarations.proofs.Trees.{binary_tree, choice_tree, assign_tree, comma_tree}
+use Rattle.c_names.proofs.DeclarationsLemmas.Trees.{binary_tree, choice_tree, assign_tree, comma_tree}
 
 pub backwards_more : (found : List (Vec Called Global)) (last : Vec Called Global) → backwards (found ++ last ∷ []) ≡ last.items ++ backwards found
 backwards_more [] last = sym (append-nil last.items)

@@ -7,7 +7,7 @@ use Rattle.std.proofs.lemmas.List.Folds.{list_any-append}
 use Rattle.std.specs.declared.alloc.Global.{Global}
 use Rattle.std.specs.declared.vec.Vec.{Vec}
 use Rattle.std.proofs.lemmas.Bool.{eqb-true}
-use Rattle.c_checked.specs.Recursion.{Called, Caller, number_of, call_links, links, reaches}
+use Rattle.c_meaning.specs.Checks.Recursion.{Called, Caller, number_of, call_links, links, reaches}
 use Rattle.c_calls.specs.Linked.{AreWithin, AreBelow, Marks, sources, row_at, HasSources, RowsAreBelow, is_among, calls_one, Spreads, reaches_before, IsFront}
 
 -- a list of marks of which one is set

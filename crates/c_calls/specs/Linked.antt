@@ -3,7 +3,7 @@ use Rattle.std.specs.Prelude.{◌≡◌, ℕ, zero, suc, ◌<◌, ◌==◌, ◌|
 use Rattle.std.specs.List.{list_any}
 use Rattle.std.specs.declared.alloc.Global.{Global}
 use Rattle.std.specs.declared.vec.Vec.{Vec}
-use Rattle.c_checked.specs.Recursion.{reaches}
+use Rattle.c_meaning.specs.Checks.Recursion.{reaches}
 
 -- the numbers are below this one
 abbrev pub AreWithin : ℕ → List (ℕ × ℕ) → Type 0

@@ -2,17 +2,17 @@
 ghost use Rattle.std.specs.Prelude.{◌≡◌, ◌++◌, [], ◌∷◌, true, map, OnOk, IfOk};
 ghost use Rattle.std.specs.Option.{option_map};
 ghost use Rattle.c_tree.specs.View.{tree_of, trees_of, target_of, action_of, init_of, inits_of, object_of, stmt_of, stmts_of, else_of, else_part, first_part, param_of, function_of, body_of, item_of};
-ghost use Rattle.c_checked.specs.Names.{sense_of};
-ghost use Rattle.c_checked.specs.Statements.{with_object, with_objects, with_param, with_params, names_behind, names_in_for};
-ghost use Rattle.c_checked.specs.Calls.{with_function};
-ghost use Rattle.c_checked.specs.Recursion as spec;
-ghost use Rattle.c_checked.specs.Programs.{with_item};
+ghost use Rattle.c_meaning.specs.Checks.Names.{sense_of};
+ghost use Rattle.c_meaning.specs.Checks.Statements.{with_object, with_objects, with_param, with_params, names_behind, names_in_for};
+ghost use Rattle.c_meaning.specs.Checks.Calls.{with_function};
+ghost use Rattle.c_meaning.specs.Checks.Recursion as spec;
+ghost use Rattle.c_meaning.specs.Checks.Programs.{with_item};
 ghost use Rattle.c_calls.specs.Called.{backwards};
 ghost use Rattle.c_calls.specs.Loops.{is_loop};
-ghost use Rattle.c_declarations.specs.Extended.{Extends};
+ghost use Rattle.c_names.specs.Declarations.Extended.{Extends};
 
-use c_declarations::declared::{declare_function, declare_object, declare_objects};
-use c_declarations::names::{Scopes, Sense};
+use c_names::declarations::declared::{declare_function, declare_object, declare_objects};
+use c_names::declarations::names::{Scopes, Sense};
 use c_tree::action::Action;
 use c_tree::expression::{Expr, Target};
 use c_tree::function::{Function, Param};
@@ -25,14 +25,14 @@ use std::alloc::{AllocError, Global};
 use std::marker::Model;
 
 /// A call: who is called, and where.
-#[derive(Debug, Drop)]
+#[derive(Drop)]
 pub struct Called {
     pub name: Text,
     pub at: Place,
 }
 
 impl Model for Called {
-    ghost use Rattle.c_checked.specs.Recursion.{Called};
+    ghost use Rattle.c_meaning.specs.Checks.Recursion.{Called};
     ghost use Rattle.c_calls.specs.Views.{called_view};
 
     ghost Value = { Called };
@@ -41,7 +41,7 @@ impl Model for Called {
 }
 
 /// An item that is a function, whether it has its body, and the calls in it.
-#[derive(Debug, Drop)]
+#[derive(Drop)]
 pub struct Caller {
     pub name: Text,
     pub has_body: bool,
@@ -49,7 +49,7 @@ pub struct Caller {
 }
 
 impl Model for Caller {
-    ghost use Rattle.c_checked.specs.Recursion.{Caller};
+    ghost use Rattle.c_meaning.specs.Checks.Recursion.{Caller};
     ghost use Rattle.c_calls.specs.Views.{caller_view};
 
     ghost Value = { Caller };

@@ -1,13 +1,13 @@
 //! Functions that come back to themselves by calls.
 ghost use Rattle.std.specs.Prelude.{◌≡◌, ◌≤◌, ◌<◌, ◌+◌, ◌++◌, ◌==◌, ◌&&◌, ℕ, List, [], false, nat_le, length, slice_index_or, OnOk, IfOk};
 ghost use Rattle.std.specs.Vec.{vec_len};
-ghost use Rattle.c_checked.specs.Faults.{least};
-ghost use Rattle.c_checked.specs.Recursion.{number_of, body_of, call_links, links, reaches, stands_first, round_faults, recursion_faults};
+ghost use Rattle.c_meaning.specs.Checks.Faults.{least};
+ghost use Rattle.c_meaning.specs.Checks.Recursion.{number_of, body_of, call_links, links, reaches, stands_first, round_faults, recursion_faults};
 ghost use Rattle.c_calls.specs.Linked.{AreWithin, AreBelow, Marks, sources, HasSources, RowsAreBelow, is_among, calls_one, Spreads};
 
 use crate::called::{Called, Caller};
-use c_declarations::faults::{fault_if, lesser};
-use c_declarations::names::is_same_name;
+use c_names::declarations::faults::{fault_if, lesser};
+use c_names::declarations::names::is_same_name;
 use hls_base::refusal::Refusal;
 use hls_base::text::Text;
 use std::alloc::{AllocError, Global};
@@ -138,7 +138,7 @@ fn spread(
 }
 
 /// The marks, and the functions that were marked last.
-#[derive(Debug, Drop)]
+#[derive(Drop)]
 struct Wave {
     marks: Vec<bool>,
     front: Vec<usize>,

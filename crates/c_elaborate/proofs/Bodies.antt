@@ -9,10 +9,10 @@ use Rattle.c_tree.specs.Tree as tree
 use Rattle.c_tree.specs.Tree.{StmtTree, StmtTrees, ObjectTree}
 use Rattle.c_tree.specs.View.{stmt_of, stmts_of, object_of}
 use Rattle.c_meaning.specs.Store.{declared_by, declared_in}
-use Rattle.core_program.specs.declared.statement.CoreStmt.{CoreStmt}
-use Rattle.core_program.specs.declared.program.CoreObject.{CoreObject}
-use Rattle.core_program.specs.Core.{CoreStmtTree, CoreObjectTree}
-use Rattle.core_program.specs.CoreView.{core_stmt_of, core_object_of}
+use Rattle.pieces.specs.declared.resolved.statement.CoreStmt.{CoreStmt}
+use Rattle.pieces.specs.declared.resolved.program.CoreObject.{CoreObject}
+use Rattle.pieces.specs.Resolved.Core.{CoreStmtTree, CoreObjectTree}
+use Rattle.pieces.specs.Resolved.CoreView.{core_stmt_of, core_object_of}
 use Rattle.c_elaborate.specs.declared.blocks.Scene.{Scene}
 use Rattle.c_elaborate.specs.declared.functions.Signature.{Signature}
 use Rattle.c_elaborate.specs.Objects.{object_elaborated, objects_of, objects_within}

@@ -8,15 +8,15 @@ use Rattle.c_tree.specs.declared.expression.Expr.{Expr}
 use Rattle.c_tree.specs.declared.expression.Expr.TheVariants as e
 use Rattle.c_tree.specs.declared.expression.Target.{Target}
 use Rattle.c_tree.specs.View.{tree_of, target_of}
-use Rattle.core_program.specs.declared.expression.CoreExpr.{CoreExpr}
-use Rattle.core_program.specs.declared.expression.CoreTarget.{CoreTarget}
+use Rattle.pieces.specs.declared.resolved.expression.CoreExpr.{CoreExpr}
+use Rattle.pieces.specs.declared.resolved.expression.CoreTarget.{CoreTarget}
 use Rattle.c_elaborate.specs.declared.chains.Step.{Step}
 use Rattle.c_elaborate.specs.declared.chains.Step.TheVariants as s
 use Rattle.c_elaborate.specs.declared.functions.Signature.{Signature}
 use Rattle.c_elaborate.specs.declared.names.Binding.{Binding}
-use Rattle.core_program.specs.Core as core
-use Rattle.core_program.specs.Core.{CoreTree, CoreTargetTree}
-use Rattle.core_program.specs.CoreView.{core_of, core_target_of}
+use Rattle.pieces.specs.Resolved.Core as core
+use Rattle.pieces.specs.Resolved.Core.{CoreTree, CoreTargetTree}
+use Rattle.pieces.specs.Resolved.CoreView.{core_of, core_target_of}
 use Rattle.c_elaborate.specs.Chains.{step, steps}
 use Rattle.c_elaborate.specs.Expressions.{elaborated, target_elaborated, binary_of}
 use Rattle.c_elaborate.proofs.Trees.{unary_tree, cast_tree, binary_tree, assign_tree, comma_tree}

@@ -7,9 +7,9 @@ use Rattle.c_tree.specs.declared.object.Object.{Object}
 use Rattle.c_tree.specs.Tree.{StmtTree, StmtTrees, ObjectTree}
 use Rattle.c_tree.specs.View.{stmt_of, stmts_of, object_of}
 use Rattle.c_meaning.specs.Store.{declared_by, declared_in}
-use Rattle.core_program.specs.declared.program.CoreObject.{CoreObject}
-use Rattle.core_program.specs.Core.{CoreObjectTree}
-use Rattle.core_program.specs.CoreView.{core_object_of}
+use Rattle.pieces.specs.declared.resolved.program.CoreObject.{CoreObject}
+use Rattle.pieces.specs.Resolved.Core.{CoreObjectTree}
+use Rattle.pieces.specs.Resolved.CoreView.{core_object_of}
 use Rattle.c_elaborate.specs.Objects.{object_elaborated, objects_of, from}
 use Rattle.c_elaborate.proofs.Lists.{dropped}
 use Rattle.c_elaborate.proofs.Parts.{grown, both}

@@ -5,8 +5,8 @@ use Rattle.hls_base.specs.declared.place.Place.{Place}
 use Rattle.c_tree.specs.Tree as tree
 use Rattle.c_tree.specs.Tree.{Tree, ActionTree, StmtTree, ElseTree, FirstTree}
 use Rattle.c_meaning.specs.Store.{declared_first}
-use Rattle.core_program.specs.Core as core
-use Rattle.core_program.specs.Core.{CoreTree, CoreActionTree, CoreStmtTree, CoreElseTree, stmt_row, CoreProgramTree}
+use Rattle.pieces.specs.Resolved.Core as core
+use Rattle.pieces.specs.Resolved.Core.{CoreTree, CoreActionTree, CoreStmtTree, CoreElseTree, stmt_row, CoreProgramTree}
 use Rattle.c_elaborate.specs.declared.blocks.Scene.{Scene}
 use Rattle.c_elaborate.specs.declared.functions.Signature.{Signature}
 use Rattle.c_elaborate.specs.Objects.{objects_of, first_objects, from}

@@ -4,8 +4,8 @@ use Rattle.c_tree.specs.declared.expression.Expr.{Expr}
 use Rattle.c_tree.specs.View.{tree_of, trees_of}
 use Rattle.c_elaborate.specs.declared.functions.Signature.{Signature}
 use Rattle.c_elaborate.specs.declared.names.Binding.{Binding}
-use Rattle.core_program.specs.Core as core
-use Rattle.core_program.specs.Core.{row, argument_row}
+use Rattle.pieces.specs.Resolved.Core as core
+use Rattle.pieces.specs.Resolved.Core.{row, argument_row}
 use Rattle.c_elaborate.specs.Expressions.{elaborated, argument_elaborated, all_elaborated, arguments_elaborated}
 
 module _ (fs : List Signature) (names : List Binding) where

@@ -7,7 +7,7 @@ use Rattle.c_tree.specs.Tree.{ObjectTree}
 use Rattle.c_elaborate.specs.declared.names.Binding.{Binding}
 use Rattle.c_elaborate.specs.declared.blocks.Mark.{Mark}
 use Rattle.c_elaborate.specs.declared.blocks.Scene.{Scene}
-use Rattle.core_program.specs.declared.expression.Scope.TheVariants as scope
+use Rattle.pieces.specs.declared.resolved.expression.Scope.TheVariants as scope
 use Rattle.c_elaborate.specs.Names.{binding_of, cell_of}
 use Rattle.c_elaborate.specs.Scenes.{opened, declared, all_declared, returned}
 

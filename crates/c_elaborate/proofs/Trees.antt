@@ -10,13 +10,13 @@ use Rattle.c_tree.specs.declared.expression.Expr.TheVariants as e
 use Rattle.c_tree.specs.declared.expression.Expr.TheOpen.{Expr-F}
 use Rattle.c_tree.specs.declared.expression.Expr.TheFolds.{fold-roll-Expr}
 use Rattle.c_tree.specs.declared.expression.Target.{Target}
-use Rattle.core_program.specs.declared.statement.CoreAction.{CoreAction}
-use Rattle.core_program.specs.declared.statement.CoreStmt.TheVariants as cs
-use Rattle.core_program.specs.declared.statement.CoreStmt.TheOpen.{CoreStmt-F}
-use Rattle.core_program.specs.declared.statement.CoreStmt.TheFolds.{fold-roll-CoreStmt}
-use Rattle.core_program.specs.Core as core
-use Rattle.core_program.specs.Core.{CoreStmtTree, CoreElseTree}
-use Rattle.core_program.specs.CoreView.{core_stmt_of, core_action_of, core_stmt_step, core_else_step}
+use Rattle.pieces.specs.declared.resolved.statement.CoreAction.{CoreAction}
+use Rattle.pieces.specs.declared.resolved.statement.CoreStmt.TheVariants as cs
+use Rattle.pieces.specs.declared.resolved.statement.CoreStmt.TheOpen.{CoreStmt-F}
+use Rattle.pieces.specs.declared.resolved.statement.CoreStmt.TheFolds.{fold-roll-CoreStmt}
+use Rattle.pieces.specs.Resolved.Core as core
+use Rattle.pieces.specs.Resolved.Core.{CoreStmtTree, CoreElseTree}
+use Rattle.pieces.specs.Resolved.CoreView.{core_stmt_of, core_action_of, core_stmt_step, core_else_step}
 use Rattle.c_tree.specs.Tree as tree
 use Rattle.c_tree.specs.declared.action.Action.{Action}
 use Rattle.c_tree.specs.declared.statement.Else.{Else}

@@ -4,9 +4,9 @@ use Rattle.c_tree.specs.Tree as tree
 use Rattle.c_tree.specs.Tree.{Tree}
 use Rattle.c_elaborate.specs.declared.chains.Step.{Step}
 use Rattle.c_elaborate.specs.declared.chains.Step.TheVariants as s
-use Rattle.core_program.specs.Core as core
-use Rattle.core_program.specs.Core.{CoreTree}
-use Rattle.core_program.specs.CoreView.{core_of, core_target_of}
+use Rattle.pieces.specs.Resolved.Core as core
+use Rattle.pieces.specs.Resolved.Core.{CoreTree}
+use Rattle.pieces.specs.Resolved.CoreView.{core_of, core_target_of}
 use Rattle.c_elaborate.specs.Expressions.{unary_of, binary_of}
 
 -- no operator of a chain is at the top

@@ -8,3 +8,9 @@ pub mod Objects
 pub mod Programs
 pub mod Scenes
 pub mod Statements
+pub mod Same
+pub mod Homes
+pub mod Resolved
+pub mod Laws
+pub mod Known
+pub mod Grammatical

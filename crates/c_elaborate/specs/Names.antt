@@ -3,9 +3,9 @@ use Rattle.std.specs.Prelude.{ℕ, ◌+◌, Bool, false, List, [], ◌∷◌, le
 use Rattle.c_token.specs.declared.ctype.CType.{CType}
 use Rattle.c_tree.specs.Tree.{ObjectTree}
 use Rattle.c_value.specs.Values.{int_type}
-use Rattle.core_program.specs.declared.expression.Cell.{Cell}
-use Rattle.core_program.specs.declared.expression.Scope.{Scope}
-use Rattle.core_program.specs.declared.expression.Scope.TheVariants as scope
+use Rattle.pieces.specs.declared.resolved.expression.Cell.{Cell}
+use Rattle.pieces.specs.declared.resolved.expression.Scope.{Scope}
+use Rattle.pieces.specs.declared.resolved.expression.Scope.TheVariants as scope
 use Rattle.c_elaborate.specs.declared.names.Known.{Known}
 use Rattle.c_elaborate.specs.declared.names.Binding.{Binding}
 use Rattle.c_elaborate.specs.declared.functions.Signature.{Signature}

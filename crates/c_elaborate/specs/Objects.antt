@@ -3,7 +3,7 @@ use Rattle.std.specs.Prelude.{ℕ, zero, suc, ◌+◌, List, [], ◌∷◌, ◌+
 use Rattle.c_tree.specs.Tree as tree
 use Rattle.c_tree.specs.Tree.{ObjectTree, StmtTree, ElseTree, FirstTree, StmtTrees}
 use Rattle.c_meaning.specs.Store.{lengths_in, declared_in, declared_first}
-use Rattle.core_program.specs.Core.{CoreObjectTree}
+use Rattle.pieces.specs.Resolved.Core.{CoreObjectTree}
 
 abbrev pub object_elaborated : ObjectTree → CoreObjectTree
 object_elaborated o = record { name = o.name; kind = o.kind; lengths = lengths_in o; constant = o.constant }

@@ -2,13 +2,13 @@
 use Rattle.std.specs.Prelude.{ℕ, ◌+◌, List, [], ◌∷◌, ◌++◌, length, map, take, Option, Some, None}
 use Rattle.c_tree.specs.Tree as tree
 use Rattle.c_tree.specs.Tree.{ObjectTree, StmtTrees, ParamTree, FunctionTree, ItemTree, ProgramTree}
-use Rattle.c_checked.specs.Limits.{file_objects}
+use Rattle.c_meaning.specs.Checks.Limits.{file_objects}
 use Rattle.c_meaning.specs.Store.{declared_in}
 use Rattle.c_meaning.specs.Run.{first_object, patterns}
-use Rattle.core_program.specs.declared.expression.Scope.TheVariants as scope
+use Rattle.pieces.specs.declared.resolved.expression.Scope.TheVariants as scope
 use Rattle.c_elaborate.specs.declared.names.Binding.{Binding}
 use Rattle.c_elaborate.specs.declared.functions.Signature.{Signature}
-use Rattle.core_program.specs.Core.{stmt_row, FileObjectTree, CoreFunctionTree, CoreProgramTree}
+use Rattle.pieces.specs.Resolved.Core.{stmt_row, FileObjectTree, CoreFunctionTree, CoreProgramTree}
 use Rattle.c_elaborate.specs.Names.{binding_of, cell_of}
 use Rattle.c_elaborate.specs.declared.blocks.Scene.{Scene}
 use Rattle.c_elaborate.specs.Objects.{object_elaborated, objects_within, from}

@@ -3,7 +3,7 @@ use Rattle.std.specs.Prelude.{ℕ, ◌+◌, ◌-◌, List, [], ◌∷◌, length
 use Rattle.c_token.specs.declared.ctype.CType.{CType}
 use Rattle.c_tree.specs.Tree.{ObjectTree}
 use Rattle.c_value.specs.Values.{int_type}
-use Rattle.core_program.specs.declared.expression.Scope.TheVariants as scope
+use Rattle.pieces.specs.declared.resolved.expression.Scope.TheVariants as scope
 use Rattle.c_elaborate.specs.declared.blocks.Scene.{Scene}
 use Rattle.c_elaborate.specs.declared.blocks.Mark.{Mark}
 use Rattle.c_elaborate.specs.declared.names.Binding.{Binding}

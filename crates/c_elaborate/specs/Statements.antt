@@ -11,8 +11,8 @@ use Rattle.c_meaning.specs.Store.{lengths_in, declared_by, declared_in, declared
 use Rattle.c_meaning.specs.Statement.{items_of}
 use Rattle.c_elaborate.specs.declared.names.Binding.{Binding}
 use Rattle.c_elaborate.specs.declared.functions.Signature.{Signature}
-use Rattle.core_program.specs.Core as core
-use Rattle.core_program.specs.Core.{CoreTree, CoreInitTree, CoreStmtTree, CoreElseTree, CoreStmtTrees, stmt_row, CoreObjectTree}
+use Rattle.pieces.specs.Resolved.Core as core
+use Rattle.pieces.specs.Resolved.Core.{CoreTree, CoreInitTree, CoreStmtTree, CoreElseTree, CoreStmtTrees, stmt_row, CoreObjectTree}
 use Rattle.c_elaborate.specs.declared.blocks.Scene.{Scene}
 use Rattle.c_elaborate.specs.Objects.{objects_of, else_objects, first_objects, from}
 use Rattle.c_elaborate.specs.Scenes.{opened, labelled_by, declared, all_declared}

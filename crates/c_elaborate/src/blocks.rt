@@ -3,7 +3,7 @@ ghost use Rattle.std.specs.Prelude.{◌≡◌, ◌-◌, ◌++◌, map, length, d
 ghost use Rattle.c_tree.specs.View.{object_of, stmt_of, stmts_of};
 ghost use Rattle.c_meaning.specs.Store.{lengths_in, declared_in};
 ghost use Rattle.c_meaning.specs.Store as store;
-ghost use Rattle.core_program.specs.CoreView.{core_object_of};
+ghost use Rattle.pieces.specs.Resolved.CoreView.{core_object_of};
 ghost use Rattle.c_elaborate.specs.Names.{binding_of};
 ghost use Rattle.c_elaborate.specs.Objects.{object_elaborated, from};
 
@@ -14,8 +14,8 @@ use c_token::ctype::CType;
 use c_tree::object::Object;
 use c_tree::statement::Stmt;
 use c_value::kind::INT;
-use core_program::expression::{Cell, Scope};
-use core_program::program::CoreObject;
+use pieces::resolved::expression::{Cell, Scope};
+use pieces::resolved::program::CoreObject;
 use std::alloc::{AllocError, Global};
 
 /// The names that are visible at a place of a function, the number of the object that is declared next, and the type of the labels of the innermost switch.
@@ -27,7 +27,7 @@ pub struct Scene {
 }
 
 /// Where a part of a function began that is a scope: how many names were visible, and the rest of the scene.
-#[derive(Clone, Copy, Debug, PartialEq, Eq)]
+#[derive(Clone, Copy, PartialEq, Eq)]
 pub struct Mark {
     pub names: usize,
     pub next: u32,

@@ -1,17 +1,17 @@
 //! Statements of the core program from their parts.
 ghost use Rattle.std.specs.Prelude.{◌≡◌, map, IfOk};
 ghost use Rattle.std.specs.Option.{option_map};
-ghost use Rattle.core_program.specs.Core as core;
-ghost use Rattle.core_program.specs.Core.{stmt_row};
-ghost use Rattle.core_program.specs.CoreView.{core_of, core_action_of, core_stmt_of, core_else_of, core_else_part};
+ghost use Rattle.pieces.specs.Resolved.Core as core;
+ghost use Rattle.pieces.specs.Resolved.Core.{stmt_row};
+ghost use Rattle.pieces.specs.Resolved.CoreView.{core_of, core_action_of, core_stmt_of, core_else_of, core_else_part};
 
-use core_program::expression::CoreExpr;
-use core_program::statement::{CoreAction, CoreElse, CoreStmt};
 use hls_base::place::Place;
+use pieces::resolved::expression::CoreExpr;
+use pieces::resolved::statement::{CoreAction, CoreElse, CoreStmt};
 use std::alloc::{AllocError, Global};
 
 /// Statements that are a scope, and the objects that they declare in it.
-#[derive(Debug, Drop)]
+#[derive(Drop)]
 pub struct Block {
     pub objects: Vec<u32>,
     pub body: Vec<CoreStmt>,

@@ -1,7 +1,7 @@
 //! Operators around an expression, which are put round it one after another, without recursion.
 ghost use Rattle.std.specs.Prelude.{◌≡◌, IfOk};
-ghost use Rattle.core_program.specs.Core as core;
-ghost use Rattle.core_program.specs.CoreView.{core_of, core_target_of};
+ghost use Rattle.pieces.specs.Resolved.Core as core;
+ghost use Rattle.pieces.specs.Resolved.CoreView.{core_of, core_target_of};
 ghost use Rattle.c_elaborate.specs.Chains as spec;
 ghost use Rattle.c_elaborate.specs.Expressions.{unary_of, binary_of};
 
@@ -9,12 +9,12 @@ use crate::kinds::kind_of;
 use c_token::ctype::CType;
 use c_tree::operator::{Binary, Unary};
 use c_value::operate::{binary_kind, unary_kind};
-use core_program::expression::{CoreExpr, CoreTarget};
 use hls_base::place::Place;
+use pieces::resolved::expression::{CoreExpr, CoreTarget};
 use std::alloc::{AllocError, Global};
 
 /// An operator with all but the operand that it goes on with: its only one, the left one, or the value that it assigns.
-#[derive(Debug, Drop)]
+#[derive(Drop)]
 pub enum Step {
     Unary {
         op: Unary,

@@ -1,16 +1,16 @@
 //! The core program of a program.
 ghost use Rattle.std.specs.Prelude.{◌≡◌, IfOk};
 ghost use Rattle.c_tree.specs.View.{program_of};
-ghost use Rattle.core_program.specs.CoreView.{core_program_of};
+ghost use Rattle.pieces.specs.Resolved.CoreView.{core_program_of};
 ghost use Rattle.c_elaborate.specs.Programs.{program_elaborated};
 
 use crate::blocks::Scene;
 use crate::file::{file_names, file_objects};
 use crate::functions::{all_functions, first_items, signatures};
 use crate::numbers::number_behind;
-use c_checked::checked::Checked;
+use c_meaning::checks::Checked;
 use c_meaning::file_scope::declarations;
-use core_program::program::CoreProgram;
+use pieces::resolved::program::CoreProgram;
 use std::alloc::{AllocError, Global};
 
 /// The core program of a checked program.

@@ -3,9 +3,9 @@ ghost use Rattle.std.specs.Prelude.{◌≡◌, map, true, IfOk};
 ghost use Rattle.std.specs.Option.{option_map};
 ghost use Rattle.c_tree.specs.Tree as tree;
 ghost use Rattle.c_tree.specs.View.{tree_of, trees_of, target_of, action_of};
-ghost use Rattle.core_program.specs.Core as core;
-ghost use Rattle.core_program.specs.Core.{row, argument_row};
-ghost use Rattle.core_program.specs.CoreView.{core_of, core_target_of, core_argument_of, core_action_of};
+ghost use Rattle.pieces.specs.Resolved.Core as core;
+ghost use Rattle.pieces.specs.Resolved.Core.{row, argument_row};
+ghost use Rattle.pieces.specs.Resolved.CoreView.{core_of, core_target_of, core_argument_of, core_action_of};
 ghost use Rattle.c_elaborate.specs.Names as known;
 ghost use Rattle.c_elaborate.specs.Expressions.{elaborated, target_elaborated, all_elaborated, arguments_elaborated, argument_elaborated, action_elaborated, choice_of};
 ghost use Rattle.c_elaborate.specs.Expressions as spec;
@@ -18,10 +18,10 @@ use crate::names::{Scopes, object_named};
 use c_tree::action::Action;
 use c_tree::expression::{Expr, Target};
 use c_value::kind::common;
-use core_program::expression::{Argument, CoreExpr, CoreTarget};
-use core_program::statement::CoreAction;
 use hls_base::place::Place;
 use hls_base::text::Text;
+use pieces::resolved::expression::{Argument, CoreExpr, CoreTarget};
+use pieces::resolved::statement::CoreAction;
 use std::alloc::{AllocError, Global};
 
 /// An expression. Operators of one chain are gone through in a loop, so that the depth of the recursion is bounded by how deep the source nests.

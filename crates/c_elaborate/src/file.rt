@@ -2,7 +2,7 @@
 ghost use Rattle.std.specs.Prelude.{◌≡◌, [], map, IfOk};
 ghost use Rattle.c_tree.specs.View.{object_of};
 ghost use Rattle.c_meaning.specs.Declarations.{objects_of};
-ghost use Rattle.core_program.specs.CoreView.{file_object_of};
+ghost use Rattle.pieces.specs.Resolved.CoreView.{file_object_of};
 ghost use Rattle.c_elaborate.specs.Programs as spec;
 
 use crate::blocks::{binding, core_object};
@@ -11,8 +11,8 @@ use crate::numbers::number_behind;
 use c_meaning::contents::patterns;
 use c_meaning::file_scope::first_object;
 use c_tree::object::Object;
-use core_program::expression::{Cell, Scope};
-use core_program::program::FileObject;
+use pieces::resolved::expression::{Cell, Scope};
+use pieces::resolved::program::FileObject;
 use std::alloc::{AllocError, Global};
 
 fn file_object(alloc: Global, o: &Object) -> Result<FileObject, AllocError>

@@ -1,7 +1,7 @@
 //! Functions with a body, and their numbers.
 ghost use Rattle.std.specs.Prelude.{◌≡◌, ◌++◌, map, take, length, IfOk, OnOk, bytes_eq};
 ghost use Rattle.c_tree.specs.View.{param_of, function_of, item_of, stmts_of};
-ghost use Rattle.core_program.specs.CoreView.{core_object_of, core_function_of};
+ghost use Rattle.pieces.specs.Resolved.CoreView.{core_object_of, core_function_of};
 ghost use Rattle.c_elaborate.specs.Names.{function_number, result_of};
 ghost use Rattle.c_elaborate.specs.Objects.{object_elaborated};
 ghost use Rattle.c_elaborate.specs.Scenes.{all_declared};
@@ -15,19 +15,19 @@ use c_token::ctype::CType;
 use c_tree::function::{Function, Param};
 use c_tree::program::Item;
 use c_tree::statement::Stmt;
-use core_program::program::{CoreFunction, CoreObject};
 use hls_base::text::Text;
+use pieces::resolved::program::{CoreFunction, CoreObject};
 use std::alloc::{AllocError, Global};
 
 /// What calls need of a function with a body.
-#[derive(Debug, Drop)]
+#[derive(Drop)]
 pub struct Signature {
     pub name: Text,
     pub result: Option<CType>,
 }
 
 /// A function that is called.
-#[derive(Clone, Copy, Debug, PartialEq, Eq)]
+#[derive(Clone, Copy, PartialEq, Eq)]
 pub struct Called {
     pub number: u32,
     pub result: Option<CType>,

@@ -6,7 +6,7 @@ ghost use Rattle.c_tree.specs.View.{init_of, object_of};
 ghost use Rattle.c_meaning.specs.Limits.{IsWithinLimits};
 ghost use Rattle.c_meaning.specs.Statement.{items_of};
 ghost use Rattle.c_meaning.specs.Store.{lengths_in};
-ghost use Rattle.core_program.specs.CoreView.{core_of, core_init_of};
+ghost use Rattle.pieces.specs.Resolved.CoreView.{core_of, core_init_of};
 ghost use Rattle.c_elaborate.specs.Expressions.{elaborated};
 ghost use Rattle.c_elaborate.specs.Statements.{init_elaborated};
 ghost use Rattle.c_elaborate.specs.Statements as spec;
@@ -19,8 +19,8 @@ use c_meaning::lengths::lengths;
 use c_meaning::object::element_count;
 use c_tree::expression::Expr;
 use c_tree::object::{Init, Object};
-use core_program::expression::CoreExpr;
-use core_program::statement::CoreInit;
+use pieces::resolved::expression::CoreExpr;
+use pieces::resolved::statement::CoreInit;
 use std::alloc::{AllocError, Global};
 
 fn add_missing(items: &mut Vec<Option<&Expr>>, count: usize) -> Result<(), AllocError>

@@ -1,11 +1,11 @@
 //! The types of expressions.
 ghost use Rattle.std.specs.Prelude.{◌≡◌};
-ghost use Rattle.core_program.specs.CoreView.{core_of};
+ghost use Rattle.pieces.specs.Resolved.CoreView.{core_of};
 ghost use Rattle.c_elaborate.specs.Expressions.{kind_of as spec_kind_of};
 
 use c_token::ctype::CType;
 use c_value::kind::INT;
-use core_program::expression::CoreExpr;
+use pieces::resolved::expression::CoreExpr;
 
 /// The type of an expression; int of a void call.
 pub fn kind_of(e: &CoreExpr) -> CType

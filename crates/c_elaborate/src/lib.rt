@@ -1,10 +1,11 @@
-//! From a checked program of C to the core program: names to numbers, and a type on each expression.
+//! From a checked program of C to the core program, which runs as the program does.
 #![tactic(auto)]
 
 mod blocks;
 mod build;
 mod chains;
 pub mod elaborate;
+pub mod elaborate_runs;
 mod expressions;
 mod file;
 mod functions;

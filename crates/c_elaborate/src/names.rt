@@ -6,14 +6,14 @@ ghost use Rattle.c_elaborate.specs.Entries.{entry_in, index_in};
 
 use c_token::ctype::CType;
 use c_value::kind::INT;
-use core_program::expression::{Cell, Scope};
 use hls_base::text::Text;
 use indexmap::IndexMap;
+use pieces::resolved::expression::{Cell, Scope};
 use std::alloc::{AllocError, Global};
 use std::marker::Model;
 
 /// An object that a name stands for.
-#[derive(Clone, Copy, Debug, PartialEq, Eq)]
+#[derive(Clone, Copy, PartialEq, Eq)]
 pub struct Known {
     pub cell: Cell,
     pub kind: CType,
@@ -21,14 +21,14 @@ pub struct Known {
 }
 
 /// A name that is declared.
-#[derive(Debug, Drop)]
+#[derive(Drop)]
 pub struct Binding {
     pub name: Text,
     pub object: Known,
 }
 
 /// A declaration, and the index of the earlier one of the same name that it hides.
-#[derive(Debug, Drop)]
+#[derive(Drop)]
 struct Layer {
     binding: Binding,
     hidden: Option<usize>,

@@ -4,7 +4,7 @@ ghost use Rattle.std.specs.Option.{option_map};
 ghost use Rattle.c_tree.specs.View.{tree_of, object_of, stmt_of, stmts_of, else_of, else_part, first_part};
 ghost use Rattle.c_value.specs.Constant.{constant_value as spec_constant_value};
 ghost use Rattle.c_meaning.specs.Store.{declared_in, declared_first};
-ghost use Rattle.core_program.specs.CoreView.{core_object_of, core_stmt_of, core_else_of, core_else_part};
+ghost use Rattle.pieces.specs.Resolved.CoreView.{core_object_of, core_stmt_of, core_else_of, core_else_part};
 ghost use Rattle.c_elaborate.specs.Objects.{object_elaborated, objects_of, else_objects, first_objects, objects_within, from};
 ghost use Rattle.c_elaborate.specs.Scenes.{opened, labelled_by, all_declared};
 ghost use Rattle.c_elaborate.specs.Statements.{value_pattern, label_pattern};
@@ -23,8 +23,8 @@ use c_tree::statement::{Else, Stmt};
 use c_value::constant::{Constant, constant_value};
 use c_value::convert::{convert, pattern};
 use c_value::kind::promoted;
-use core_program::program::CoreObject;
-use core_program::statement::{CoreElse, CoreStmt};
+use pieces::resolved::program::CoreObject;
+use pieces::resolved::statement::{CoreElse, CoreStmt};
 use std::alloc::{AllocError, Global};
 
 /// The bit pattern of a label's value in this type, 0 where it has none. The labels of a program without faults have values.

@@ -5,16 +5,16 @@ use lib.Dec.{eqb-suc-zero}
 use Rattle.hls_base.specs.declared.place.Place.{Place}
 use Rattle.hls_base.specs.declared.point.PointKind.TheVariants as point
 use Rattle.c_tree.specs.declared.operator.Binary.{Binary}
-use Rattle.core_program.specs.declared.expression.CoreExpr.{CoreExpr}
-use Rattle.core_program.specs.declared.expression.CoreExpr.TheVariants as e
-use Rattle.core_program.specs.declared.expression.Argument.{Argument}
-use Rattle.core_program.specs.declared.expression.Argument.TheOpen.{CoreExpr-F}
-use Rattle.core_program.specs.declared.expression.Argument.TheFolds.{fold-roll-CoreExpr}
-use Rattle.core_program.specs.declared.expression.Argument.TheViews.{out-CoreExpr, roll-CoreExpr, roll-out-CoreExpr}
-use Rattle.core_program.specs.declared.expression.CoreTarget.{CoreTarget}
-use Rattle.core_program.specs.declared.statement.CoreAction.{CoreAction}
-use Rattle.core_program.specs.Core.{CoreTree, CoreTargetTree, ArgumentTree}
-use Rattle.core_program.specs.CoreView.{core_of, core_step, argument_step, target_step, core_action_of}
+use Rattle.pieces.specs.declared.resolved.expression.CoreExpr.{CoreExpr}
+use Rattle.pieces.specs.declared.resolved.expression.CoreExpr.TheVariants as e
+use Rattle.pieces.specs.declared.resolved.expression.Argument.{Argument}
+use Rattle.pieces.specs.declared.resolved.expression.Argument.TheOpen.{CoreExpr-F}
+use Rattle.pieces.specs.declared.resolved.expression.Argument.TheFolds.{fold-roll-CoreExpr}
+use Rattle.pieces.specs.declared.resolved.expression.Argument.TheViews.{out-CoreExpr, roll-CoreExpr, roll-out-CoreExpr}
+use Rattle.pieces.specs.declared.resolved.expression.CoreTarget.{CoreTarget}
+use Rattle.pieces.specs.declared.resolved.statement.CoreAction.{CoreAction}
+use Rattle.pieces.specs.Resolved.Core.{CoreTree, CoreTargetTree, ArgumentTree}
+use Rattle.pieces.specs.Resolved.CoreView.{core_of, core_step, argument_step, target_step, core_action_of}
 use Rattle.piece_making.specs.Making.{State, gives, then_}
 use Rattle.piece_making.specs.Calls.{Call}
 use Rattle.c_expand.specs.Expressions.{Callee}

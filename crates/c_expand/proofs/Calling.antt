@@ -5,9 +5,9 @@ use Rattle.std.specs.Prelude.{slice_get}
 use Rattle.hls_base.specs.declared.place.Place.{Place}
 use Rattle.hls_base.specs.declared.point.Point.{Point}
 use Rattle.hls_base.specs.declared.number.VarId.{VarId}
-use Rattle.core_program.specs.declared.statement.CoreStmt.{CoreStmt}
-use Rattle.core_program.specs.Core.{CoreFunctionTree, stmt_row}
-use Rattle.core_program.specs.CoreView.{core_stmt_of, core_function_of}
+use Rattle.pieces.specs.declared.resolved.statement.CoreStmt.{CoreStmt}
+use Rattle.pieces.specs.Resolved.Core.{CoreFunctionTree, stmt_row}
+use Rattle.pieces.specs.Resolved.CoreView.{core_stmt_of, core_function_of}
 use Rattle.pieces.specs.declared.piece.CallId.{CallId}
 use Rattle.pieces.specs.Trees.{PieceTree}
 use Rattle.piece_making.specs.declared.frame.Context.{Context}

@@ -6,8 +6,8 @@ use Rattle.piece_making.specs.Calls.{Call}
 use Rattle.piece_making.specs.Stocks.{Stock, state_of, IsMade, IsTooHeavy}
 use Rattle.hls_base.specs.declared.refusal.Refusal.{Refusal}
 use Rattle.c_expand.specs.declared.operators.Step.{Step}
-use Rattle.core_program.specs.Core as core
-use Rattle.core_program.specs.Core.{CoreTree}
+use Rattle.pieces.specs.Resolved.Core as core
+use Rattle.pieces.specs.Resolved.Core.{CoreTree}
 use Rattle.piece_making.proofs.Parts.{made_behind, heavy_at_once, heavy_behind}
 use Rattle.c_expand.specs.Expressions.{Callee, expression, discarded, may_be_unused}
 use Rattle.c_expand.specs.Chains.{link, links}

@@ -4,16 +4,16 @@ use Rattle.hls_base.specs.declared.place.Place.{Place}
 use Rattle.c_token.specs.declared.ctype.CType.{CType}
 use Rattle.c_tree.specs.declared.operator.Unary.{Unary}
 use Rattle.c_tree.specs.declared.operator.Binary.{Binary}
-use Rattle.core_program.specs.declared.expression.Cell.{Cell}
-use Rattle.core_program.specs.declared.expression.Argument.{Argument}
-use Rattle.core_program.specs.declared.expression.CoreTarget.{CoreTarget}
-use Rattle.core_program.specs.declared.expression.CoreExpr.{CoreExpr}
-use Rattle.core_program.specs.declared.expression.CoreExpr.TheVariants as v
-use Rattle.core_program.specs.declared.expression.Argument.TheOpen.{CoreExpr-F}
-use Rattle.core_program.specs.declared.expression.Argument.TheFolds.{fold-roll-CoreExpr, fold_out-CoreTarget}
-use Rattle.core_program.specs.Core as core
-use Rattle.core_program.specs.Core.{CoreTree, CoreTargetTree, ArgumentTree, row, argument_row}
-use Rattle.core_program.specs.CoreView.{core_of, core_argument_of, core_target_of, argument_step, core_step, target_step}
+use Rattle.pieces.specs.declared.resolved.expression.Cell.{Cell}
+use Rattle.pieces.specs.declared.resolved.expression.Argument.{Argument}
+use Rattle.pieces.specs.declared.resolved.expression.CoreTarget.{CoreTarget}
+use Rattle.pieces.specs.declared.resolved.expression.CoreExpr.{CoreExpr}
+use Rattle.pieces.specs.declared.resolved.expression.CoreExpr.TheVariants as v
+use Rattle.pieces.specs.declared.resolved.expression.Argument.TheOpen.{CoreExpr-F}
+use Rattle.pieces.specs.declared.resolved.expression.Argument.TheFolds.{fold-roll-CoreExpr, fold_out-CoreTarget}
+use Rattle.pieces.specs.Resolved.Core as core
+use Rattle.pieces.specs.Resolved.Core.{CoreTree, CoreTargetTree, ArgumentTree, row, argument_row}
+use Rattle.pieces.specs.Resolved.CoreView.{core_of, core_argument_of, core_target_of, argument_step, core_step, target_step}
 
 pub element_core : (array : Cell) (subscripts : Vec CoreExpr Global) (kind : CType) (at : Place) → core_of (v.Element array subscripts kind at) ≡ core.element array (row (map core_of subscripts.items)) kind at
 element_core array subscripts kind at = ap core_of (sym (v.rolls-Element array subscripts kind at)) ∙ fold-roll-CoreExpr ArgumentTree CoreTree CoreTargetTree argument_step core_step target_step (CoreExpr-F.Element array subscripts kind at)

@@ -3,11 +3,11 @@ use Rattle.std.proofs.Common.{◌≡◌, ◌⊎◌, inl, inr, ℕ, List, Option,
 use Rattle.std.specs.Prelude.{slice_get}
 use Rattle.hls_base.specs.declared.number.VarId.{VarId}
 use Rattle.hls_base.specs.declared.number.ArrayId.{ArrayId}
-use Rattle.core_program.specs.declared.expression.CoreExpr.{CoreExpr}
-use Rattle.core_program.specs.declared.statement.CoreInit.{CoreInit}
-use Rattle.core_program.specs.declared.statement.CoreInit.TheVariants as i
-use Rattle.core_program.specs.Core.{CoreInitTree, CoreObjectTree}
-use Rattle.core_program.specs.CoreView.{core_init_of}
+use Rattle.pieces.specs.declared.resolved.expression.CoreExpr.{CoreExpr}
+use Rattle.pieces.specs.declared.resolved.statement.CoreInit.{CoreInit}
+use Rattle.pieces.specs.declared.resolved.statement.CoreInit.TheVariants as i
+use Rattle.pieces.specs.Resolved.Core.{CoreInitTree, CoreObjectTree}
+use Rattle.pieces.specs.Resolved.CoreView.{core_init_of}
 use Rattle.piece_making.specs.declared.work.Slot.{Slot}
 use Rattle.piece_making.specs.declared.frame.Home.{Home}
 use Rattle.piece_making.specs.declared.frame.Home.TheVariants as home

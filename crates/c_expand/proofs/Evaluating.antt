@@ -4,12 +4,12 @@ use Rattle.std.proofs.Common.{◌≡◌, Vec, Global, Option, List, [], map, ap,
 use Rattle.hls_base.specs.declared.place.Place.{Place}
 use Rattle.hls_base.specs.declared.refusal.Refusal.{Refusal}
 use Rattle.c_tree.specs.declared.operator.Binary.{Binary}
-use Rattle.core_program.specs.declared.expression.CoreExpr.{CoreExpr}
-use Rattle.core_program.specs.declared.expression.CoreTarget.{CoreTarget}
+use Rattle.pieces.specs.declared.resolved.expression.CoreExpr.{CoreExpr}
+use Rattle.pieces.specs.declared.resolved.expression.CoreTarget.{CoreTarget}
 use Rattle.c_token.specs.declared.ctype.CType.{CType}
-use Rattle.core_program.specs.Core as core
-use Rattle.core_program.specs.Core.{CoreTree, CoreTargetTree, row}
-use Rattle.core_program.specs.CoreView.{core_of, core_target_of}
+use Rattle.pieces.specs.Resolved.Core as core
+use Rattle.pieces.specs.Resolved.Core.{CoreTree, CoreTargetTree, row}
+use Rattle.pieces.specs.Resolved.CoreView.{core_of, core_target_of}
 use Rattle.pieces.specs.declared.pure_expr.Pure.{Pure}
 use Rattle.pieces.specs.View.{pures_of}
 use Rattle.pieces.specs.Trees as tree

@@ -9,10 +9,10 @@ use Rattle.std.specs.Prelude.{slice_get}
 use Rattle.hls_base.specs.declared.refusal.Refusal.{Refusal}
 use Rattle.hls_base.specs.declared.number.Kept.{Kept}
 use Rattle.hls_base.specs.declared.number.VarId.{VarId}
-use Rattle.core_program.specs.declared.program.CoreObject.{CoreObject}
-use Rattle.core_program.specs.declared.program.FileObject.{FileObject}
-use Rattle.core_program.specs.Core.{CoreObjectTree}
-use Rattle.core_program.specs.CoreView.{core_object_of, file_object_of}
+use Rattle.pieces.specs.declared.resolved.program.CoreObject.{CoreObject}
+use Rattle.pieces.specs.declared.resolved.program.FileObject.{FileObject}
+use Rattle.pieces.specs.Resolved.Core.{CoreObjectTree}
+use Rattle.pieces.specs.Resolved.CoreView.{core_object_of, file_object_of}
 use Rattle.piece_making.specs.declared.frame.Home.{Home}
 use Rattle.piece_making.specs.Making.{State, Part, gives, then_}
 use Rattle.piece_making.specs.Objects.{local}

@@ -5,7 +5,7 @@ use Rattle.hls_base.specs.declared.refusal.Refusal.{Refusal}
 use Rattle.hls_base.specs.declared.number.VarId.{VarId}
 use Rattle.hls_base.specs.declared.number.Kept.{Kept}
 use Rattle.c_token.specs.declared.ctype.CType.{CType}
-use Rattle.core_program.specs.Core.{CoreFunctionTree, CoreProgramTree}
+use Rattle.pieces.specs.Resolved.Core.{CoreFunctionTree, CoreProgramTree}
 use Rattle.pieces.specs.Trees.{PieceTrees, piece_row}
 use Rattle.pieces.specs.Program.{ExpandedTree, ArrayTree}
 use Rattle.piece_making.specs.Making.{State, Part}

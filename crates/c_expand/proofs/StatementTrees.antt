@@ -2,21 +2,21 @@
 use Rattle.std.proofs.Common.{◌≡◌, ℕ, List, Option, Some, None, map, Box, Vec, Global, sym, ap, ◌∙◌}
 use Rattle.std.specs.Option.{option_map}
 use Rattle.hls_base.specs.declared.place.Place.{Place}
-use Rattle.core_program.specs.declared.expression.Argument.TheVariants as a
-use Rattle.core_program.specs.declared.expression.Argument.TheOpen.{Argument-F}
-use Rattle.core_program.specs.declared.expression.Argument.TheFolds.{fold-roll-Argument}
-use Rattle.core_program.specs.declared.expression.Cell.{Cell}
-use Rattle.core_program.specs.declared.expression.CoreExpr.{CoreExpr}
-use Rattle.core_program.specs.declared.statement.CoreAction.{CoreAction}
-use Rattle.core_program.specs.declared.statement.CoreElse.{CoreElse}
-use Rattle.core_program.specs.declared.statement.CoreInit.{CoreInit}
-use Rattle.core_program.specs.declared.statement.CoreStmt.{CoreStmt}
-use Rattle.core_program.specs.declared.statement.CoreStmt.TheVariants as s
-use Rattle.core_program.specs.declared.statement.CoreStmt.TheOpen.{CoreStmt-F}
-use Rattle.core_program.specs.declared.statement.CoreStmt.TheFolds.{fold-roll-CoreStmt, fold_out-CoreElse}
-use Rattle.core_program.specs.Core as core
-use Rattle.core_program.specs.Core.{CoreTree, CoreTargetTree, ArgumentTree, CoreStmtTree, CoreElseTree, stmt_row}
-use Rattle.core_program.specs.CoreView.{core_of, core_argument_of, core_step, argument_step, target_step, core_action_of, core_init_of, core_stmt_of, core_else_of, core_else_part, core_stmt_step, core_else_step}
+use Rattle.pieces.specs.declared.resolved.expression.Argument.TheVariants as a
+use Rattle.pieces.specs.declared.resolved.expression.Argument.TheOpen.{Argument-F}
+use Rattle.pieces.specs.declared.resolved.expression.Argument.TheFolds.{fold-roll-Argument}
+use Rattle.pieces.specs.declared.resolved.expression.Cell.{Cell}
+use Rattle.pieces.specs.declared.resolved.expression.CoreExpr.{CoreExpr}
+use Rattle.pieces.specs.declared.resolved.statement.CoreAction.{CoreAction}
+use Rattle.pieces.specs.declared.resolved.statement.CoreElse.{CoreElse}
+use Rattle.pieces.specs.declared.resolved.statement.CoreInit.{CoreInit}
+use Rattle.pieces.specs.declared.resolved.statement.CoreStmt.{CoreStmt}
+use Rattle.pieces.specs.declared.resolved.statement.CoreStmt.TheVariants as s
+use Rattle.pieces.specs.declared.resolved.statement.CoreStmt.TheOpen.{CoreStmt-F}
+use Rattle.pieces.specs.declared.resolved.statement.CoreStmt.TheFolds.{fold-roll-CoreStmt, fold_out-CoreElse}
+use Rattle.pieces.specs.Resolved.Core as core
+use Rattle.pieces.specs.Resolved.Core.{CoreTree, CoreTargetTree, ArgumentTree, CoreStmtTree, CoreElseTree, stmt_row}
+use Rattle.pieces.specs.Resolved.CoreView.{core_of, core_argument_of, core_step, argument_step, target_step, core_action_of, core_init_of, core_stmt_of, core_else_of, core_else_part, core_stmt_step, core_else_step}
 
 pub block_tree : (objects : Vec ℕ Global) (body : Vec CoreStmt Global) (xs : List CoreStmt) → xs ≡ body.items
     → core_stmt_of (s.Block objects body) ≡ core.block objects.items (stmt_row (map core_stmt_of xs))

@@ -5,12 +5,12 @@ use lib.Dec.{eqb-suc-zero, eqb-suc-suc}
 use Rattle.std.specs.Option.{option_map}
 use Rattle.hls_base.specs.declared.refusal.Refusal.{Refusal}
 use Rattle.hls_base.specs.declared.number.ArrayId.{ArrayId}
-use Rattle.core_program.specs.declared.expression.CoreExpr.{CoreExpr}
-use Rattle.core_program.specs.declared.expression.Argument.{Argument}
-use Rattle.core_program.specs.declared.statement.CoreStmt.{CoreStmt}
-use Rattle.core_program.specs.declared.statement.CoreAction.{CoreAction}
-use Rattle.core_program.specs.Core.{row, argument_row, stmt_row}
-use Rattle.core_program.specs.CoreView.{core_of, core_argument_of, core_stmt_of, core_action_of}
+use Rattle.pieces.specs.declared.resolved.expression.CoreExpr.{CoreExpr}
+use Rattle.pieces.specs.declared.resolved.expression.Argument.{Argument}
+use Rattle.pieces.specs.declared.resolved.statement.CoreStmt.{CoreStmt}
+use Rattle.pieces.specs.declared.resolved.statement.CoreAction.{CoreAction}
+use Rattle.pieces.specs.Resolved.Core.{row, argument_row, stmt_row}
+use Rattle.pieces.specs.Resolved.CoreView.{core_of, core_argument_of, core_stmt_of, core_action_of}
 use Rattle.pieces.specs.Trees as tree
 use Rattle.pieces.specs.Trees.{PureTree, PureTrees}
 use Rattle.piece_making.specs.declared.effects.Effects.{Effects}

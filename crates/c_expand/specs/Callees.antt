@@ -1,7 +1,7 @@
 -- The calls that may be opened in the call that is expanded, and what is known of it.
 use Rattle.std.specs.Prelude.{ℕ, List, map}
-use Rattle.core_program.specs.Core.{CoreFunctionTree}
-use Rattle.core_program.specs.CoreView.{core_function_of}
+use Rattle.pieces.specs.Resolved.Core.{CoreFunctionTree}
+use Rattle.pieces.specs.Resolved.CoreView.{core_function_of}
 use Rattle.pieces.specs.View.{pure_of}
 use Rattle.piece_making.specs.declared.frame.Context.{Context}
 use Rattle.piece_making.specs.Calls.{Call, call_of}

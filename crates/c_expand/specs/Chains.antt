@@ -1,6 +1,6 @@
 -- An expression as its innermost operand and the operators behind it.
 use Rattle.std.specs.Prelude.{List, [], ◌∷◌}
-use Rattle.core_program.specs.CoreView.{core_of}
+use Rattle.pieces.specs.Resolved.CoreView.{core_of}
 use Rattle.pieces.specs.Trees as tree
 use Rattle.pieces.specs.Trees.{PureTree}
 use Rattle.piece_making.specs.Making.{State, Part, gives, then_}

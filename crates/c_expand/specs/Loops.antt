@@ -2,9 +2,9 @@
 use Rattle.std.specs.Prelude.{Bool, false, List, map, Option, Some, None}
 use Rattle.std.specs.Borrow.{Bor}
 use Rattle.hls_base.specs.declared.place.Place.{Place}
-use Rattle.core_program.specs.declared.expression.CoreExpr.{CoreExpr}
-use Rattle.core_program.specs.Core.{CoreTree, CoreStmtTree, CoreActionTree}
-use Rattle.core_program.specs.CoreView.{core_of, core_stmt_of, core_action_of}
+use Rattle.pieces.specs.declared.resolved.expression.CoreExpr.{CoreExpr}
+use Rattle.pieces.specs.Resolved.Core.{CoreTree, CoreStmtTree, CoreActionTree}
+use Rattle.pieces.specs.Resolved.CoreView.{core_of, core_stmt_of, core_action_of}
 use Rattle.piece_making.specs.Making.{State, Part}
 use Rattle.piece_making.specs.Calls.{Call}
 use Rattle.c_expand.specs.declared.statements.Loop.{Loop}

@@ -2,8 +2,8 @@
 ghost use Rattle.std.specs.Prelude.{◌≡◌, ◌∷◌, ◌++◌, IfOk, map, [], drop, slice_get, Some, true};
 ghost use Rattle.std.specs.Option.{option_map};
 ghost use Rattle.hls_base.specs.Refusals.{IfRefused};
-ghost use Rattle.core_program.specs.Core.{argument_row};
-ghost use Rattle.core_program.specs.CoreView.{core_argument_of, core_function_of, core_object_of};
+ghost use Rattle.pieces.specs.Resolved.Core.{argument_row};
+ghost use Rattle.pieces.specs.Resolved.CoreView.{core_argument_of, core_function_of, core_object_of};
 ghost use Rattle.pieces.specs.View.{pure_of, piece_of};
 ghost use Rattle.piece_making.specs.Calls.{call_of, point_in};
 ghost use Rattle.piece_making.specs.Stocks.{IsMade, IsTooHeavy, state_of, stock};
@@ -15,8 +15,6 @@ use crate::expressions::expression;
 use crate::here::{Here, deeper, one_more_open};
 use crate::statements::block;
 use c_token::ctype::CType;
-use core_program::expression::Argument;
-use core_program::program::{CoreFunction, CoreObject, CoreProgram};
 use hls_base::number::{ArrayId, VarId};
 use hls_base::place::{Path, Place};
 use hls_base::point::{Point, PointKind};
@@ -29,6 +27,8 @@ use piece_making::saving::save;
 use piece_making::work::Work;
 use pieces::piece::{CallId, Piece};
 use pieces::pure_expr::Pure;
+use pieces::resolved::expression::Argument;
+use pieces::resolved::program::{CoreFunction, CoreObject, CoreProgram};
 use std::alloc::{AllocError, Global};
 
 /// What is given for a parameter: a value, or an array of the caller.

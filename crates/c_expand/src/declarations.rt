@@ -3,7 +3,7 @@ ghost use Rattle.std.specs.Prelude.{◌≡◌, ◌≤◌, IfOk, map};
 ghost use Rattle.std.specs.Option.{option_map};
 ghost use Rattle.hls_base.specs.Refusals.{IfRefused};
 ghost use Rattle.hls_base.specs.ArrayAddress.{element_count};
-ghost use Rattle.core_program.specs.CoreView.{core_of, core_init_of};
+ghost use Rattle.pieces.specs.Resolved.CoreView.{core_of, core_init_of};
 ghost use Rattle.pieces.specs.View.{pure_of, pures_of};
 ghost use Rattle.piece_making.specs.Stocks.{IsMade, IsTooHeavy, state_of, stock};
 ghost use Rattle.c_expand.specs.Callees.{callee_of, call_at};
@@ -12,8 +12,6 @@ ghost use Rattle.c_expand.specs.Statements.{declare, scalar_declared, initialise
 use crate::expressions::expression;
 use crate::here::{Here, deeper};
 use c_value::kind::INT;
-use core_program::expression::CoreExpr;
-use core_program::statement::CoreInit;
 use hls_base::number::{ArrayId, VarId};
 use hls_base::refusal::{Fail, impossible};
 use piece_making::build::bit;
@@ -21,6 +19,8 @@ use piece_making::frame::Home;
 use piece_making::objects::local_array;
 use piece_making::work::Work;
 use pieces::pure_expr::Pure;
+use pieces::resolved::expression::CoreExpr;
+use pieces::resolved::statement::CoreInit;
 use std::alloc::{AllocError, Global};
 
 /// A declaration that is reached.

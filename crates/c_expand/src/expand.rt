@@ -1,7 +1,7 @@
 //! The expansion of a program.
 ghost use Rattle.std.specs.Prelude.{◌≡◌, ◌≤◌, IfOk, map, [], take};
 ghost use Rattle.hls_base.specs.Refusals.{IfRefused};
-ghost use Rattle.core_program.specs.CoreView.{core_object_of, file_object_of, core_function_of, core_program_of};
+ghost use Rattle.pieces.specs.Resolved.CoreView.{core_object_of, file_object_of, core_function_of, core_program_of};
 ghost use Rattle.pieces.specs.Program.{expanded_of};
 ghost use Rattle.piece_making.specs.Stocks.{IsMade, IsTooHeavy, state_of, stock};
 ghost use Rattle.c_expand.specs.Expansion.{IsOverweight, expansion, expanded_weight, kept_scalars, kept_scalar, is_kept, file_homes, file_home, kept_behind, top_parameters, top_parameter, variables_of, top_call, top_run};
@@ -10,7 +10,6 @@ ghost use Rattle.c_expand.specs.Outlines.{outline_of};
 
 use crate::calls::{add_locals, function_at, run_through};
 use crate::here::Here;
-use core_program::program::{CoreFunction, CoreObject, CoreProgram, FileObject};
 use hls_base::number::{Kept, VarId};
 use hls_base::place::Path;
 use hls_base::refusal::{Fail, impossible};
@@ -18,6 +17,7 @@ use piece_making::frame::{Context, Frame, Home};
 use piece_making::objects::{file_array, first_value, host_array};
 use piece_making::work::Work;
 use pieces::expanded::Expanded;
+use pieces::resolved::program::{CoreFunction, CoreObject, CoreProgram, FileObject};
 use std::alloc::{AllocError, Global};
 
 /// The pieces of a program. It is refused where they weigh too much.

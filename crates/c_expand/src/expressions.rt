@@ -2,9 +2,9 @@
 ghost use Rattle.std.specs.Prelude.{◌≡◌, IfOk, map, []};
 ghost use Rattle.std.specs.Option.{option_map};
 ghost use Rattle.hls_base.specs.Refusals.{IfRefused};
-ghost use Rattle.core_program.specs.Core as core;
-ghost use Rattle.core_program.specs.Core.{row};
-ghost use Rattle.core_program.specs.CoreView.{core_of, core_target_of};
+ghost use Rattle.pieces.specs.Resolved.Core as core;
+ghost use Rattle.pieces.specs.Resolved.Core.{row};
+ghost use Rattle.pieces.specs.Resolved.CoreView.{core_of, core_target_of};
 ghost use Rattle.pieces.specs.View.{pure_of};
 ghost use Rattle.piece_making.specs.Acting.{no_effects, effects};
 ghost use Rattle.piece_making.specs.Assigning.{change_of, step};
@@ -18,7 +18,6 @@ use crate::here::{Here, deeper};
 use crate::operators::{Step, chosen, linked};
 use c_token::ctype::CType;
 use c_tree::operator::Binary;
-use core_program::expression::{Cell, CoreExpr, CoreTarget};
 use hls_base::place::Place;
 use hls_base::refusal::{Fail, impossible};
 use piece_making::assignments::{Change, bumped};
@@ -27,6 +26,7 @@ use piece_making::effects::{Effects, NO_EFFECTS, effects_of, effects_of_all};
 use piece_making::saving::save;
 use piece_making::work::Work;
 use pieces::pure_expr::Pure;
+use pieces::resolved::expression::{Cell, CoreExpr, CoreTarget};
 
 /// The value of an expression, behind the pieces that it needs. Operators are gone through in a loop, so that the depth of the recursion is bounded by how deep the source nests.
 #[cycle(expansion)]

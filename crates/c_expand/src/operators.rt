@@ -1,7 +1,7 @@
 //! Operators behind their first operand, and those whose operands may not be reached.
 ghost use Rattle.std.specs.Prelude.{◌≡◌, IfOk, map};
 ghost use Rattle.hls_base.specs.Refusals.{IfRefused};
-ghost use Rattle.core_program.specs.CoreView.{core_of};
+ghost use Rattle.pieces.specs.Resolved.CoreView.{core_of};
 ghost use Rattle.pieces.specs.View.{pure_of, piece_of};
 ghost use Rattle.piece_making.specs.Acting.{either, effects};
 ghost use Rattle.piece_making.specs.Calls.{call_of};
@@ -15,7 +15,6 @@ use crate::expressions::expression;
 use crate::here::{Here, deeper};
 use c_token::ctype::CType;
 use c_tree::operator::{Binary, Unary};
-use core_program::expression::CoreExpr;
 use hls_base::number::VarId;
 use hls_base::place::Place;
 use hls_base::point::PointKind;
@@ -29,6 +28,7 @@ use piece_making::work::Work;
 use pieces::piece::Piece;
 use pieces::pure_expr::Pure;
 use pieces::pure_kind::kind_of;
+use pieces::resolved::expression::CoreExpr;
 
 /// An operator with all but the operand that a chain of operators goes on with. An assignment has the subscripts of its target, which are evaluated before.
 #[derive(Drop)]

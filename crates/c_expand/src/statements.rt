@@ -2,8 +2,8 @@
 ghost use Rattle.std.specs.Prelude.{◌≡◌, ◌&&◌, IfOk, map, [], true, false, Some};
 ghost use Rattle.std.specs.Option.{option_map};
 ghost use Rattle.hls_base.specs.Refusals.{IfRefused};
-ghost use Rattle.core_program.specs.Core.{stmt_row};
-ghost use Rattle.core_program.specs.CoreView.{core_of, core_stmt_of, core_else_of, core_else_part, core_action_of};
+ghost use Rattle.pieces.specs.Resolved.Core.{stmt_row};
+ghost use Rattle.pieces.specs.Resolved.CoreView.{core_of, core_stmt_of, core_else_of, core_else_part, core_action_of};
 ghost use Rattle.pieces.specs.View.{pure_of, piece_of};
 ghost use Rattle.piece_making.specs.Making.{inside};
 ghost use Rattle.piece_making.specs.Calls.{call_of};
@@ -16,8 +16,6 @@ use crate::declarations::declare;
 use crate::expressions::{assignment, expression, step_by_one};
 use crate::here::{Here, deeper};
 use crate::operators::discard;
-use core_program::expression::CoreExpr;
-use core_program::statement::{CoreAction, CoreElse, CoreStmt};
 use hls_base::place::Place;
 use hls_base::point::PointKind;
 use hls_base::refusal::{Fail, impossible};
@@ -27,6 +25,8 @@ use piece_making::frame::Frame;
 use piece_making::work::Work;
 use pieces::piece::Piece;
 use pieces::pure_expr::Pure;
+use pieces::resolved::expression::CoreExpr;
+use pieces::resolved::statement::{CoreAction, CoreElse, CoreStmt};
 
 /// The statements of a block. `tail` tells whether the block is in a tail position.
 #[inline(never)]

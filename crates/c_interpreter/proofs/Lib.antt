@@ -1,1 +1,2 @@
 pub mod MachineRules
+pub mod ExecutionLemmas

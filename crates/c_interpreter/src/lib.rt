@@ -2,5 +2,6 @@
 #![tactic(auto)]
 
 mod behind;
+pub mod execution;
 pub mod passing;
 mod step;

@@ -6,11 +6,11 @@ ghost use Rattle.c_machine.specs.Sound.{Sound};
 ghost use Rattle.c_machine.specs.Shape.{Shaped};
 ghost use Rattle.c_machine.specs.Following.{keeps_following, is_done};
 ghost use Rattle.c_meaning.specs.Points.{count_point};
-ghost use Rattle.c_frames.specs.Shown.{step_of};
+ghost use Rattle.c_machine.specs.Waiting.Shown.{step_of};
 ghost use Rattle.c_moves.specs.Machines.{configuration_of};
 
 use crate::step::run_on;
-use c_frames::frame::{Control, Spot, Step};
+use c_machine::waiting::frame::{Control, Spot, Step};
 use c_moves::machine::Machine;
 use std::alloc::{AllocError, Global};
 

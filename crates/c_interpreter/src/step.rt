@@ -5,15 +5,15 @@ ghost use Rattle.c_machine.specs.Moves.{stepped, given_value, given_end};
 ghost use Rattle.c_machine.specs.Rest.{rest_of};
 ghost use Rattle.c_machine.specs.Sound.{within, Sound};
 ghost use Rattle.c_machine.specs.Shape.{Shaped};
-ghost use Rattle.c_frames.specs.Shown.{step_of, is_resting};
-ghost use Rattle.c_frames.specs.Stacks.{stack_of};
+ghost use Rattle.c_machine.specs.Waiting.Shown.{step_of, is_resting};
+ghost use Rattle.c_machine.specs.Waiting.Stacks.{stack_of};
 ghost use Rattle.c_moves.specs.Machines.{configuration_of};
 
 use crate::behind::{end, resume};
-use c_frames::frame::{Control, Frame, Step};
+use c_machine::state::store::forget;
+use c_machine::waiting::frame::{Control, Frame, Step};
 use c_meaning::value::{Completion, Value};
 use c_moves::machine::Machine;
-use c_state::store::forget;
 use std::alloc::{AllocError, Global};
 
 fn give(machine: &mut Machine<'_>, alloc: Global, v: Value) -> Result<(), AllocError>

@@ -19,7 +19,7 @@ use Rattle.c_meaning.specs.Run as run
 use Rattle.c_meaning.specs.Run.{parameter, parameters, body_of, function_meaning, function_end, function_left, function_named, call_meaning, result_of, result_kind, calls}
 use Rattle.c_machine.specs.Frames as f
 use Rattle.c_machine.specs.Frames.{Configuration, EndFrame, Frame, given_closed}
-use Rattle.c_state.specs.Lists.{latest}
+use Rattle.c_machine.specs.State.Lists.{latest}
 use Rattle.c_machine.specs.Rest.{rest_of, rest_from, setting, state_with, calls_at, calls_in, with_value, with_end, with_step}
 use Rattle.c_machine.specs.Moves.{here, holding, call_begun, called, next_argument, call_left, still}
 use Rattle.c_machine.proofs.ThenLaws.{then_assoc, then_same}

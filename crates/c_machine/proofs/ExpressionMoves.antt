@@ -21,7 +21,7 @@ use Rattle.c_meaning.specs.Expression.{Calls, value, acts, expression_meaning, c
 use Rattle.c_meaning.specs.Statement.{act_all, action_tree}
 use Rattle.c_machine.specs.Frames as f
 use Rattle.c_machine.specs.Frames.{Configuration, Use, Step, numbers_closed, given_closed}
-use Rattle.c_state.specs.Lists.{latest}
+use Rattle.c_machine.specs.State.Lists.{latest}
 use Rattle.c_machine.specs.Rest as rest
 use Rattle.c_machine.specs.Rest.{rest_of, rest_from, setting, state_with, calls_at, with_value, with_end}
 use Rattle.c_machine.specs.Moves.{evaluated, used_for, next_subscript, argument_begun, next_argument, next_action, at_fork, reached, not_reached, joined, chosen, picked, kind_here, pushed, holding, here, still}

@@ -3,7 +3,7 @@ use Rattle.std.proofs.Common.{◌≡◌, ◌∙◌, ℕ, ◌+◌, ◌≤◌, sym
 use Rattle.hls_base.specs.declared.place.Place.{Place}
 use Rattle.hls_base.specs.declared.point.Point.{Point}
 use Rattle.hls_base.specs.declared.point.PointKind.{PointKind}
-use Rattle.c_state.specs.Reading.{Reading}
+use Rattle.c_machine.specs.State.Reading.{Reading}
 use Rattle.c_meaning.specs.Points.{count_point}
 use Rattle.c_machine.specs.Frames as f
 use Rattle.c_machine.specs.Frames.{Configuration, Step}

@@ -1,3 +1,4 @@
+pub mod StateLemmas
 pub mod ThenLaws
 pub mod Nesting
 pub mod Quiet
@@ -16,3 +17,4 @@ pub mod Following
 pub mod Running
 pub mod Keeping
 pub mod KeptMoves
+pub mod WaitingLemmas

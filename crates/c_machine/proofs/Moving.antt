@@ -14,7 +14,7 @@ use Rattle.c_meaning.specs.Statement.{behind_breakable, round_of}
 use Rattle.c_meaning.specs.Run.{function_left}
 use Rattle.c_machine.specs.Frames as f
 use Rattle.c_machine.specs.Frames.{ValueFrame, EndFrame, Frame, Step, Configuration, numbers_closed}
-use Rattle.c_state.specs.Lists.{latest}
+use Rattle.c_machine.specs.State.Lists.{latest}
 use Rattle.c_machine.specs.Rest.{rest_of, rest_from, setting, state_with, calls_in, calls_at, jumped, with_value, with_end}
 use Rattle.c_machine.specs.Sound.{value_fits, end_fits, within}
 use Rattle.c_machine.specs.Moves.{here, holding, still, left_scope, pushed, resumed, ended, given_value, given_end, finished, stepped, next_argument}

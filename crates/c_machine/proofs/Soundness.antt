@@ -25,7 +25,7 @@ use Rattle.c_meaning.specs.Statement.{action_tree, target_label, round_of}
 use Rattle.c_meaning.specs.Run.{function_named}
 use Rattle.c_machine.specs.Frames as f
 use Rattle.c_machine.specs.Frames.{Loop, Use, ValueFrame, EndFrame, Frame, Step, Configuration, in_environment, numbers_closed, given_closed}
-use Rattle.c_state.specs.Lists.{latest}
+use Rattle.c_machine.specs.State.Lists.{latest}
 use Rattle.c_machine.specs.Sound.{value_fits, end_fits, all_fit, within, Sound}
 use Rattle.c_machine.specs.Moves as v
 use Rattle.c_machine.specs.Moves.{here, holding, pushed, still, left_scope, block_entered, Landing, landing}

@@ -13,8 +13,8 @@ use Rattle.c_meaning.specs.declared.value.Completion.{Completion}
 use Rattle.c_meaning.specs.declared.names.Binding.{Binding}
 use Rattle.c_meaning.specs.Store.{Object, Environment}
 use Rattle.c_meaning.specs.Names.{begun}
-use Rattle.c_state.specs.Reading.{Reading}
-use Rattle.c_state.specs.Lists.{head_or, tail, one_more}
+use Rattle.c_machine.specs.State.Reading.{Reading}
+use Rattle.c_machine.specs.State.Lists.{head_or, tail, one_more}
 
 -- a loop whose iterations begin with a test, or end with one
 pub data Loop : Type 0 where

@@ -1,3 +1,4 @@
+pub mod State
 pub mod Frames
 pub mod Rest
 pub mod Moves
@@ -5,3 +6,4 @@ pub mod Sound
 pub mod Shape
 pub mod Following
 pub mod Laws
+pub mod Waiting

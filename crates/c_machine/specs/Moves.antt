@@ -27,10 +27,10 @@ use Rattle.c_meaning.specs.Steps.{Outcome}
 use Rattle.c_meaning.specs.Expression.{value, acts, computed, operated, kind_of, read_object, assigned, bumped, array_given, number_or_zero}
 use Rattle.c_meaning.specs.Statement.{zeros, action_tree, is_last, target_label, round_of, converted_result}
 use Rattle.c_meaning.specs.Run.{function_named, result_of, kind_or_int, parameters, body_of}
-use Rattle.c_state.specs.Lists as lists
+use Rattle.c_machine.specs.State.Lists as lists
 use Rattle.c_machine.specs.Frames as f
 use Rattle.c_machine.specs.Frames.{Loop, Use, ValueFrame, EndFrame, Frame, Step, Held, Configuration, scope_opened, scope_left, in_environment, numbers_opened, number_added, numbers_closed, given_opened, argument_added, given_closed}
-use Rattle.c_state.specs.Lists.{latest}
+use Rattle.c_machine.specs.State.Lists.{latest}
 use Rattle.c_machine.specs.Rest.{loop_place}
 
 -- ---- parts of moves

@@ -20,7 +20,7 @@ use Rattle.c_meaning.specs.Statement.{initialise, initialise_rows, declare_all, 
 use Rattle.c_meaning.specs.Run.{kind_or_int, function_left, calls}
 use Rattle.c_machine.specs.Frames as f
 use Rattle.c_machine.specs.Frames.{Loop, Use, ValueFrame, EndFrame, Frame, Step, Control, Held, Configuration, scope_left, in_environment, number_added, numbers_closed, argument_added, given_closed}
-use Rattle.c_state.specs.Lists.{latest}
+use Rattle.c_machine.specs.State.Lists.{latest}
 
 -- the program, the names of file scope, and how many points the whole run may pass
 pub record Setting : Type 0 where

@@ -7,7 +7,7 @@ use Rattle.std.proofs.lemmas.List.Elements.{All-head, All-tail}
 use Rattle.std.proofs.Math.Nat.{mul-le-mul_left, mul-le-mul_right}
 use Rattle.hls_base.specs.ArrayAddress.{element_count}
 use Rattle.c_tree.specs.Tree.{Tree, InitTree, init_row}
-use Rattle.c_checked.specs.Lengths.{usable, length_of, all_lengths, all_usable, with_first, item_count}
+use Rattle.c_meaning.specs.Checks.Lengths.{usable, length_of, all_lengths, all_usable, with_first, item_count}
 
 -- these lengths before others, if those are there
 abbrev pub before : List ℕ → Option (List ℕ) → Option (List ℕ)

@@ -9,7 +9,7 @@ use Rattle.c_tree.specs.declared.object.Init.TheFolds.{fold-roll-Init}
 use Rattle.c_tree.specs.Tree as tree
 use Rattle.c_tree.specs.Tree.{InitTree}
 use Rattle.c_tree.specs.View.{init_of, inits_of, init_step}
-use Rattle.c_checked.specs.Lengths.{items_in}
+use Rattle.c_meaning.specs.Checks.Lengths.{items_in}
 use Rattle.c_meaning.proofs.DimensionLengths.{item_count-length}
 
 pub list_tree : (items : Vec Init Global) (at : Place) → init_of (i.List items at) ≡ tree.braced (inits_of items.items) at

@@ -1,3 +1,4 @@
+pub mod ChecksLemmas
 pub mod DistinctPoints
 pub mod Tallies
 pub mod DimensionLengths
@@ -13,3 +14,7 @@ pub mod MoreInRuns
 pub mod SmallPrograms
 mod Examples
 pub mod PointsOfRuns
+pub mod CoreRuns
+pub mod PieceRuns
+pub mod Ranges
+pub mod Results

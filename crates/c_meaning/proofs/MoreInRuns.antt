@@ -8,7 +8,7 @@ use Rattle.hls_base.specs.declared.point.PointKind.TheVariants as point
 use Rattle.hls_base.specs.declared.refusal.UbRule.TheVariants as ub
 use Rattle.c_token.specs.declared.ctype.CType.{CType}
 use Rattle.c_tree.specs.Tree.{ObjectTree, ParamTree, FunctionTree, ItemTree}
-use Rattle.c_checked.specs.Limits.{file_objects}
+use Rattle.c_meaning.specs.Checks.Limits.{file_objects}
 use Rattle.c_meaning.specs.declared.value.Completion.{Completion}
 use Rattle.c_meaning.specs.declared.value.Completion.TheVariants as end
 use Rattle.c_meaning.specs.declared.value.Argument.{Argument}

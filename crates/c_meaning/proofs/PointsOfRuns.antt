@@ -5,7 +5,7 @@ use Rattle.hls_base.specs.FileScope.{FileScope}
 use Rattle.hls_base.specs.declared.point.Point.{Point}
 use Rattle.std.specs.Prelude.{slice_get}
 use Rattle.c_tree.specs.Tree.{ObjectTree, FunctionTree, ItemTree}
-use Rattle.c_checked.specs.Limits.{file_objects}
+use Rattle.c_meaning.specs.Checks.Limits.{file_objects}
 use Rattle.c_meaning.specs.Steps as steps
 use Rattle.c_meaning.specs.Steps.{Outcome, Ran}
 use Rattle.c_meaning.specs.Run as run

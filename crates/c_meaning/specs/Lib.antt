@@ -1,3 +1,4 @@
+pub mod Checks
 pub mod Store
 pub mod Names
 pub mod Steps
@@ -11,3 +12,6 @@ pub mod FittingInputs
 pub mod Laws
 pub mod ValueLaws
 pub mod PassedPoints
+pub mod CoreRuns
+pub mod PieceRuns
+pub mod OperatorResults

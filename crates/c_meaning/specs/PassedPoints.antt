@@ -3,7 +3,7 @@ use Rattle.std.specs.Prelude.{◌≡◌, ℕ, ◌+◌, ◌≤◌, List, [], ◌+
 use Rattle.hls_base.specs.FileScope.{FileScope}
 use Rattle.hls_base.specs.declared.point.Point.{Point}
 use Rattle.c_tree.specs.Tree.{FunctionTree, ItemTree, ProgramTree}
-use Rattle.c_checked.specs.Limits.{file_objects}
+use Rattle.c_meaning.specs.Checks.Limits.{file_objects}
 use Rattle.c_meaning.specs.Run.{Answer, ended, running, calls, function_meaning, file_names, function_at, top_arguments, started, run_of}
 
 -- the points that the function passes as the top function, within n points

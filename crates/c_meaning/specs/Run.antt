@@ -14,7 +14,7 @@ use Rattle.c_value.specs.Values.{int_type, pattern, number_of, convert}
 use Rattle.c_value.specs.Operators.{Computed}
 use Rattle.c_value.specs.Operators as o
 use Rattle.c_value.specs.Constant.{constant_number}
-use Rattle.c_checked.specs.Limits.{file_objects}
+use Rattle.c_meaning.specs.Checks.Limits.{file_objects}
 use Rattle.c_meaning.specs.declared.value.Completion.{Completion}
 use Rattle.c_meaning.specs.declared.value.Completion.TheVariants as end
 use Rattle.c_meaning.specs.declared.value.Argument.{Argument}

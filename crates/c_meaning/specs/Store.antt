@@ -7,7 +7,7 @@ use Rattle.c_tree.specs.Tree as tree
 use Rattle.c_tree.specs.Tree.{Tree, ObjectTree, StmtTree, FirstTree, StmtTrees}
 use Rattle.c_value.specs.Values.{int_type}
 use Rattle.c_meaning.specs.declared.names.Binding.{Binding}
-use Rattle.c_checked.specs.Lengths.{lengths_of, usable, all_usable}
+use Rattle.c_meaning.specs.Checks.Lengths.{lengths_of, usable, all_usable}
 
 -- ---- objects
 

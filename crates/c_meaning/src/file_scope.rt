@@ -2,7 +2,7 @@
 ghost use Rattle.std.specs.Prelude.{◌≡◌, ◌++◌, ◌*◌, ◌≤◌, ◌<◌, pos, Some, map, replicate, IfOk, OnOk};
 ghost use Rattle.hls_base.specs.ArrayAddress.{element_count};
 ghost use Rattle.c_tree.specs.View.{tree_of, init_of, object_of, item_of};
-ghost use Rattle.c_checked.specs.Limits.{file_objects};
+ghost use Rattle.c_meaning.specs.Checks.Limits.{file_objects};
 ghost use Rattle.c_meaning.specs.Limits.{IsWithinLimits};
 ghost use Rattle.c_meaning.specs.Statement.{items_of};
 ghost use Rattle.c_meaning.specs.Run.{constant_item, file_items, first_object};

@@ -3,7 +3,7 @@ ghost use Rattle.std.specs.Prelude.{◌≡◌, ◌<◌, ◌≤◌, IfOk, IfSome,
 ghost use Rattle.std.specs.Option.{option_map};
 ghost use Rattle.hls_base.specs.ArrayAddress.{element_count};
 ghost use Rattle.c_tree.specs.View.{object_of, tree_of, init_of};
-ghost use Rattle.c_checked.specs.Lengths.{usable, items_in, length_of, lengths_of, all_usable};
+ghost use Rattle.c_meaning.specs.Checks.Lengths.{usable, items_in, length_of, lengths_of, all_usable};
 ghost use Rattle.c_meaning.specs.Store.{lengths_in};
 ghost use Rattle.c_meaning.specs.Limits.{IsWithinLimits};
 

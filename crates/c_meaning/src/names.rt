@@ -2,7 +2,7 @@
 use hls_base::text::Text;
 
 /// A name, and the object that it stands for.
-#[derive(Debug, Drop)]
+#[derive(Drop)]
 pub struct Binding {
     pub name: Text,
     pub object: usize,

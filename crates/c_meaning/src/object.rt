@@ -8,7 +8,7 @@ use std::alloc::{AllocError, Global};
 use std::marker::Model;
 
 /// An object: its type, the lengths of its dimensions, and the numbers of its elements, row by row. A scalar has no lengths and one element. An element that was not written has no number.
-#[derive(Debug, Drop)]
+#[derive(Drop)]
 pub struct Object {
     kind: CType,
     lengths: Vec<usize>,

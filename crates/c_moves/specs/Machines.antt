@@ -2,8 +2,8 @@
 use Rattle.std.specs.Prelude.{map}
 use Rattle.c_tree.specs.View.{item_of}
 use Rattle.c_machine.specs.Frames.{Configuration}
-use Rattle.c_frames.specs.Shown.{control_of}
-use Rattle.c_frames.specs.Stacks.{stack_of}
+use Rattle.c_machine.specs.Waiting.Shown.{control_of}
+use Rattle.c_machine.specs.Waiting.Stacks.{stack_of}
 use Rattle.c_moves.specs.declared.machine.Machine.{Machine}
 
 abbrev pub configuration_of : Machine → Configuration

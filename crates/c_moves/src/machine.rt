@@ -10,13 +10,13 @@ pub mod start;
 pub mod statement;
 pub mod switch;
 
-use c_frames::frame::{Control, EndFrame, Frame, Spot, Step, ValueFrame};
-use c_frames::stack::Stack;
+use c_machine::state::lists::Lists;
+use c_machine::state::meter::Meter;
+use c_machine::state::scopes::Scopes;
+use c_machine::waiting::frame::{Control, EndFrame, Frame, Spot, Step, ValueFrame};
+use c_machine::waiting::stack::Stack;
 use c_meaning::object::Object;
 use c_meaning::value::{Argument, Undefined, Value};
-use c_state::lists::Lists;
-use c_state::meter::Meter;
-use c_state::scopes::Scopes;
 use c_tree::expression::Expr;
 use c_tree::program::Item;
 use hls_base::place::Place;
@@ -41,9 +41,9 @@ impl<'p> Machine<'p> {
     ghost use Rattle.c_tree.specs.View.{tree_of};
     ghost use Rattle.c_machine.specs.Frames as f;
     ghost use Rattle.c_machine.specs.Moves.{going, at_point, at_fork, concluded, pushed, popped, scoped, still, stuck};
-    ghost use Rattle.c_state.specs.Objects.{ran_of};
-    ghost use Rattle.c_frames.specs.Shown.{step_of, value_frame_of, end_frame_of};
-    ghost use Rattle.c_frames.specs.Stacks.{stack_of};
+    ghost use Rattle.c_machine.specs.State.Objects.{ran_of};
+    ghost use Rattle.c_machine.specs.Waiting.Shown.{step_of, value_frame_of, end_frame_of};
+    ghost use Rattle.c_machine.specs.Waiting.Stacks.{stack_of};
     ghost use Rattle.c_moves.specs.Machines.{configuration_of};
 
     /// Lets a step follow at once.

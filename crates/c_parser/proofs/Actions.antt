@@ -10,12 +10,12 @@ use Rattle.c_tree.specs.Tree.{Tree, TargetTree, ActionTree}
 use Rattle.c_tree.specs.Terminals.{Terminal, sign}
 use Rattle.c_tree.specs.Grammar.{Derives, DerivesTarget, DerivesChange, DerivesAction, DerivesActionList, DerivesActions}
 use Rattle.c_tree.specs.Grammar as g
-use Rattle.c_cursor.specs.Readings.{Reads, Found, Never, Anywhere, Ends, Sequence, Closed, Sign, Lacks, Listed, joins, is_paren, opens_paren}
-use Rattle.c_cursor.specs.Readings as r
+use Rattle.c_parser.specs.Cursor.Readings.{Reads, Found, Never, Anywhere, Ends, Sequence, Closed, Sign, Lacks, Listed, joins, is_paren, opens_paren}
+use Rattle.c_parser.specs.Cursor.Readings as r
 use Rattle.c_parser.specs.Expressions.{Expression}
-use Rattle.c_cursor.specs.Tokens.{separates_kind, separates}
+use Rattle.c_parser.specs.Cursor.Tokens.{separates_kind, separates}
 use Rattle.c_parser.specs.Objects.{Separated, change_in, bare_change, change_or, action_in, AnAction, closes_actions, ActionsUpTo}
-use Rattle.c_cursor.proofs.Readings.{signs, Step}
+use Rattle.c_parser.proofs.CursorLemmas.Readings.{signs, Step}
 use Rattle.c_parser.proofs.ExpressionForms.{shut, Opened, unshut}
 use Rattle.c_parser.proofs.Beginnings.{expression_sign, starts_expression, expression_starts}
 use Rattle.c_parser.proofs.Levels.{bump_no_paren, level-short}

@@ -14,8 +14,8 @@ use Rattle.c_tree.specs.Terminals.{Terminal, sign, word, is_keyword, prefix_of, 
 use Rattle.c_tree.specs.Kinds.{specifier_of}
 use Rattle.c_tree.specs.Grammar.{Derives, DerivesTarget, DerivesList}
 use Rattle.c_tree.specs.Grammar as g
-use Rattle.c_cursor.specs.Readings.{is_paren, opens_paren}
-use Rattle.c_cursor.specs.Types.{kind_word_of, kind_word_of_text, specifier_word, starts_kind}
+use Rattle.c_parser.specs.Cursor.Readings.{is_paren, opens_paren}
+use Rattle.c_parser.specs.Cursor.Types.{kind_word_of, kind_word_of_text, specifier_word, starts_kind}
 use Rattle.c_parser.specs.Expressions.{Expression, Lvalue, bare_target, target_in}
 use Rattle.c_parser.proofs.ExpressionForms.{Primary, is_number, is_named, is_group, primary_form, Postfix, bumped, plain, postfix_form}
 

@@ -9,14 +9,14 @@ use Rattle.c_tree.specs.Tree.{Tree}
 use Rattle.c_tree.specs.Terminals.{Terminal, sign, operator_of}
 use Rattle.c_tree.specs.Grammar.{level_of, Derives}
 use Rattle.c_tree.specs.Grammar as g
-use Rattle.c_cursor.specs.Readings.{Found, Never, Ends, joins}
-use Rattle.c_cursor.specs.Tokens.{joiner_of, joiner_or, comma_joiner, joiner_level}
+use Rattle.c_parser.specs.Cursor.Readings.{Found, Never, Ends, joins}
+use Rattle.c_parser.specs.Cursor.Tokens.{joiner_of, joiner_or, comma_joiner, joiner_level}
 use Rattle.c_parser.specs.Expressions.{Expression, joined}
 use Rattle.c_parser.specs.Chains.{assigned, all_assigned}
 use Rattle.c_parser.specs.declared.chain.Assigned.{Assigned}
-use Rattle.c_cursor.specs.declared.joiner.Joiner.{Joiner}
-use Rattle.c_cursor.specs.declared.joiner.Joiner.TheVariants as j
-use Rattle.c_cursor.proofs.Readings.{signs}
+use Rattle.c_parser.specs.declared.cursor.joiner.Joiner.{Joiner}
+use Rattle.c_parser.specs.declared.cursor.joiner.Joiner.TheVariants as j
+use Rattle.c_parser.proofs.CursorLemmas.Readings.{signs}
 use Rattle.c_parser.proofs.Levels.{joiner-level}
 
 -- the operators of one level behind a first operand, up to the rest

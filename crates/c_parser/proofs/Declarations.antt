@@ -8,15 +8,15 @@ use Rattle.c_tree.specs.Tree.{Tree, InitTree, ObjectTree}
 use Rattle.c_tree.specs.Terminals.{Terminal, sign, word, is_keyword}
 use Rattle.c_tree.specs.Grammar.{DerivesObject, DerivesObjects, DerivesDeclaration}
 use Rattle.c_tree.specs.Grammar as g
-use Rattle.c_cursor.specs.Readings.{Reads, Found, Never, Anywhere, Ends, Sequence, Closed, Sign, Lacks, Listed, joins, snd}
-use Rattle.c_cursor.specs.Readings as r
-use Rattle.c_cursor.specs.declared.types.ValueKind.{ValueKind}
-use Rattle.c_cursor.specs.Types.{AValueKind, KindEnds, kind_word_of_text, starts_kind}
-use Rattle.c_cursor.specs.Tokens.{Name}
+use Rattle.c_parser.specs.Cursor.Readings.{Reads, Found, Never, Anywhere, Ends, Sequence, Closed, Sign, Lacks, Listed, joins, snd}
+use Rattle.c_parser.specs.Cursor.Readings as r
+use Rattle.c_parser.specs.declared.cursor.types.ValueKind.{ValueKind}
+use Rattle.c_parser.specs.Cursor.Types.{AValueKind, KindEnds, kind_word_of_text, starts_kind}
+use Rattle.c_parser.specs.Cursor.Tokens.{Name}
 use Rattle.c_parser.specs.Objects.{Lengths, AnInitialiser, AnObject, ADeclaration}
-use Rattle.c_cursor.proofs.Readings.{words, Step}
+use Rattle.c_parser.proofs.CursorLemmas.Readings.{words, Step}
 use Rattle.c_parser.proofs.ExpressionForms.{Opened}
-use Rattle.c_cursor.proofs.TypeWords.{value_starts}
+use Rattle.c_parser.proofs.CursorLemmas.TypeWords.{value_starts}
 use Rattle.c_parser.proofs.Beginnings.{kind_text_keyword}
 
 -- ---- an object

@@ -12,7 +12,7 @@ use Rattle.c_tree.specs.Tree.{Tree, TargetTree, Trees, row}
 use Rattle.c_tree.specs.Terminals.{Terminal, terminal, sign, word, is_keyword, prefix_of, assignment_of, bump_of}
 use Rattle.c_tree.specs.Grammar.{level_of, Derives, DerivesTarget, DerivesSubscripts, DerivesArguments, DerivesList}
 use Rattle.c_tree.specs.Grammar as g
-use Rattle.c_cursor.specs.Readings.{Reads, Closed}
+use Rattle.c_parser.specs.Cursor.Readings.{Reads, Closed}
 use Rattle.c_parser.specs.Expressions.{Expression, Lvalue, Subscripts, Arguments, Named, Chosen, Cast, element, bare_target, target_in}
 use Rattle.c_parser.specs.Expressions as x
 use Rattle.c_parser.proofs.Levels.{level-long, level-short}

@@ -13,24 +13,24 @@ use Rattle.c_tree.specs.Terminals.{Terminal, sign, word}
 use Rattle.c_tree.specs.Kinds.{DerivesKind}
 use Rattle.c_tree.specs.Grammar.{DerivesLengths, DerivesParam, DerivesParamList, DerivesParams, DerivesDefinition, DerivesItem, DerivesItems, DerivesProgram}
 use Rattle.c_tree.specs.Grammar as g
-use Rattle.c_cursor.specs.Readings.{Reads, Found, Never, Anywhere, Sequence, Closed, Sign, Word, Lacks, LacksWord, Listed, Repeated, joins, opens_paren, snd}
-use Rattle.c_cursor.specs.Readings as r
-use Rattle.c_cursor.specs.declared.types.Kind.{Kind}
-use Rattle.c_cursor.specs.declared.types.ValueKind.{ValueKind}
-use Rattle.c_cursor.specs.Types.{SomeKind, AValueKind, KindEnds, starts_kind}
-use Rattle.c_cursor.specs.Tokens.{Name, separates}
+use Rattle.c_parser.specs.Cursor.Readings.{Reads, Found, Never, Anywhere, Sequence, Closed, Sign, Word, Lacks, LacksWord, Listed, Repeated, joins, opens_paren, snd}
+use Rattle.c_parser.specs.Cursor.Readings as r
+use Rattle.c_parser.specs.declared.cursor.types.Kind.{Kind}
+use Rattle.c_parser.specs.declared.cursor.types.ValueKind.{ValueKind}
+use Rattle.c_parser.specs.Cursor.Types.{SomeKind, AValueKind, KindEnds, starts_kind}
+use Rattle.c_parser.specs.Cursor.Tokens.{Name, separates}
 use Rattle.c_parser.specs.Objects.{Lengths, AnObject, Separated}
 use Rattle.c_parser.specs.Statements.{Block}
-use Rattle.c_cursor.specs.Tokens.{opens_call}
+use Rattle.c_parser.specs.Cursor.Tokens.{opens_call}
 use Rattle.c_parser.specs.Functions.{AParam, Params, ADefinition, function_with, AFunction, ParamBehind, named, unnamed, AnItem, ItemBehind, some_objects, a_function, AtEnd, Items, body_trees}
 use Rattle.std.specs.declared.alloc.Global.{Global}
 use Rattle.std.specs.declared.vec.Vec.{Vec}
 use Rattle.c_tree.specs.declared.statement.Stmt.{Stmt}
 use Rattle.c_tree.specs.declared.function.Function.{Function}
 use Rattle.c_tree.specs.View.{param_of, body_of, function_of}
-use Rattle.c_cursor.proofs.Readings.{heads, signs, words, sign_no_word, Step, repeated_last}
+use Rattle.c_parser.proofs.CursorLemmas.Readings.{heads, signs, words, sign_no_word, Step, repeated_last}
 use Rattle.c_parser.proofs.ExpressionForms.{shut, Opened, unshut}
-use Rattle.c_cursor.proofs.TypeWords.{void_first, kind_starts, value_starts}
+use Rattle.c_parser.proofs.CursorLemmas.TypeWords.{void_first, kind_starts, value_starts}
 use Rattle.c_parser.proofs.Actions.{separated_ends}
 use Rattle.c_parser.proofs.Declarations.{name_no_kind, objects_of_listed, listed_of_objects, object_form}
 use Rattle.c_parser.proofs.StatementForms.{unrow_stmts, row-unrow_stmts}

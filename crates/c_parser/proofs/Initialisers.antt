@@ -7,11 +7,11 @@ use Rattle.c_tree.specs.Tree.{Tree, InitTree, InitTrees, init_row}
 use Rattle.c_tree.specs.Terminals.{Terminal, sign}
 use Rattle.c_tree.specs.Grammar.{Derives, DerivesInit, DerivesInits, DerivesInitialiser}
 use Rattle.c_tree.specs.Grammar as g
-use Rattle.c_cursor.specs.Readings.{Found, Never, Anywhere, Ends, Lacks, joins}
+use Rattle.c_parser.specs.Cursor.Readings.{Found, Never, Anywhere, Ends, Lacks, joins}
 use Rattle.c_parser.specs.Expressions.{Expression}
 use Rattle.c_parser.specs.Objects.{AnInit, InitItems, DerivesInitRow, AnInitialiser, Separator}
 use Rattle.c_parser.specs.Objects as o
-use Rattle.c_cursor.proofs.Readings.{signs, Step, Grows}
+use Rattle.c_parser.proofs.CursorLemmas.Readings.{signs, Step, Grows}
 use Rattle.c_parser.proofs.ExpressionForms.{shut, Opened, unshut}
 use Rattle.c_parser.proofs.Beginnings.{starts_expression, expression_starts}
 

@@ -10,10 +10,10 @@ use Rattle.c_tree.specs.declared.operator.Binary.{Binary}
 use Rattle.c_tree.specs.declared.operator.Binary.TheVariants as b
 use Rattle.c_tree.specs.Terminals.{Terminal, sign, prefix_of, operator_of, assignment_of, bump_of}
 use Rattle.c_tree.specs.Grammar.{level_of}
-use Rattle.c_cursor.specs.Readings.{or_level, other_level, sign_level, joins, is_paren}
-use Rattle.c_cursor.specs.Tokens.{joiner_of, joiner_or, comma_joiner, joiner_level}
-use Rattle.c_cursor.specs.declared.joiner.Joiner.{Joiner}
-use Rattle.c_cursor.specs.declared.joiner.Joiner.TheVariants as j
+use Rattle.c_parser.specs.Cursor.Readings.{or_level, other_level, sign_level, joins, is_paren}
+use Rattle.c_parser.specs.Cursor.Tokens.{joiner_of, joiner_or, comma_joiner, joiner_level}
+use Rattle.c_parser.specs.declared.cursor.joiner.Joiner.{Joiner}
+use Rattle.c_parser.specs.declared.cursor.joiner.Joiner.TheVariants as j
 
 pub level-long : (op : Binary) → 2 < level_of op
 level-long b.Mul = omega arith

@@ -1,3 +1,4 @@
+pub mod CursorLemmas
 pub mod Levels
 pub mod ExpressionForms
 pub mod Beginnings

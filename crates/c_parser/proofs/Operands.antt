@@ -14,13 +14,13 @@ use Rattle.c_tree.specs.Tree.{Tree, TargetTree, row}
 use Rattle.c_tree.specs.Terminals.{Terminal, terminal, sign, word, is_keyword, prefix_of, assignment_of, bump_of}
 use Rattle.c_tree.specs.Grammar.{DerivesSubscripts}
 use Rattle.c_tree.specs.Grammar as g
-use Rattle.c_cursor.specs.Readings.{Found, Never, Anywhere, Ends, Closed, Sign, Lacks, is_paren, opens_paren, joins, sign_level}
-use Rattle.c_cursor.specs.Types.{starts_kind, opens_cast}
+use Rattle.c_parser.specs.Cursor.Readings.{Found, Never, Anywhere, Ends, Closed, Sign, Lacks, is_paren, opens_paren, joins, sign_level}
+use Rattle.c_parser.specs.Cursor.Types.{starts_kind, opens_cast}
 use Rattle.c_parser.specs.Expressions.{Expression, Lvalue, Subscripts, Arguments, Named, Chosen, Cast, element, bare_target, target_in}
 use Rattle.c_parser.specs.Expressions as x
-use Rattle.c_cursor.proofs.Readings.{heads, signs, words, sign_no_word, Step}
-use Rattle.c_cursor.proofs.WordLists.{no_paren}
-use Rattle.c_cursor.proofs.TypeWords.{value_starts}
+use Rattle.c_parser.proofs.CursorLemmas.Readings.{heads, signs, words, sign_no_word, Step}
+use Rattle.c_parser.proofs.CursorLemmas.WordLists.{no_paren}
+use Rattle.c_parser.proofs.CursorLemmas.TypeWords.{value_starts}
 use Rattle.c_parser.proofs.Levels.{prefix_no_bump, prefix_no_paren, bump_no_paren, bump-level, assignment-level, Ends-tighter}
 use Rattle.c_parser.proofs.ExpressionForms.{Primary, is_number, is_named, is_group, primary_form, primary_back, Postfix, bumped, plain, postfix_form, bumped_back, loosened, Before, prefixed, bumped_first, is_cast, unprefixed, before_form, prefixed_back, bumped_first_back, cast_back, Either, by_test, without, either_form, by_test_back, Setting, set, unset, setting_form, set_back}
 use Rattle.c_parser.proofs.Beginnings.{primary_kind, starts_primary, primary_starts, lvalue_word, postfix_starts, expression_starts, kind_no_expression, target_tree, lvalue_reads, lvalue_bare, bare_lvalue}

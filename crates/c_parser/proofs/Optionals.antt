@@ -7,11 +7,11 @@ use Rattle.c_tree.specs.Tree.{Tree}
 use Rattle.c_tree.specs.Terminals.{Terminal, sign}
 use Rattle.c_tree.specs.Grammar.{Derives, DerivesOptional, DerivesLengths}
 use Rattle.c_tree.specs.Grammar as g
-use Rattle.c_cursor.specs.Readings.{Reads, Found, Never, Anywhere, Ends, Sequence, Closed, Sign, Lacks, Repeated, joins, snd}
-use Rattle.c_cursor.specs.Readings as r
+use Rattle.c_parser.specs.Cursor.Readings.{Reads, Found, Never, Anywhere, Ends, Sequence, Closed, Sign, Lacks, Repeated, joins, snd}
+use Rattle.c_parser.specs.Cursor.Readings as r
 use Rattle.c_parser.specs.Expressions.{Expression}
 use Rattle.c_parser.specs.Objects.{OptionalExpression, closes_optional, Lengths}
-use Rattle.c_cursor.proofs.Readings.{signs, Step, repeated_last}
+use Rattle.c_parser.proofs.CursorLemmas.Readings.{signs, Step, repeated_last}
 use Rattle.c_parser.proofs.ExpressionForms.{unshut}
 use Rattle.c_parser.proofs.Beginnings.{expression_sign, starts_expression, expression_starts}
 use Rattle.c_parser.proofs.Subscripts.{NoBracket}

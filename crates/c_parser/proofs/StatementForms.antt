@@ -11,16 +11,16 @@ use Rattle.c_tree.specs.Tree.{Tree, ActionTree, ObjectTree, StmtTree, FirstTree,
 use Rattle.c_tree.specs.Terminals.{Terminal, sign, word, is_keyword}
 use Rattle.c_tree.specs.Grammar.{Derives, DerivesStatement, DerivesFirst, DerivesBlock, DerivesBody, ends_open}
 use Rattle.c_tree.specs.Grammar as g
-use Rattle.c_cursor.specs.Readings.{Reads, Found, Never, Anywhere, Ends, Sequence, Closed, Sign, Word, Lacks, LacksWord, Listed, Repeated}
-use Rattle.c_cursor.specs.Readings as r
-use Rattle.c_cursor.specs.Types.{starts_kind, kind_word_of_text}
+use Rattle.c_parser.specs.Cursor.Readings.{Reads, Found, Never, Anywhere, Ends, Sequence, Closed, Sign, Word, Lacks, LacksWord, Listed, Repeated}
+use Rattle.c_parser.specs.Cursor.Readings as r
+use Rattle.c_parser.specs.Cursor.Types.{starts_kind, kind_word_of_text}
 use Rattle.c_parser.specs.Objects.{ActionsUpTo}
-use Rattle.c_cursor.specs.Keywords.{keyword_text, keyword_of}
-use Rattle.c_cursor.specs.declared.keyword.Keyword.{Keyword}
-use Rattle.c_cursor.specs.declared.keyword.Keyword.TheVariants as w
+use Rattle.c_parser.specs.Cursor.Keywords.{keyword_text, keyword_of}
+use Rattle.c_parser.specs.declared.cursor.keyword.Keyword.{Keyword}
+use Rattle.c_parser.specs.declared.cursor.keyword.Keyword.TheVariants as w
 use Rattle.c_parser.specs.Statements.{Statement, begins_else, ElseFits, DerivesBlockRow, Block, Local, ClosesBlock, BodyUpTo, First, Condition, Branches, DoTail, Behind}
 use Rattle.c_parser.specs.Statements as s
-use Rattle.c_cursor.proofs.Readings.{signs, sign_no_word}
+use Rattle.c_parser.proofs.CursorLemmas.Readings.{signs, sign_no_word}
 use Rattle.c_parser.proofs.ExpressionForms.{shut, unshut}
 use Rattle.c_parser.proofs.Beginnings.{starts_expression, kind_no_expression}
 use Rattle.c_parser.proofs.Declarations.{declaration_starts}

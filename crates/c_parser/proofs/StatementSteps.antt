@@ -5,8 +5,8 @@ use Rattle.c_token.specs.declared.punct.Punct.TheVariants as p
 use Rattle.std.specs.Prelude.{bytes_eq, IfOk}
 use Rattle.c_tree.specs.declared.statement.Stmt.{Stmt}
 use Rattle.c_tree.specs.View.{stmt_of}
-use Rattle.c_cursor.specs.declared.stop.Stop.{Stop}
-use Rattle.c_cursor.specs.Stops.{IfAbsent}
+use Rattle.c_parser.specs.declared.cursor.stop.Stop.{Stop}
+use Rattle.c_parser.specs.Cursor.Stops.{IfAbsent}
 use Rattle.std.proofs.lemmas.Slice.Eq.{bytes_eq-Decides}
 use Rattle.c_token.specs.declared.token.TokenKind.{TokenKind}
 use Rattle.c_token.specs.declared.token.TokenKind.TheVariants as k
@@ -15,14 +15,14 @@ use Rattle.c_tree.specs.Tree.{Tree, ActionTree, ObjectTree, StmtTree, FirstTree,
 use Rattle.c_tree.specs.Terminals.{Terminal, sign, word}
 use Rattle.c_tree.specs.Grammar.{DerivesFirst, ends_open}
 use Rattle.c_tree.specs.Grammar as g
-use Rattle.c_cursor.specs.Readings.{Found, Never, Anywhere, Sequence, Closed, Sign, Lacks, LacksWord, Listed, snd}
-use Rattle.c_cursor.specs.Types.{starts_kind}
+use Rattle.c_parser.specs.Cursor.Readings.{Found, Never, Anywhere, Sequence, Closed, Sign, Lacks, LacksWord, Listed, snd}
+use Rattle.c_parser.specs.Cursor.Types.{starts_kind}
 use Rattle.c_parser.specs.Objects.{OptionalExpression, ADeclaration, AnAction, ActionsUpTo}
-use Rattle.c_cursor.specs.Keywords.{keyword_text, keyword_of, lead}
-use Rattle.c_cursor.specs.declared.keyword.Keyword.{Keyword}
+use Rattle.c_parser.specs.Cursor.Keywords.{keyword_text, keyword_of, lead}
+use Rattle.c_parser.specs.declared.cursor.keyword.Keyword.{Keyword}
 use Rattle.c_parser.specs.Statements.{Statement, begins_else, ElseFits, Block, Local, ClosesBlock, BodyUpTo, First, Branches, DoTail, Ended, Returned, Behind}
 use Rattle.c_parser.specs.Statements as s
-use Rattle.c_cursor.proofs.Readings.{signs, words, sign_no_word, Step, repeated_last}
+use Rattle.c_parser.proofs.CursorLemmas.Readings.{signs, words, sign_no_word, Step, repeated_last}
 use Rattle.c_parser.proofs.Declarations.{declaration_starts}
 use Rattle.c_parser.proofs.Beginnings.{starts_expression, kind_no_expression}
 use Rattle.c_parser.proofs.Actions.{ActionsForm, no_actions, some_actions, actions_form, listed_starts, list_of_listed, listed_of_opened}

@@ -8,10 +8,10 @@ use Rattle.c_tree.specs.Tree.{Tree, Trees, row}
 use Rattle.c_tree.specs.Terminals.{Terminal, sign}
 use Rattle.c_tree.specs.Grammar.{Derives, DerivesSubscripts, DerivesArguments, DerivesList}
 use Rattle.c_tree.specs.Grammar as g
-use Rattle.c_cursor.specs.Readings.{Reads, Found, Never, Anywhere, Ends, Sequence, Closed, Sign, Lacks, Listed, Repeated, joins, snd}
-use Rattle.c_cursor.specs.Readings as r
+use Rattle.c_parser.specs.Cursor.Readings.{Reads, Found, Never, Anywhere, Ends, Sequence, Closed, Sign, Lacks, Listed, Repeated, joins, snd}
+use Rattle.c_parser.specs.Cursor.Readings as r
 use Rattle.c_parser.specs.Expressions.{Expression, Subscripts, Arguments, DerivesArgumentList}
-use Rattle.c_cursor.proofs.Readings.{signs, Step, repeated_last}
+use Rattle.c_parser.proofs.CursorLemmas.Readings.{signs, Step, repeated_last}
 use Rattle.c_parser.proofs.ExpressionForms.{unrow, shut, Opened, unshut}
 use Rattle.c_parser.proofs.Beginnings.{starts_expression, expression_starts}
 

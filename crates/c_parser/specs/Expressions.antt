@@ -6,10 +6,10 @@ use Rattle.c_tree.specs.Tree as tree
 use Rattle.c_tree.specs.Tree.{Tree, TargetTree, Trees, row}
 use Rattle.c_tree.specs.Terminals.{Terminal, sign}
 use Rattle.c_tree.specs.Grammar.{comma_level, choice_level, unary_level, Derives, DerivesTarget, DerivesSubscripts, DerivesArguments}
-use Rattle.c_cursor.specs.Readings.{Reads, Sequence, Closed, Sign, snd}
-use Rattle.c_cursor.specs.Types.{AValueKind}
-use Rattle.c_cursor.specs.declared.joiner.Joiner.{Joiner}
-use Rattle.c_cursor.specs.declared.joiner.Joiner.TheVariants as j
+use Rattle.c_parser.specs.Cursor.Readings.{Reads, Sequence, Closed, Sign, snd}
+use Rattle.c_parser.specs.Cursor.Types.{AValueKind}
+use Rattle.c_parser.specs.declared.cursor.joiner.Joiner.{Joiner}
+use Rattle.c_parser.specs.declared.cursor.joiner.Joiner.TheVariants as j
 
 abbrev pub Expression : ℕ → List Terminal → Tree → List Terminal → Type 0
 Expression n = Reads (Derives n)

@@ -12,10 +12,10 @@ use Rattle.c_tree.specs.Tree as tree
 use Rattle.c_tree.specs.Tree.{Tree, ObjectTree, StmtTree, stmt_row, ParamTree, FunctionTree, ItemTree, ProgramTree}
 use Rattle.c_tree.specs.Terminals.{Terminal}
 use Rattle.c_tree.specs.Grammar.{DerivesParam, DerivesParams, DerivesDefinition, DerivesItem}
-use Rattle.c_cursor.specs.Readings.{Reads, Sequence, Closed, Sign, Listed, Repeated, snd}
-use Rattle.c_cursor.specs.declared.types.Kind.{Kind}
-use Rattle.c_cursor.specs.declared.types.ValueKind.{ValueKind}
-use Rattle.c_cursor.specs.Tokens.{Name}
+use Rattle.c_parser.specs.Cursor.Readings.{Reads, Sequence, Closed, Sign, Listed, Repeated, snd}
+use Rattle.c_parser.specs.declared.cursor.types.Kind.{Kind}
+use Rattle.c_parser.specs.declared.cursor.types.ValueKind.{ValueKind}
+use Rattle.c_parser.specs.Cursor.Tokens.{Name}
 use Rattle.c_parser.specs.Objects.{Lengths, AnObject}
 
 abbrev pub AParam : List Terminal → ParamTree → List Terminal → Type 0

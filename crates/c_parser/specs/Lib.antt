@@ -1,3 +1,4 @@
+pub mod Cursor
 pub mod Expressions
 pub mod Chains
 pub mod Objects

@@ -7,9 +7,9 @@ use Rattle.c_tree.specs.Tree as tree
 use Rattle.c_tree.specs.Tree.{Tree, ActionTree, InitTree, init_row, ObjectTree}
 use Rattle.c_tree.specs.Terminals.{Terminal, sign}
 use Rattle.c_tree.specs.Grammar.{DerivesOptional, DerivesAction, DerivesActions, DerivesInit, DerivesInits, DerivesInitialiser, DerivesLengths, DerivesObject, DerivesDeclaration}
-use Rattle.c_cursor.specs.Tokens.{separates}
-use Rattle.c_cursor.specs.Readings.{Reads, Closed}
-use Rattle.c_cursor.specs.declared.types.ValueKind.{ValueKind}
+use Rattle.c_parser.specs.Cursor.Tokens.{separates}
+use Rattle.c_parser.specs.Cursor.Readings.{Reads, Closed}
+use Rattle.c_parser.specs.declared.cursor.types.ValueKind.{ValueKind}
 
 abbrev pub OptionalExpression : ℕ → List Terminal → Option Tree → List Terminal → Type 0
 OptionalExpression n = Reads (DerivesOptional n)

@@ -8,14 +8,14 @@ use Rattle.c_tree.specs.Tree as tree
 use Rattle.c_tree.specs.Tree.{Tree, ActionTree, ObjectTree, StmtTree, FirstTree, stmt_row}
 use Rattle.c_tree.specs.Terminals.{Terminal, sign, word}
 use Rattle.c_tree.specs.Grammar.{DerivesStatement, DerivesFirst, DerivesBlock, ends_open}
-use Rattle.c_cursor.specs.Readings.{Reads, Sequence, Closed, Sign, Word, Repeated, fst, snd}
+use Rattle.c_parser.specs.Cursor.Readings.{Reads, Sequence, Closed, Sign, Word, Repeated, fst, snd}
 use Rattle.c_parser.specs.Expressions.{Expression}
 use Rattle.c_parser.specs.Objects.{OptionalExpression, ADeclaration, ActionsUpTo}
 use Rattle.std.specs.Option.{option_map}
 use Rattle.c_tree.specs.View.{tree_of, action_of, stmt_of, first_part}
 use Rattle.c_parser.specs.declared.statement.Head.{Head}
-use Rattle.c_cursor.specs.declared.keyword.Keyword.{Keyword}
-use Rattle.c_cursor.specs.declared.keyword.Keyword.TheVariants as w
+use Rattle.c_parser.specs.declared.cursor.keyword.Keyword.{Keyword}
+use Rattle.c_parser.specs.declared.cursor.keyword.Keyword.TheVariants as w
 
 abbrev pub Statement : List Terminal → StmtTree → List Terminal → Type 0
 Statement = Reads DerivesStatement

@@ -1,13 +1,13 @@
 //! Actions: the expression of a statement and of `for`, C11 6.8.3 and 6.8.5.3.
 ghost use Rattle.std.specs.Prelude.{◌≡◌, ◌<◌, IfOk, OnOk, length, map, true};
 ghost use Rattle.c_tree.specs.View.{tree_of, action_of};
-ghost use Rattle.c_cursor.specs.Readings.{Found, Never, Anywhere, Listed};
+ghost use Rattle.c_parser.specs.Cursor.Readings.{Found, Never, Anywhere, Listed};
 ghost use Rattle.c_parser.specs.Objects.{AnAction, Separated, ActionsUpTo, action_in, closes_actions};
-ghost use Rattle.c_cursor.specs.Stops.{IfAbsent};
+ghost use Rattle.c_parser.specs.Cursor.Stops.{IfAbsent};
 
+use crate::cursor::cursor::Cursor;
+use crate::cursor::stop::Stop;
 use crate::expression::{ASSIGN, expression};
-use c_cursor::cursor::Cursor;
-use c_cursor::stop::Stop;
 use c_token::punct::Punct;
 use c_tree::action::Action;
 use c_tree::expression::Expr;

@@ -9,7 +9,7 @@ use hls_base::place::Place;
 use std::alloc::{AllocError, Global};
 
 /// A target and its assignment operator, behind which its value stands.
-#[derive(Debug, Drop)]
+#[derive(Drop)]
 pub struct Assigned {
     pub target: Target,
     pub op: Option<Binary>,

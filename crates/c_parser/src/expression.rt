@@ -2,16 +2,16 @@
 ghost use Rattle.std.specs.Prelude.{◌≡◌, ◌<◌, IfOk, OnOk, Some, None, length, map, ◌≤◌};
 ghost use Rattle.c_token.specs.declared.punct.Punct.TheVariants as p;
 ghost use Rattle.c_tree.specs.View.{tree_of, target_of};
-ghost use Rattle.c_cursor.specs.Readings.{Found, Never, Anywhere, Closed, Listed, Ends, sign_level};
+ghost use Rattle.c_parser.specs.Cursor.Readings.{Found, Never, Anywhere, Closed, Listed, Ends, sign_level};
 ghost use Rattle.c_parser.specs.Expressions.{Expression, Lvalue, joined, element, bare_target, Cast, Chosen, Named, Arguments, Subscripts};
-ghost use Rattle.c_cursor.specs.Stops.{IfAbsent};
+ghost use Rattle.c_parser.specs.Cursor.Stops.{IfAbsent};
 
 use crate::chain::{Assigned, assign_all};
-use c_cursor::cursor::Cursor;
-use c_cursor::joiner::Joiner;
-use c_cursor::stop::Stop;
-use c_cursor::types::closed_kind;
-use c_cursor::words::is_keyword;
+use crate::cursor::cursor::Cursor;
+use crate::cursor::joiner::Joiner;
+use crate::cursor::stop::Stop;
+use crate::cursor::types::closed_kind;
+use crate::cursor::words::is_keyword;
 use c_token::punct::Punct;
 use c_token::token::TokenKind;
 use c_tree::expression::{Expr, Target};

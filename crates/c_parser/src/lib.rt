@@ -1,6 +1,14 @@
 //! The syntax tree of a list of tokens.
 #![tactic(auto)]
 
+mod action;
+mod chain;
+pub mod cursor;
+mod expression;
+mod function;
+mod object;
+mod statement;
+
 ghost use Rattle.std.specs.Prelude.{◌≡◌, IfOk};
 ghost use Rattle.hls_base.specs.Refusals.{IfRefused};
 ghost use Rattle.c_tree.specs.Terminals.{terminals};
@@ -8,13 +16,6 @@ ghost use Rattle.c_tree.specs.Tree.{ProgramTree};
 ghost use Rattle.c_tree.specs.View.{program_of};
 ghost use Rattle.c_tree.specs.Grammar.{DerivesProgram};
 ghost use Rattle.c_tree.specs.Refusal.{IsFaultOf, IsProgram, FaultsOnce};
-
-mod action;
-mod chain;
-mod expression;
-mod function;
-mod object;
-mod statement;
 
 use crate::function::build;
 use c_syntax::find_fault;

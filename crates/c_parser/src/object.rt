@@ -3,14 +3,14 @@ ghost use Rattle.std.specs.Prelude.{◌≡◌, ◌<◌, ◌≤◌, IfOk, OnOk, l
 ghost use Rattle.std.specs.Option.{option_map};
 ghost use Rattle.c_token.specs.declared.punct.Punct.TheVariants as p;
 ghost use Rattle.c_tree.specs.View.{tree_of, init_of, object_of};
-ghost use Rattle.c_cursor.specs.Readings.{Found, Never, Anywhere, Closed, Listed, Ends, Lacks, sign_level};
+ghost use Rattle.c_parser.specs.Cursor.Readings.{Found, Never, Anywhere, Closed, Listed, Ends, Lacks, sign_level};
 ghost use Rattle.c_parser.specs.Objects.{OptionalExpression, closes_optional, Lengths, AnInit, InitItems, AnInitialiser, AnObject, ADeclaration, Separator};
-ghost use Rattle.c_cursor.specs.Stops.{IfAbsent};
+ghost use Rattle.c_parser.specs.Cursor.Stops.{IfAbsent};
 
+use crate::cursor::cursor::Cursor;
+use crate::cursor::stop::Stop;
+use crate::cursor::types::{ValueKind, value_kind};
 use crate::expression::{ASSIGN, CHOICE, closed, expression};
-use c_cursor::cursor::Cursor;
-use c_cursor::stop::Stop;
-use c_cursor::types::{ValueKind, value_kind};
 use c_token::punct::Punct;
 use c_tree::expression::Expr;
 use c_tree::object::{Init, Object};

@@ -2,17 +2,17 @@
 ghost use Rattle.std.specs.Prelude.{◌<◌, IfOk, OnOk, length, map};
 ghost use Rattle.std.specs.Option.{option_map};
 ghost use Rattle.c_tree.specs.View.{tree_of, stmt_of, first_part};
-ghost use Rattle.c_cursor.specs.Readings.{Found, Never, Anywhere};
+ghost use Rattle.c_parser.specs.Cursor.Readings.{Found, Never, Anywhere};
 ghost use Rattle.c_parser.specs.Statements.{Statement, ElseFits, Block, Local, BodyUpTo, First, ForHead, head_of, Condition, Branches, DoTail, Behind};
-ghost use Rattle.c_cursor.specs.declared.keyword.Keyword.TheVariants as w;
-ghost use Rattle.c_cursor.specs.Stops.{IfAbsent};
+ghost use Rattle.c_parser.specs.declared.cursor.keyword.Keyword.TheVariants as w;
+ghost use Rattle.c_parser.specs.Cursor.Stops.{IfAbsent};
 
 use crate::action::{action_list, actions};
+use crate::cursor::cursor::Cursor;
+use crate::cursor::keyword::Keyword;
+use crate::cursor::stop::Stop;
 use crate::expression::{CHOICE, COMMA, closed};
 use crate::object::{declaration, optional};
-use c_cursor::cursor::Cursor;
-use c_cursor::keyword::Keyword;
-use c_cursor::stop::Stop;
 use c_token::punct::Punct;
 use c_tree::action::Action;
 use c_tree::expression::Expr;
@@ -21,7 +21,7 @@ use hls_base::place::Place;
 use std::alloc::Global;
 
 /// The parts of a `for` before its body, C11 6.8.5.3.
-#[derive(Debug, Drop)]
+#[derive(Drop)]
 struct Head {
     init: Option<Stmt>,
     test: Option<Expr>,

@@ -13,13 +13,13 @@ use Rattle.c_tree.specs.Tree.{TargetTree, Trees, ActionTree}
 use Rattle.c_tree.specs.Grammar as g
 use Rattle.c_tree.specs.Grammar.{Derives, DerivesTarget, DerivesSubscripts, DerivesArguments, DerivesList, DerivesChange}
 use Rattle.c_tree.specs.Limits.{Mark, plain, closing, inside, held, pair, whole, marks, target_marks, subscript_marks}
-use Rattle.syntax_steps.specs.declared.goal.Goal.{Goal}
-use Rattle.syntax_steps.specs.declared.goal.Goal.TheVariants as G
-use Rattle.syntax_steps.specs.declared.goal.Spot.{Spot}
-use Rattle.syntax_sorts.specs.declared.sort.Sort.{Sort}
-use Rattle.syntax_sorts.specs.declared.sort.Sort.TheVariants as o
-use Rattle.syntax_sorts.specs.Sorts.{sort_of, sort_of_sign}
-use Rattle.syntax_steps.specs.Steps.{deeper, opened, step_of, is_optional, taken_or, next, all_optional}
+use Rattle.c_syntax.specs.declared.steps.goal.Goal.{Goal}
+use Rattle.c_syntax.specs.declared.steps.goal.Goal.TheVariants as G
+use Rattle.c_syntax.specs.declared.steps.goal.Spot.{Spot}
+use Rattle.c_syntax.specs.declared.sorts.sort.Sort.{Sort}
+use Rattle.c_syntax.specs.declared.sorts.sort.Sort.TheVariants as o
+use Rattle.c_syntax.specs.Sorts.{sort_of, sort_of_sign}
+use Rattle.c_syntax.specs.Steps.{deeper, opened, step_of, is_optional, taken_or, next, all_optional}
 use Rattle.c_syntax.proofs.Seen.{name_sort}
 use Rattle.c_syntax.proofs.Noting.{Noted, hold_from}
 use Rattle.c_syntax.proofs.Marking.{run, going, place, count_at, count_after, noted_at, place-append, place-inside, count-inside, place-whole, count-whole, place-closing, place-pair, count-pair, SomeMarks, opened_at, place_opened, place_opened-append, held_from, opened_held}

@@ -15,13 +15,13 @@ use Rattle.c_tree.specs.Kinds.{DerivesKind}
 use Rattle.c_tree.specs.Grammar as g
 use Rattle.c_tree.specs.Grammar.{Derives, DerivesTarget, DerivesSubscripts, DerivesArguments, DerivesList, DerivesChange}
 use Rattle.c_tree.specs.Limits.{Mark, plain, operator, closing, inside, held, pair, whole, flat, marks, target_marks, subscript_marks, argument_marks, list_marks}
-use Rattle.syntax_steps.specs.declared.goal.Goal.{Goal}
-use Rattle.syntax_steps.specs.declared.goal.Goal.TheVariants as G
-use Rattle.syntax_steps.specs.declared.goal.Spot.{Spot}
-use Rattle.syntax_sorts.specs.declared.sort.Sort.{Sort}
-use Rattle.syntax_sorts.specs.declared.sort.Sort.TheVariants as o
-use Rattle.syntax_sorts.specs.Sorts.{sort_of, sort_of_sign, begins_operand, begins_kind}
-use Rattle.syntax_steps.specs.Steps.{Step, deeper, more, fresh, step_of, taken_or, next, behind, assign, expression, kind}
+use Rattle.c_syntax.specs.declared.steps.goal.Goal.{Goal}
+use Rattle.c_syntax.specs.declared.steps.goal.Goal.TheVariants as G
+use Rattle.c_syntax.specs.declared.steps.goal.Spot.{Spot}
+use Rattle.c_syntax.specs.declared.sorts.sort.Sort.{Sort}
+use Rattle.c_syntax.specs.declared.sorts.sort.Sort.TheVariants as o
+use Rattle.c_syntax.specs.Sorts.{sort_of, sort_of_sign, begins_operand, begins_kind}
+use Rattle.c_syntax.specs.Steps.{Step, deeper, more, fresh, step_of, taken_or, next, behind, assign, expression, kind}
 use Rattle.c_syntax.proofs.Seen.{name_sort}
 use Rattle.c_syntax.proofs.Attach.{lowest, highest}
 use Rattle.c_syntax.proofs.Noting.{Noted, hold_behind}

@@ -14,13 +14,13 @@ use Rattle.c_tree.specs.Kinds as kinds
 use Rattle.c_tree.specs.Grammar as g
 use Rattle.c_tree.specs.Grammar.{DerivesInitialiser, DerivesLengths, DerivesObjects, DerivesDeclaration, DerivesParam, DerivesParamList, DerivesParams, DerivesDefinition, DerivesItem, DerivesItems}
 use Rattle.c_tree.specs.Limits.{plain, closing, pair, flat, length_marks, initialiser_marks, objects_marks, param_marks, param_list_marks, params_marks, definition_marks, item_marks, item_list_marks}
-use Rattle.syntax_steps.specs.declared.goal.Goal.{Goal}
-use Rattle.syntax_steps.specs.declared.goal.Goal.TheVariants as G
-use Rattle.syntax_steps.specs.declared.goal.Spot.{Spot}
-use Rattle.syntax_sorts.specs.declared.sort.Sort.{Sort}
-use Rattle.syntax_sorts.specs.declared.sort.Sort.TheVariants as o
-use Rattle.syntax_sorts.specs.Sorts.{sort_of, begins_kind}
-use Rattle.syntax_steps.specs.Steps.{deeper, step_of, taken_or, next, behind, kind, params, param_goals, item}
+use Rattle.c_syntax.specs.declared.steps.goal.Goal.{Goal}
+use Rattle.c_syntax.specs.declared.steps.goal.Goal.TheVariants as G
+use Rattle.c_syntax.specs.declared.steps.goal.Spot.{Spot}
+use Rattle.c_syntax.specs.declared.sorts.sort.Sort.{Sort}
+use Rattle.c_syntax.specs.declared.sorts.sort.Sort.TheVariants as o
+use Rattle.c_syntax.specs.Sorts.{sort_of, begins_kind}
+use Rattle.c_syntax.specs.Steps.{deeper, step_of, taken_or, next, behind, kind, params, param_goals, item}
 use Rattle.c_syntax.proofs.Seen.{name_sort, specifier_sort}
 use Rattle.c_syntax.proofs.Noting.{Noted}
 use Rattle.c_syntax.proofs.Marking.{run, going, put, put_at, put-append, put-pair, put-flat}

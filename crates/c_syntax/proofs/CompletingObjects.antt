@@ -11,13 +11,13 @@ use Rattle.c_tree.specs.Tree.{Tree, TargetTree, Trees, ActionTree, InitTree, Ini
 use Rattle.c_tree.specs.Grammar as g
 use Rattle.c_tree.specs.Grammar.{Derives, DerivesSubscripts, DerivesOptional, DerivesChange, DerivesAction, DerivesActionList, DerivesActions, DerivesInit, DerivesInits, DerivesInitialiser, DerivesLengths, DerivesObject, DerivesObjects, DerivesDeclaration}
 use Rattle.c_tree.specs.Limits.{plain, closing, whole, flat, marks, target_marks, subscript_marks, optional_marks, change_marks, action_marks, action_list_marks, actions_marks, init_marks, inits_marks, initialiser_marks, length_marks, object_marks, objects_marks, declaration_marks}
-use Rattle.syntax_steps.specs.declared.goal.Goal.{Goal}
-use Rattle.syntax_steps.specs.declared.goal.Goal.TheVariants as G
-use Rattle.syntax_steps.specs.declared.goal.Spot.{Spot}
-use Rattle.syntax_sorts.specs.declared.sort.Sort.{Sort}
-use Rattle.syntax_sorts.specs.declared.sort.Sort.TheVariants as o
-use Rattle.syntax_sorts.specs.Sorts.{sort_of, begins_operand}
-use Rattle.syntax_steps.specs.Steps.{Step, deeper, opened, step_of, taken_or, next, behind, choice, assign, action, init}
+use Rattle.c_syntax.specs.declared.steps.goal.Goal.{Goal}
+use Rattle.c_syntax.specs.declared.steps.goal.Goal.TheVariants as G
+use Rattle.c_syntax.specs.declared.steps.goal.Spot.{Spot}
+use Rattle.c_syntax.specs.declared.sorts.sort.Sort.{Sort}
+use Rattle.c_syntax.specs.declared.sorts.sort.Sort.TheVariants as o
+use Rattle.c_syntax.specs.Sorts.{sort_of, begins_operand}
+use Rattle.c_syntax.specs.Steps.{Step, deeper, opened, step_of, taken_or, next, behind, choice, assign, action, init}
 use Rattle.c_syntax.proofs.Seen.{name_sort}
 use Rattle.c_syntax.proofs.Noting.{Noted}
 use Rattle.c_syntax.proofs.Marking.{run, going, place, count_after, noted_at, put, put_at, put-append, put-pair, put-whole, put-flat, place-pair, place-whole, count-whole, SomeMarks, marks_more, from_plain, whole_some, opened_at, place_opened, put_opened, put_opened-append, put_opened-same, put_opened-whole}

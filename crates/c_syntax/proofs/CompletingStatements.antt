@@ -8,13 +8,13 @@ use Rattle.c_tree.specs.Tree.{Tree, ActionTree, ObjectTree, StmtTree, StmtTrees,
 use Rattle.c_tree.specs.Grammar as g
 use Rattle.c_tree.specs.Grammar.{Derives, DerivesActions, DerivesDeclaration, DerivesStatement, DerivesFirst, DerivesBlock, DerivesBody, ends_open}
 use Rattle.c_tree.specs.Limits.{plain, closing, held, pair, whole, marks, optional_marks, action_list_marks, actions_marks, declaration_marks, statement_marks, first_marks, body_marks}
-use Rattle.syntax_steps.specs.declared.goal.Goal.{Goal}
-use Rattle.syntax_steps.specs.declared.goal.Goal.TheVariants as G
-use Rattle.syntax_steps.specs.declared.goal.Spot.{Spot}
-use Rattle.syntax_sorts.specs.declared.sort.Sort.{Sort}
-use Rattle.syntax_sorts.specs.declared.sort.Sort.TheVariants as o
-use Rattle.syntax_sorts.specs.Sorts.{sort_of, begins_operand, begins_kind}
-use Rattle.syntax_steps.specs.Steps.{deeper, fresh, opened, step_of, taken_or, next, behind, kind, object_goals, declaration, statement, body, first, first_action}
+use Rattle.c_syntax.specs.declared.steps.goal.Goal.{Goal}
+use Rattle.c_syntax.specs.declared.steps.goal.Goal.TheVariants as G
+use Rattle.c_syntax.specs.declared.steps.goal.Spot.{Spot}
+use Rattle.c_syntax.specs.declared.sorts.sort.Sort.{Sort}
+use Rattle.c_syntax.specs.declared.sorts.sort.Sort.TheVariants as o
+use Rattle.c_syntax.specs.Sorts.{sort_of, begins_operand, begins_kind}
+use Rattle.c_syntax.specs.Steps.{deeper, fresh, opened, step_of, taken_or, next, behind, kind, object_goals, declaration, statement, body, first, first_action}
 use Rattle.c_syntax.proofs.Noting.{Noted}
 use Rattle.c_syntax.proofs.Marking.{run, going, put, put_at, put-append, put-pair, SomeMarks, marks_more, from_plain, opening, put_opened, put_opened-append, put-held, put-held-plain}
 use Rattle.c_syntax.proofs.Completing.{at_first, spot_at, skip, run_opened}

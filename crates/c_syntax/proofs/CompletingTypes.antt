@@ -9,16 +9,16 @@ use Rattle.c_tree.specs.Terminals.{Terminal, terminal, word}
 use Rattle.c_tree.specs.Kinds.{DerivesWords, DerivesKind, type_of_words, specifier_of}
 use Rattle.c_tree.specs.Kinds as kinds
 use Rattle.c_tree.specs.Limits.{plain, flat}
-use Rattle.syntax_steps.specs.declared.goal.Goal.{Goal}
-use Rattle.syntax_steps.specs.declared.goal.Goal.TheVariants as G
-use Rattle.syntax_steps.specs.declared.goal.Spot.{Spot}
-use Rattle.syntax_sorts.specs.declared.sort.Sort.{Sort}
-use Rattle.syntax_sorts.specs.declared.sort.Sort.TheVariants as o
-use Rattle.syntax_sorts.specs.declared.words.Words.{Words}
-use Rattle.syntax_sorts.specs.declared.words.Words.TheVariants as w
-use Rattle.syntax_sorts.specs.Sorts.{sort_of, begins_kind}
-use Rattle.syntax_steps.specs.Steps.{step_of, taken_or, next, typed_if}
-use Rattle.syntax_sorts.specs.Words.{with_word, starting}
+use Rattle.c_syntax.specs.declared.steps.goal.Goal.{Goal}
+use Rattle.c_syntax.specs.declared.steps.goal.Goal.TheVariants as G
+use Rattle.c_syntax.specs.declared.steps.goal.Spot.{Spot}
+use Rattle.c_syntax.specs.declared.sorts.sort.Sort.{Sort}
+use Rattle.c_syntax.specs.declared.sorts.sort.Sort.TheVariants as o
+use Rattle.c_syntax.specs.declared.sorts.words.Words.{Words}
+use Rattle.c_syntax.specs.declared.sorts.words.Words.TheVariants as w
+use Rattle.c_syntax.specs.Sorts.{sort_of, begins_kind}
+use Rattle.c_syntax.specs.Steps.{step_of, taken_or, next, typed_if}
+use Rattle.c_syntax.specs.Sorts.Words.{with_word, starting}
 use Rattle.c_syntax.proofs.Seen.{specifier_sort}
 use Rattle.c_syntax.proofs.TypeWords.{Same, words_of, is_state, grows, starts, blocked, type_of-Same, same_more, same_trans, same_middle, void_first, void_alone}
 use Rattle.c_syntax.proofs.Noting.{Noted}

@@ -12,19 +12,19 @@ use Rattle.c_tree.specs.Terminals.{Terminal, terminals, terminal_of}
 use Rattle.c_tree.specs.Grammar.{DerivesItems}
 use Rattle.c_tree.specs.Limits.{Mark, plain, item_list_marks, mark_at, exceeds, nesting_limit}
 use Rattle.c_tree.specs.Refusal.{Begins, Stops, IsBeyond, IsFull, NoneBeyond, AtStop, IsFaultOf, beyond_limit, at_stop, IsProgram, refusal, rule_of}
-use Rattle.syntax_steps.specs.declared.goal.Goal.{Goal}
-use Rattle.syntax_steps.specs.declared.goal.Goal.TheVariants as G
-use Rattle.syntax_steps.specs.declared.goal.Spot.{Spot}
-use Rattle.syntax_steps.specs.declared.goal.Take.{Take}
-use Rattle.syntax_sorts.specs.declared.sort.Sort.{Sort}
-use Rattle.syntax_steps.specs.declared.advance.Advance.{Advance}
-use Rattle.syntax_steps.specs.declared.advance.Advance.TheVariants as a
-use Rattle.syntax_steps.specs.Advances.{Advances}
+use Rattle.c_syntax.specs.declared.steps.goal.Goal.{Goal}
+use Rattle.c_syntax.specs.declared.steps.goal.Goal.TheVariants as G
+use Rattle.c_syntax.specs.declared.steps.goal.Spot.{Spot}
+use Rattle.c_syntax.specs.declared.steps.goal.Take.{Take}
+use Rattle.c_syntax.specs.declared.sorts.sort.Sort.{Sort}
+use Rattle.c_syntax.specs.declared.steps.advance.Advance.{Advance}
+use Rattle.c_syntax.specs.declared.steps.advance.Advance.TheVariants as a
+use Rattle.c_syntax.specs.Steps.Advances.{Advances}
 use Rattle.c_syntax.specs.Faults.{rule_at_stop}
 use Rattle.c_syntax.specs.Notes.{Shows}
 use Rattle.c_syntax.specs.Notes as shown
-use Rattle.syntax_sorts.specs.Sorts.{sort_of}
-use Rattle.syntax_steps.specs.Steps.{Step, next, is_optional, open_before, all_optional, first_open}
+use Rattle.c_syntax.specs.Sorts.{sort_of}
+use Rattle.c_syntax.specs.Steps.{Step, next, is_optional, open_before, all_optional, first_open}
 use Rattle.c_syntax.proofs.Stacks.{all_read_nothing}
 use Rattle.c_syntax.proofs.Ends.{Stands, stands_first, stands_next, take_more}
 use Rattle.c_syntax.proofs.Noting.{Noted, noting, raised, entry, is_beyond, thins, thins_length, thins_noting, thins_entry}

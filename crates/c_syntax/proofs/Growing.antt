@@ -4,11 +4,11 @@ use Rattle.std.specs.Prelude.{nat_lt, nat_eq, ◌||◌, if◌then◌else◌}
 use Rattle.std.proofs.lemmas.Bool.{lt-ltb, ltb-true, eqb-true}
 use Rattle.c_tree.specs.Terminals.{Terminal}
 use Rattle.c_tree.specs.Limits.{Mark, mark_at, exceeds}
-use Rattle.syntax_steps.specs.declared.goal.Goal.{Goal}
-use Rattle.syntax_steps.specs.declared.goal.Raise.{Raise}
-use Rattle.syntax_steps.specs.declared.goal.Raise.TheVariants as r
-use Rattle.syntax_sorts.specs.Sorts.{sort_of}
-use Rattle.syntax_steps.specs.Steps.{Step, deeper, next, all_optional}
+use Rattle.c_syntax.specs.declared.steps.goal.Goal.{Goal}
+use Rattle.c_syntax.specs.declared.steps.goal.Raise.{Raise}
+use Rattle.c_syntax.specs.declared.steps.goal.Raise.TheVariants as r
+use Rattle.c_syntax.specs.Sorts.{sort_of}
+use Rattle.c_syntax.specs.Steps.{Step, deeper, next, all_optional}
 use Rattle.c_syntax.proofs.Noting.{Noted, within, heading, hold_behind, hold_from, raised, is_beyond, entry}
 use Rattle.c_syntax.proofs.Marking.{note, going, run, sink, sink-deeper, put, put_at, StandsFor, stands_zero, stands_deeper, same_test}
 use Rattle.c_syntax.proofs.Completing.{spot_at}

@@ -3,7 +3,7 @@ use Rattle.std.proofs.Common.{◌≡◌, ℕ, suc, ◌+◌, ◌<◌, ◌≤◌, 
 use Rattle.std.specs.Prelude.{nat_lt, nat_eq, ◌||◌, if◌then◌else◌}
 use Rattle.std.proofs.lemmas.Bool.{lt-ltb, le-ltb, ltb-true, ltb-false, eqb-true, cases_order}
 use Rattle.std.proofs.lemmas.List.{get_or-take, get_or_append_left, get_or-append-add, length-take-le}
-use Rattle.syntax_steps.specs.Steps.{deeper}
+use Rattle.c_syntax.specs.Steps.{deeper}
 use Rattle.c_syntax.specs.Notes.{Noted, within, hold_behind, hold_from, entry, is_beyond, Shows}
 
 -- ---- entries

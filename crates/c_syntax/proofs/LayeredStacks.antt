@@ -2,13 +2,13 @@
 use Rattle.std.proofs.Common.{◌≡◌, ℕ, ◌≤◌, Bool, true, false, List, [], ◌∷◌, ◌++◌, Option, Some, None, ◌⊎◌, inl, inr, refl, ap, ◌∙◌, subst, arith}
 use Rattle.std.specs.Prelude.{if◌then◌else◌, ◌||◌}
 use Rattle.c_tree.specs.Terminals.{Terminal}
-use Rattle.syntax_steps.specs.declared.goal.Goal.{Goal}
-use Rattle.syntax_steps.specs.declared.goal.Goal.TheVariants as G
-use Rattle.syntax_steps.specs.declared.goal.Spot.{Spot}
-use Rattle.syntax_sorts.specs.declared.sort.Sort.{Sort}
-use Rattle.syntax_sorts.specs.declared.sort.Sort.TheVariants as o
-use Rattle.syntax_sorts.specs.Sorts.{sort_of}
-use Rattle.syntax_steps.specs.Steps.{Step, first, step_of, is_optional, open_before, taken_or, next, all_optional, first_open}
+use Rattle.c_syntax.specs.declared.steps.goal.Goal.{Goal}
+use Rattle.c_syntax.specs.declared.steps.goal.Goal.TheVariants as G
+use Rattle.c_syntax.specs.declared.steps.goal.Spot.{Spot}
+use Rattle.c_syntax.specs.declared.sorts.sort.Sort.{Sort}
+use Rattle.c_syntax.specs.declared.sorts.sort.Sort.TheVariants as o
+use Rattle.c_syntax.specs.Sorts.{sort_of}
+use Rattle.c_syntax.specs.Steps.{Step, first, step_of, is_optional, open_before, taken_or, next, all_optional, first_open}
 use Rattle.c_syntax.proofs.Shortest.{example, optional_example, completion}
 use Rattle.c_syntax.proofs.Layers.{floor, closes, names, Below, at_goal, over, bottom, Fits, AllFit, fits_append, Goes, same}
 use Rattle.c_syntax.proofs.LayeredSteps.{step_goes}

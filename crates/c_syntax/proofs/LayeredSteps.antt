@@ -2,15 +2,15 @@
 use Rattle.std.proofs.Common.{◌≡◌, ℕ, ◌≤◌, Bool, true, false, [], ◌∷◌, Option, Some, None, refl}
 use Rattle.std.specs.Prelude.{if◌then◌else◌, ◌||◌}
 use Rattle.c_tree.specs.declared.specifier.Specifier.TheVariants as s
-use Rattle.syntax_steps.specs.declared.goal.Goal.{Goal}
-use Rattle.syntax_steps.specs.declared.goal.Goal.TheVariants as G
-use Rattle.syntax_steps.specs.declared.goal.Spot.{Spot}
-use Rattle.syntax_sorts.specs.declared.sort.Sort.{Sort}
-use Rattle.syntax_sorts.specs.declared.sort.Sort.TheVariants as o
-use Rattle.syntax_sorts.specs.declared.words.Words.{Words}
-use Rattle.syntax_sorts.specs.Sorts.{begins_kind}
-use Rattle.syntax_steps.specs.Steps.{deeper, fresh, take, behind, closing, only_if, operand, target, subscripts, after_operand, choice, assign, arguments, more_arguments, commas, operators, choice_colon, after_target, expression, kind, typed_if, kind_words, group, object, more_objects, lengths, initialiser, init, more_inits, optional_init, object_goals, declaration, action, actions, more_actions, action_target, action_subscripts, first_action, selection, iteration, inner_statement, statement, other_branch, block, statement_or_declaration, body, first, item, items, function_name, declarator, after_declarator, definition, param_goals, params, more_params, optional_name, same_close, close, step_of, is_optional, open_before}
-use Rattle.syntax_sorts.specs.Words.{with_word}
+use Rattle.c_syntax.specs.declared.steps.goal.Goal.{Goal}
+use Rattle.c_syntax.specs.declared.steps.goal.Goal.TheVariants as G
+use Rattle.c_syntax.specs.declared.steps.goal.Spot.{Spot}
+use Rattle.c_syntax.specs.declared.sorts.sort.Sort.{Sort}
+use Rattle.c_syntax.specs.declared.sorts.sort.Sort.TheVariants as o
+use Rattle.c_syntax.specs.declared.sorts.words.Words.{Words}
+use Rattle.c_syntax.specs.Sorts.{begins_kind}
+use Rattle.c_syntax.specs.Steps.{deeper, fresh, take, behind, closing, only_if, operand, target, subscripts, after_operand, choice, assign, arguments, more_arguments, commas, operators, choice_colon, after_target, expression, kind, typed_if, kind_words, group, object, more_objects, lengths, initialiser, init, more_inits, optional_init, object_goals, declaration, action, actions, more_actions, action_target, action_subscripts, first_action, selection, iteration, inner_statement, statement, other_branch, block, statement_or_declaration, body, first, item, items, function_name, declarator, after_declarator, definition, param_goals, params, more_params, optional_name, same_close, close, step_of, is_optional, open_before}
+use Rattle.c_syntax.specs.Sorts.Words.{with_word}
 use Rattle.c_syntax.proofs.Growing.{deeper_more}
 use Rattle.c_syntax.proofs.Layers.{floor, Below, at_goal, Fits, Goes, goes_behind, goes_opened, same, up, either}
 

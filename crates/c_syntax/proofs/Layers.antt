@@ -1,9 +1,9 @@
 -- Goals on top of others: down the stack no more constructs are open, and what follows goals that need take nothing is none that they take.
 use Rattle.std.proofs.Common.{◌≡◌, ℕ, ◌≤◌, Bool, true, false, List, [], ◌∷◌, ◌++◌, Option, Some, None, refl, ap, sym, subst, arith}
 use Rattle.std.specs.Prelude.{if◌then◌else◌, ◌||◌}
-use Rattle.syntax_steps.specs.declared.goal.Goal.{Goal}
-use Rattle.syntax_steps.specs.declared.goal.Goal.TheVariants as G
-use Rattle.syntax_steps.specs.Steps.{Step, deeper, behind, opened, action, first, is_optional, open_before}
+use Rattle.c_syntax.specs.declared.steps.goal.Goal.{Goal}
+use Rattle.c_syntax.specs.declared.steps.goal.Goal.TheVariants as G
+use Rattle.c_syntax.specs.Steps.{Step, deeper, behind, opened, action, first, is_optional, open_before}
 use Rattle.c_syntax.proofs.Growing.{deeper_more}
 
 -- the constructs that hold all that is taken for a goal

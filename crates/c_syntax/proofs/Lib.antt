@@ -1,3 +1,5 @@
+pub mod SortsLemmas
+pub mod StepsLemmas
 pub mod Attach
 pub mod Seen
 pub mod TypeWords

@@ -4,10 +4,10 @@ use Rattle.std.specs.Prelude.{nat_le, nat_lt, nat_eq, if◌then◌else◌}
 use Rattle.std.proofs.lemmas.Bool.{le-leb, leb-true, lt-ltb, le-ltb, ltb-true, ltb-false, cases_order}
 use Rattle.c_tree.specs.Terminals.{Terminal}
 use Rattle.c_tree.specs.Limits.{Mark, plain, closing, deeper, inside, held, pair, counted, whole, flat, operator_limit}
-use Rattle.syntax_steps.specs.declared.goal.Goal.{Goal}
-use Rattle.syntax_sorts.specs.Sorts.{sort_of}
-use Rattle.syntax_steps.specs.Steps.{Step, more, is_surplus, next, all_optional}
-use Rattle.syntax_steps.specs.Steps as spec
+use Rattle.c_syntax.specs.declared.steps.goal.Goal.{Goal}
+use Rattle.c_syntax.specs.Sorts.{sort_of}
+use Rattle.c_syntax.specs.Steps.{Step, more, is_surplus, next, all_optional}
+use Rattle.c_syntax.specs.Steps as spec
 use Rattle.c_syntax.proofs.Noting.{Noted, within, heading, hold_behind, hold_from, raised}
 
 abbrev pub note : Step → Noted

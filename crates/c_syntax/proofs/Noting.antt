@@ -2,10 +2,10 @@
 use Rattle.std.proofs.Common.{◌≡◌, ℕ, Bool, true, false, List, [], ◌∷◌, length, map, refl, ap, sym, ◌∙◌}
 use Rattle.std.specs.Prelude.{nat_lt, nat_eq, ◌||◌, if◌then◌else◌}
 use Rattle.std.proofs.lemmas.List.{length-map}
-use Rattle.syntax_steps.specs.declared.goal.Raise.{Raise}
-use Rattle.syntax_steps.specs.declared.goal.Raise.TheVariants as r
-use Rattle.syntax_steps.specs.declared.goal.Take.{Take}
-use Rattle.syntax_steps.specs.Steps.{deeper}
+use Rattle.c_syntax.specs.declared.steps.goal.Raise.{Raise}
+use Rattle.c_syntax.specs.declared.steps.goal.Raise.TheVariants as r
+use Rattle.c_syntax.specs.declared.steps.goal.Take.{Take}
+use Rattle.c_syntax.specs.Steps.{deeper}
 use Rattle.c_syntax.specs.Notes as shown
 
 pub record Noted : Type 0 where

@@ -10,10 +10,10 @@ use Rattle.c_tree.specs.Terminals.{Terminal, terminal, sign, word, is_keyword, b
 use Rattle.c_tree.specs.Kinds.{DerivesWords, DerivesKind}
 use Rattle.c_tree.specs.Tree.{Tree, Trees, InitTree, InitTrees, ObjectTree, StmtTrees, FirstTree, ParamTree, ItemTree, ActionTree}
 use Rattle.c_tree.specs.Grammar.{DerivesSubscripts, DerivesArguments, DerivesList, DerivesOptional, DerivesActionList, DerivesActions, DerivesInit, DerivesInits, DerivesInitialiser, DerivesLengths, DerivesObject, DerivesObjects, DerivesDeclaration, DerivesFirst, DerivesBlock, DerivesBody, DerivesParam, DerivesParamList, DerivesParams, DerivesDefinition, DerivesItem, DerivesItems, unary_level, binary_level, choice_level, assign_level, comma_level}
-use Rattle.syntax_steps.specs.declared.goal.Goal.{Goal}
-use Rattle.syntax_steps.specs.declared.goal.Goal.TheVariants as G
-use Rattle.syntax_sorts.specs.declared.words.Words.{Words}
-use Rattle.syntax_sorts.specs.declared.words.Words.TheVariants as w
+use Rattle.c_syntax.specs.declared.steps.goal.Goal.{Goal}
+use Rattle.c_syntax.specs.declared.steps.goal.Goal.TheVariants as G
+use Rattle.c_syntax.specs.declared.sorts.words.Words.{Words}
+use Rattle.c_syntax.specs.declared.sorts.words.Words.TheVariants as w
 use Rattle.c_syntax.proofs.TypeWords.{Same, words_of, is_state}
 use Rattle.c_syntax.proofs.Attach.{Is, IsTarget, IsStatement}
 use Rattle.c_syntax.proofs.Outlines.{IsAction}

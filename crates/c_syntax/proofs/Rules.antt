@@ -10,9 +10,9 @@ use Rattle.c_tree.specs.declared.specifier.Specifier.{Specifier}
 use Rattle.c_tree.specs.declared.specifier.Specifier.TheVariants as s
 use Rattle.c_tree.specs.Kinds.{specifier_of}
 use Rattle.c_tree.specs.Refusal.{rule_of, unsupported}
-use Rattle.syntax_sorts.specs.declared.sort.Sort.{Sort}
-use Rattle.syntax_sorts.specs.declared.sort.Sort.TheVariants as o
-use Rattle.syntax_sorts.specs.Sorts.{sort_of, sort_of_sign, keyword_of, specifier_or, keyword_or, rule_of_sort}
+use Rattle.c_syntax.specs.declared.sorts.sort.Sort.{Sort}
+use Rattle.c_syntax.specs.declared.sorts.sort.Sort.TheVariants as o
+use Rattle.c_syntax.specs.Sorts.{sort_of, sort_of_sign, keyword_of, specifier_or, keyword_or, rule_of_sort}
 use Rattle.c_syntax.proofs.Seen.{specifier_spelled, specifier_text, keyword_spelled, keyword_text, is_keyword_sort}
 
 rule_of_sign : (punct : Punct) → rule_of_sort (sort_of_sign punct) ≡ rule_of (k.Punct punct)

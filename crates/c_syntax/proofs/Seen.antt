@@ -16,9 +16,9 @@ use Rattle.c_tree.specs.declared.specifier.Specifier.TheVariants as s
 use Rattle.c_tree.specs.Kinds.{specifier_of, specifier_words}
 use Rattle.c_tree.specs.Refusal.{unsupported}
 use Rattle.c_tree.specs.Terminals.{Terminal, terminal, sign, word, is_keyword, prefix_of, operator_of, assignment_of, bump_of}
-use Rattle.syntax_sorts.specs.declared.sort.Sort.{Sort}
-use Rattle.syntax_sorts.specs.declared.sort.Sort.TheVariants as o
-use Rattle.syntax_sorts.specs.Sorts.{sort_of, sort_of_sign, sort_of_word, keyword_of, keyword_sorts, specifier_or, keyword_or}
+use Rattle.c_syntax.specs.declared.sorts.sort.Sort.{Sort}
+use Rattle.c_syntax.specs.declared.sorts.sort.Sort.TheVariants as o
+use Rattle.c_syntax.specs.Sorts.{sort_of, sort_of_sign, sort_of_word, keyword_of, keyword_sorts, specifier_or, keyword_or}
 
 -- ---- words
 

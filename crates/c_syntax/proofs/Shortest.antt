@@ -10,15 +10,15 @@ use Rattle.c_tree.specs.Tree as tree
 use Rattle.c_tree.specs.Tree.{ObjectTree}
 use Rattle.c_tree.specs.Kinds as kinds
 use Rattle.c_tree.specs.Grammar as g
-use Rattle.syntax_steps.specs.declared.goal.Goal.{Goal}
-use Rattle.syntax_steps.specs.declared.goal.Goal.TheVariants as G
-use Rattle.syntax_steps.specs.declared.goal.Raise.{Raise}
-use Rattle.syntax_steps.specs.declared.goal.Raise.TheVariants as r
-use Rattle.syntax_steps.specs.declared.goal.Spot.{Spot}
-use Rattle.syntax_sorts.specs.declared.sort.Sort.{Sort}
-use Rattle.syntax_sorts.specs.declared.sort.Sort.TheVariants as o
-use Rattle.syntax_sorts.specs.Sorts.{sort_of}
-use Rattle.syntax_steps.specs.Steps.{Step, step_of, is_optional, taken_or, next, all_optional}
+use Rattle.c_syntax.specs.declared.steps.goal.Goal.{Goal}
+use Rattle.c_syntax.specs.declared.steps.goal.Goal.TheVariants as G
+use Rattle.c_syntax.specs.declared.steps.goal.Raise.{Raise}
+use Rattle.c_syntax.specs.declared.steps.goal.Raise.TheVariants as r
+use Rattle.c_syntax.specs.declared.steps.goal.Spot.{Spot}
+use Rattle.c_syntax.specs.declared.sorts.sort.Sort.{Sort}
+use Rattle.c_syntax.specs.declared.sorts.sort.Sort.TheVariants as o
+use Rattle.c_syntax.specs.Sorts.{sort_of}
+use Rattle.c_syntax.specs.Steps.{Step, step_of, is_optional, taken_or, next, all_optional}
 use Rattle.c_syntax.proofs.Noting.{Noted, raised}
 use Rattle.c_syntax.proofs.Attach.{Is, is_looser, name_target}
 use Rattle.c_syntax.proofs.Outlines.{value_is}

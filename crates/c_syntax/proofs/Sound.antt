@@ -10,11 +10,11 @@ use Rattle.c_tree.specs.Terminals.{Terminal, terminal, sign, word, is_keyword, o
 use Rattle.c_tree.specs.Tree as tree
 use Rattle.c_tree.specs.Grammar as g
 use Rattle.c_tree.specs.Grammar.{unary_level, binary_level, choice_level, assign_level, comma_level}
-use Rattle.syntax_steps.specs.declared.goal.Goal.{Goal}
-use Rattle.syntax_steps.specs.declared.goal.Goal.TheVariants as G
-use Rattle.syntax_steps.specs.declared.goal.Spot.{Spot}
-use Rattle.syntax_sorts.specs.declared.sort.Sort.{Sort}
-use Rattle.syntax_steps.specs.Steps.{Step, behind, opened, operand, target, subscripts, after_operand, choice, assign, arguments, more_arguments, commas, operators, choice_colon, assignment, after_target, expression, action, actions, more_actions, action_target, action_subscripts}
+use Rattle.c_syntax.specs.declared.steps.goal.Goal.{Goal}
+use Rattle.c_syntax.specs.declared.steps.goal.Goal.TheVariants as G
+use Rattle.c_syntax.specs.declared.steps.goal.Spot.{Spot}
+use Rattle.c_syntax.specs.declared.sorts.sort.Sort.{Sort}
+use Rattle.c_syntax.specs.Steps.{Step, behind, opened, operand, target, subscripts, after_operand, choice, assign, arguments, more_arguments, commas, operators, choice_colon, assignment, after_target, expression, action, actions, more_actions, action_target, action_subscripts}
 use Rattle.c_syntax.proofs.Seen.{Seen}
 use Rattle.c_syntax.proofs.Seen as seen
 use Rattle.c_syntax.proofs.Attach.{Is, IsTarget, is_looser, attach, target_with, name_target, target_is, bumped_is}

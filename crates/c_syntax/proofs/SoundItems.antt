@@ -9,12 +9,12 @@ use Rattle.c_tree.specs.Tree as tree
 use Rattle.c_tree.specs.Kinds.{DerivesKind}
 use Rattle.c_tree.specs.Grammar as g
 use Rattle.c_tree.proofs.Firsts.{kind_first, first_begins}
-use Rattle.syntax_steps.specs.declared.goal.Goal.TheVariants as G
-use Rattle.syntax_steps.specs.declared.goal.Spot.{Spot}
-use Rattle.syntax_sorts.specs.declared.sort.Sort.{Sort}
-use Rattle.syntax_sorts.specs.declared.words.Words.{Words}
-use Rattle.syntax_steps.specs.Steps.{deeper, item, items, function_name, declarator, after_declarator, definition, params, more_params, param_goals, optional_name, kind}
-use Rattle.syntax_sorts.specs.Words.{starting}
+use Rattle.c_syntax.specs.declared.steps.goal.Goal.TheVariants as G
+use Rattle.c_syntax.specs.declared.steps.goal.Spot.{Spot}
+use Rattle.c_syntax.specs.declared.sorts.sort.Sort.{Sort}
+use Rattle.c_syntax.specs.declared.sorts.words.Words.{Words}
+use Rattle.c_syntax.specs.Steps.{deeper, item, items, function_name, declarator, after_declarator, definition, params, more_params, param_goals, optional_name, kind}
+use Rattle.c_syntax.specs.Sorts.Words.{starting}
 use Rattle.c_syntax.proofs.Seen.{Seen, specifier_spelled}
 use Rattle.c_syntax.proofs.Seen as seen
 use Rattle.c_syntax.proofs.TypeWords.{is_words}

@@ -7,12 +7,12 @@ use Rattle.c_tree.specs.Tree as tree
 use Rattle.c_tree.specs.Tree.{StmtTrees}
 use Rattle.c_tree.specs.Grammar as g
 use Rattle.c_tree.specs.Grammar.{unary_level, choice_level, assign_level, comma_level, DerivesBody}
-use Rattle.syntax_steps.specs.declared.goal.Goal.{Goal}
-use Rattle.syntax_steps.specs.declared.goal.Goal.TheVariants as G
-use Rattle.syntax_steps.specs.declared.goal.Spot.{Spot}
-use Rattle.syntax_sorts.specs.declared.sort.Sort.{Sort}
-use Rattle.syntax_sorts.specs.Sorts.{begins_kind}
-use Rattle.syntax_steps.specs.Steps.{fresh, deeper, first_action, selection, iteration, inner_statement, statement, other_branch, block, statement_or_declaration, body, first, action, declaration}
+use Rattle.c_syntax.specs.declared.steps.goal.Goal.{Goal}
+use Rattle.c_syntax.specs.declared.steps.goal.Goal.TheVariants as G
+use Rattle.c_syntax.specs.declared.steps.goal.Spot.{Spot}
+use Rattle.c_syntax.specs.declared.sorts.sort.Sort.{Sort}
+use Rattle.c_syntax.specs.Sorts.{begins_kind}
+use Rattle.c_syntax.specs.Steps.{fresh, deeper, first_action, selection, iteration, inner_statement, statement, other_branch, block, statement_or_declaration, body, first, action, declaration}
 use Rattle.c_syntax.proofs.Seen.{Seen}
 use Rattle.c_syntax.proofs.Seen as seen
 use Rattle.c_syntax.proofs.Attach.{Is, IsStatement, if_with_else}

@@ -13,14 +13,14 @@ use Rattle.c_tree.specs.Kinds.{DerivesWords, DerivesKind, type_of_words, specifi
 use Rattle.c_tree.specs.Kinds as kinds
 use Rattle.c_tree.specs.Grammar as g
 use Rattle.c_tree.specs.Grammar.{unary_level, choice_level, assign_level, comma_level}
-use Rattle.syntax_steps.specs.declared.goal.Goal.TheVariants as G
-use Rattle.syntax_steps.specs.declared.goal.Spot.{Spot}
-use Rattle.syntax_sorts.specs.declared.sort.Sort.{Sort}
-use Rattle.syntax_sorts.specs.declared.words.Words.{Words}
-use Rattle.syntax_sorts.specs.declared.words.Words.TheVariants as w
-use Rattle.syntax_sorts.specs.Sorts.{begins_kind}
-use Rattle.syntax_steps.specs.Steps.{behind, fresh, deeper, typed_if, kind, kind_words, group, object, more_objects, lengths, initialiser, init, more_inits, optional_init, object_goals, declaration, expression, assign}
-use Rattle.syntax_sorts.specs.Words.{with_word, starting}
+use Rattle.c_syntax.specs.declared.steps.goal.Goal.TheVariants as G
+use Rattle.c_syntax.specs.declared.steps.goal.Spot.{Spot}
+use Rattle.c_syntax.specs.declared.sorts.sort.Sort.{Sort}
+use Rattle.c_syntax.specs.declared.sorts.words.Words.{Words}
+use Rattle.c_syntax.specs.declared.sorts.words.Words.TheVariants as w
+use Rattle.c_syntax.specs.Sorts.{begins_kind}
+use Rattle.c_syntax.specs.Steps.{behind, fresh, deeper, typed_if, kind, kind_words, group, object, more_objects, lengths, initialiser, init, more_inits, optional_init, object_goals, declaration, expression, assign}
+use Rattle.c_syntax.specs.Sorts.Words.{with_word, starting}
 use Rattle.c_syntax.proofs.Seen.{Seen}
 use Rattle.c_syntax.proofs.Seen as seen
 use Rattle.c_syntax.proofs.TypeWords.{Same, words_of, is_words, grows, grown, starts, type_of-Same, value_type, same_more, same_trans}

@@ -8,13 +8,13 @@ use Rattle.c_tree.specs.Terminals.{Terminal, sign, word}
 use Rattle.c_tree.specs.Tree as tree
 use Rattle.c_tree.specs.Grammar as g
 use Rattle.c_tree.specs.Grammar.{choice_level}
-use Rattle.syntax_steps.specs.declared.goal.Goal.{Goal}
-use Rattle.syntax_steps.specs.declared.goal.Goal.TheVariants as G
-use Rattle.syntax_steps.specs.declared.goal.Spot.{Spot}
-use Rattle.syntax_sorts.specs.declared.sort.Sort.{Sort}
-use Rattle.syntax_sorts.specs.declared.sort.Sort.TheVariants as o
-use Rattle.syntax_sorts.specs.Sorts.{sort_of}
-use Rattle.syntax_steps.specs.Steps.{Step, step_of, is_optional, taken_or, next, all_optional, close, same_close, only_if, deeper, take}
+use Rattle.c_syntax.specs.declared.steps.goal.Goal.{Goal}
+use Rattle.c_syntax.specs.declared.steps.goal.Goal.TheVariants as G
+use Rattle.c_syntax.specs.declared.steps.goal.Spot.{Spot}
+use Rattle.c_syntax.specs.declared.sorts.sort.Sort.{Sort}
+use Rattle.c_syntax.specs.declared.sorts.sort.Sort.TheVariants as o
+use Rattle.c_syntax.specs.Sorts.{sort_of}
+use Rattle.c_syntax.specs.Steps.{Step, step_of, is_optional, taken_or, next, all_optional, close, same_close, only_if, deeper, take}
 use Rattle.c_syntax.proofs.Seen.{Seen, seen}
 use Rattle.c_syntax.proofs.Seen as seen_
 use Rattle.c_syntax.proofs.Attach.{Is, is_looser, target_is, IsTarget, name_target}

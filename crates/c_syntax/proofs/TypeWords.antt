@@ -6,11 +6,11 @@ use Rattle.c_token.specs.declared.ctype.CType.{CType}
 use Rattle.c_tree.specs.declared.specifier.Specifier.{Specifier}
 use Rattle.c_tree.specs.declared.specifier.Specifier.TheVariants as s
 use Rattle.c_tree.specs.Kinds.{same_specifier, put_back, without_one, and_then, same_words, Row, rows, row_with, type_of_words}
-use Rattle.syntax_sorts.specs.declared.words.Words.{Words}
-use Rattle.syntax_sorts.specs.declared.words.Words.TheVariants as w
-use Rattle.syntax_sorts.specs.declared.words.Signedness.{Signedness}
-use Rattle.syntax_sorts.specs.declared.words.Signedness.TheVariants as g
-use Rattle.syntax_sorts.specs.Words.{with_word, starting}
+use Rattle.c_syntax.specs.declared.sorts.words.Words.{Words}
+use Rattle.c_syntax.specs.declared.sorts.words.Words.TheVariants as w
+use Rattle.c_syntax.specs.declared.sorts.words.Signedness.{Signedness}
+use Rattle.c_syntax.specs.declared.sorts.words.Signedness.TheVariants as g
+use Rattle.c_syntax.specs.Sorts.Words.{with_word, starting}
 
 -- ---- how often a word is among others
 

@@ -1,2 +1,4 @@
+pub mod Sorts
+pub mod Steps
 pub mod Notes
 pub mod Faults

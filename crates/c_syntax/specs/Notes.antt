@@ -1,9 +1,9 @@
 -- What is noted of each token that was taken, the last one first.
 use Rattle.std.specs.Prelude.{◌≡◌, ℕ, ◌<◌, ◌≤◌, nat_lt, nat_eq, ◌||◌, Bool, true, false, List, [], ◌∷◌, length, get_or, if◌then◌else◌}
-use Rattle.syntax_steps.specs.declared.goal.Raise.{Raise}
-use Rattle.syntax_steps.specs.declared.goal.Raise.TheVariants as r
-use Rattle.syntax_steps.specs.declared.goal.Take.{Take}
-use Rattle.syntax_steps.specs.Steps.{deeper}
+use Rattle.c_syntax.specs.declared.steps.goal.Raise.{Raise}
+use Rattle.c_syntax.specs.declared.steps.goal.Raise.TheVariants as r
+use Rattle.c_syntax.specs.declared.steps.goal.Take.{Take}
+use Rattle.c_syntax.specs.Steps.{deeper}
 
 -- how many constructs hold the token, and whether it is an operator too many
 pub record Noted : Type 0 where

@@ -1,10 +1,10 @@
 ghost use Rattle.std.specs.Prelude.{◌≡◌, ◌<◌, List, [], length, get_or, true, false, IfOk, MatchOption};
 ghost use Rattle.c_token.specs.declared.token.Token.{Token};
 
+use crate::steps::goal::{Raise, Take};
 use c_token::token::Token;
 use hls_base::place::Place;
 use std::alloc::{AllocError, Global};
-use syntax_steps::goal::{Raise, Take};
 
 /// The most constructs that may hold a token.
 pub const NESTING_LIMIT: u8 = 64;

@@ -1,24 +1,26 @@
 //! The first token of a token list that no program of C has there, or that is beyond the limits.
 #![tactic(auto)]
 
+mod depths;
+pub mod sorts;
+pub mod steps;
+
 ghost use Rattle.std.specs.Prelude.{◌≡◌, IfOk};
 ghost use Rattle.hls_base.specs.Refusals.{IfRefused};
 ghost use Rattle.c_tree.specs.Tree.{ProgramTree};
 ghost use Rattle.c_tree.specs.Terminals.{terminals};
 ghost use Rattle.c_tree.specs.Refusal.{IsFaultOf, IsProgram, FaultsOnce, refusal};
-ghost use Rattle.syntax_sorts.specs.Sorts.{sort_of, rule_of_sort};
+ghost use Rattle.c_syntax.specs.Sorts.{sort_of, rule_of_sort};
 ghost use Rattle.c_syntax.specs.Faults.{rule_at_stop};
 
-mod depths;
-
 use crate::depths::{Depths, NESTING_LIMIT};
+use crate::sorts::sort::{Sort, sort_of};
+use crate::steps::advance::{Advance, is_complete, take_token};
+use crate::steps::goal::{Spot, Stack};
 use c_token::token::Token;
 use hls_base::place::Place;
 use hls_base::refusal::{Fail, Refusal};
 use std::alloc::Global;
-use syntax_sorts::sort::{Sort, sort_of};
-use syntax_steps::advance::{Advance, is_complete, take_token};
-use syntax_steps::goal::{Spot, Stack};
 
 /// The rule of a token that no program has there.
 fn rule_of(sort: Sort) -> u8

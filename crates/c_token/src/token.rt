@@ -7,7 +7,7 @@ use hls_base::text::Text;
 use std::alloc::{AllocError, Global};
 
 /// What a token is. A `TypeWord` is one of the eight names of `stdint.h`, once that is included.
-#[derive(Debug, Drop)]
+#[derive(Drop)]
 pub enum TokenKind {
     Word(Text),
     Number { value: u64, kind: CType },
@@ -51,7 +51,7 @@ impl TokenKind {
 }
 
 /// A token: where it stands, whether it is the first of its line, and whether neither white space nor a comment stands directly before it.
-#[derive(Debug, Drop)]
+#[derive(Drop)]
 pub struct Token {
     pub kind: TokenKind,
     pub place: Place,

@@ -7,7 +7,7 @@ use crate::operator::Binary;
 use hls_base::place::Place;
 
 /// An expression whose value is not used, C11 6.8.3.
-#[derive(Debug, Drop)]
+#[derive(Drop)]
 pub enum Action {
     Assign {
         target: Target,

@@ -10,7 +10,7 @@ use std::alloc::{AllocError, Global};
 
 /// An expression, C11 6.5. The place of an operator is that of its token, that of a cast its `(`, and that of a name, an element or a call its name.
 #[cycle(expression)]
-#[derive(Debug, Drop)]
+#[derive(Drop)]
 pub enum Expr {
     Number {
         value: u64,
@@ -75,7 +75,7 @@ pub enum Expr {
 
 /// What is assigned: a scalar, or an element with its subscripts.
 #[cycle(expression)]
-#[derive(Debug, Drop)]
+#[derive(Drop)]
 pub struct Target {
     pub name: Text,
     pub subscripts: Vec<Expr>,

@@ -5,14 +5,14 @@ use hls_base::place::Place;
 use hls_base::text::Text;
 
 /// A parameter. One without a name has an empty name, and the place of the first token of its type.
-#[derive(Debug, Drop)]
+#[derive(Drop)]
 pub struct Param {
     pub object: Object,
     pub named: bool,
 }
 
 /// A function: a declaration, or a definition with its body. A result of `None` is `void`. Its place is its name.
-#[derive(Debug, Drop)]
+#[derive(Drop)]
 pub struct Function {
     pub name: Text,
     pub at: Place,

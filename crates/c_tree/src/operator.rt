@@ -1,5 +1,5 @@
 /// An operator before its operand, C11 6.5.3.3. `Not` is `~` and `LogNot` is `!`.
-#[derive(Clone, Copy, Debug, PartialEq, Eq)]
+#[derive(Clone, Copy, PartialEq, Eq)]
 pub enum Unary {
     Plus,
     Minus,
@@ -8,7 +8,7 @@ pub enum Unary {
 }
 
 /// An operator between two operands, C11 6.5.5 to 6.5.14. `And`, `Xor` and `Or` work bit by bit.
-#[derive(Clone, Copy, Debug, PartialEq, Eq)]
+#[derive(Clone, Copy, PartialEq, Eq)]
 pub enum Binary {
     Mul,
     Div,

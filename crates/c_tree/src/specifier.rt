@@ -1,5 +1,5 @@
 /// A word of a type, C11 6.7.2.
-#[derive(Clone, Copy, Debug, PartialEq, Eq)]
+#[derive(Clone, Copy, PartialEq, Eq)]
 pub enum Specifier {
     Void,
     Bool,

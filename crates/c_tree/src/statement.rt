@@ -11,7 +11,7 @@ use std::alloc::{AllocError, Global};
 
 /// A statement, C11 6.8, or a declaration in a block. Its place is its keyword. A `Case` without a value is a `default`.
 #[cycle(statement)]
-#[derive(Debug, Drop)]
+#[derive(Drop)]
 pub enum Stmt {
     Block(Vec<Stmt>),
     Declare(Vec<Object>),
@@ -59,7 +59,7 @@ pub enum Stmt {
 
 /// The second branch of an `if`, at its `else`.
 #[cycle(statement)]
-#[derive(Debug, Drop)]
+#[derive(Drop)]
 pub struct Else {
     pub at: Place,
     pub body: Box<Stmt>,

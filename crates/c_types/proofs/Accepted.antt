@@ -9,11 +9,11 @@ use Rattle.c_tree.specs.declared.statement.Stmt.{Stmt}
 use Rattle.c_tree.specs.View.{body_of}
 use Rattle.c_tree.specs.Tree as tree
 use Rattle.c_tree.specs.Tree.{ItemTree, ProgramTree}
-use Rattle.c_checked.specs.Faults.{is_lesser, lesser, least, IsLeast, fault_if}
-use Rattle.c_checked.specs.Recursion.{callers, recursion_faults}
-use Rattle.c_checked.specs.Limits.{limit_faults, new_function_places, file_arrays, file_objects, kept_faults}
-use Rattle.c_checked.specs.Programs.{items_faults, body_names, top_faults, program_faults, is_empty, body_name_of, is_body_of, top_name, is_faultless, is_well_formed}
-use Rattle.c_declarations.proofs.Least.{less-trans, less-trans-not}
+use Rattle.c_meaning.specs.Checks.Faults.{is_lesser, lesser, least, IsLeast, fault_if}
+use Rattle.c_meaning.specs.Checks.Recursion.{callers, recursion_faults}
+use Rattle.c_meaning.specs.Checks.Limits.{limit_faults, new_function_places, file_arrays, file_objects, kept_faults}
+use Rattle.c_meaning.specs.Checks.Programs.{items_faults, body_names, top_faults, program_faults, is_empty, body_name_of, is_body_of, top_name, is_faultless, is_well_formed}
+use Rattle.c_names.proofs.DeclarationsLemmas.Least.{less-trans, less-trans-not}
 
 -- ---- the least fault
 

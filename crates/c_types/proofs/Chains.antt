@@ -7,16 +7,16 @@ use Rattle.c_tree.specs.declared.expression.Expr.{Expr}
 use Rattle.c_tree.specs.declared.expression.Expr.TheVariants as e
 use Rattle.c_tree.specs.declared.expression.Target.{Target}
 use Rattle.c_tree.specs.View.{tree_of, target_of, trees_of}
-use Rattle.c_checked.specs.Faults.{lesser, least}
-use Rattle.c_checked.specs.Names.{Declared, sense_of, count, target_faults}
-use Rattle.c_checked.specs.Conflicts.{Access, accesses, all_accesses, target_accesses, between, conflicts_among, conflicts_inside, change_of, operand_conflicts}
-use Rattle.c_checked.specs.Expressions.{expression_faults, changed_faults, operand_faults}
+use Rattle.c_meaning.specs.Checks.Faults.{lesser, least}
+use Rattle.c_meaning.specs.Checks.Names.{Declared, sense_of, count, target_faults}
+use Rattle.c_meaning.specs.Checks.Conflicts.{Access, accesses, all_accesses, target_accesses, between, conflicts_among, conflicts_inside, change_of, operand_conflicts}
+use Rattle.c_meaning.specs.Checks.Expressions.{expression_faults, changed_faults, operand_faults}
 use Rattle.c_types.specs.declared.steps.Judged.{Judged}
 use Rattle.c_types.specs.declared.steps.Changed.{Changed}
 use Rattle.c_types.specs.declared.steps.Step.{Step}
 use Rattle.c_types.specs.declared.steps.Step.TheVariants as s
 use Rattle.c_types.specs.Chains.{Found, found, found_of, changed_fault, step, steps}
-use Rattle.c_declarations.proofs.Trees.{binary_tree, assign_tree, comma_tree}
+use Rattle.c_names.proofs.DeclarationsLemmas.Trees.{binary_tree, assign_tree, comma_tree}
 use Rattle.c_types.proofs.ExpressionFaults.{binary_faults, assign_faults, comma_faults}
 use Rattle.c_types.proofs.Operands.{target_parts, changed_parts}
 

@@ -6,15 +6,15 @@ use Rattle.c_tree.specs.declared.expression.Expr.{Expr}
 use Rattle.c_tree.specs.declared.expression.Expr.TheVariants as e
 use Rattle.c_tree.specs.declared.expression.Target.{Target}
 use Rattle.c_tree.specs.View.{tree_of, target_of, init_of, inits_of}
-use Rattle.c_checked.specs.Faults.{lesser, least}
-use Rattle.c_checked.specs.Names.{Declared}
-use Rattle.c_checked.specs.Conflicts.{accesses, operand_conflicts}
-use Rattle.c_checked.specs.Expressions.{expression_faults, changed_faults, init_faults, inits_faults}
-use Rattle.c_declarations.proofs.Least.{least_append}
+use Rattle.c_meaning.specs.Checks.Faults.{lesser, least}
+use Rattle.c_meaning.specs.Checks.Names.{Declared}
+use Rattle.c_meaning.specs.Checks.Conflicts.{accesses, operand_conflicts}
+use Rattle.c_meaning.specs.Checks.Expressions.{expression_faults, changed_faults, init_faults, inits_faults}
+use Rattle.c_names.proofs.DeclarationsLemmas.Least.{least_append}
 use Rattle.c_tree.specs.declared.object.Init.{Init}
 use Rattle.c_tree.specs.declared.object.Init.TheVariants as i
-use Rattle.c_declarations.proofs.Trees.{binary_tree, choice_tree, assign_tree, comma_tree}
-use Rattle.c_declarations.proofs.Inits.{single_tree, list_tree}
+use Rattle.c_names.proofs.DeclarationsLemmas.Trees.{binary_tree, choice_tree, assign_tree, comma_tree}
+use Rattle.c_names.proofs.DeclarationsLemmas.Inits.{single_tree, list_tree}
 
 module _ (used : Bool) (bodies : List (List ℕ)) (names : List Declared) where
   pub binary_faults : (op : Binary) (l r : Box Expr Global) (at : Place) → least (expression_faults used bodies names (tree_of (e.Binary op l r at)))

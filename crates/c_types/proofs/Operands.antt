@@ -9,11 +9,11 @@ use Rattle.c_tree.specs.declared.expression.Expr.TheFolds.{fold_out-Target}
 use Rattle.c_tree.specs.Tree as tree
 use Rattle.c_tree.specs.Tree.{Tree, TargetTree}
 use Rattle.c_tree.specs.View.{tree_of, target_of, trees_of, tree_step, target_step}
-use Rattle.c_checked.specs.Faults.{lesser, least}
-use Rattle.c_checked.specs.Names.{Shape, Declared, sense_of, count, target_faults}
-use Rattle.c_checked.specs.Conflicts.{Access, accesses, all_accesses, between, conflicts_among, conflicts_inside, change_of}
-use Rattle.c_checked.specs.Expressions.{expression_faults, changed_faults, operand_faults, is_given, name_given_faults}
-use Rattle.c_declarations.proofs.Least.{least_append, least_more}
+use Rattle.c_meaning.specs.Checks.Faults.{lesser, least}
+use Rattle.c_meaning.specs.Checks.Names.{Shape, Declared, sense_of, count, target_faults}
+use Rattle.c_meaning.specs.Checks.Conflicts.{Access, accesses, all_accesses, between, conflicts_among, conflicts_inside, change_of}
+use Rattle.c_meaning.specs.Checks.Expressions.{expression_faults, changed_faults, operand_faults, is_given, name_given_faults}
+use Rattle.c_names.proofs.DeclarationsLemmas.Least.{least_append, least_more}
 
 pub target_parts : (t : Target) → target_of t ≡ tree.target t.name (trees_of t.subscripts.items) t.at
 target_parts t = fold_out-Target Tree TargetTree tree_step target_step t

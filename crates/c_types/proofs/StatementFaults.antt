@@ -12,13 +12,13 @@ use Rattle.c_tree.specs.declared.statement.Else.{Else}
 use Rattle.c_tree.specs.Tree.{StmtTree}
 use Rattle.c_tree.specs.View.{tree_of, action_of, object_of, stmt_of, stmts_of, else_of, else_part, first_part}
 use Rattle.c_value.specs.Values.{promoted}
-use Rattle.c_checked.specs.Faults.{lesser, least, fault_if}
-use Rattle.c_checked.specs.Names.{Declared, kind_of}
-use Rattle.c_checked.specs.Labels.{Around, in_part, in_loop, in_switch, return_faults, outside_faults, has_no_value, block_labels, repeated_faults}
-use Rattle.c_checked.specs.Expressions.{expression_faults, actions_faults, optional_faults}
-use Rattle.c_checked.specs.Statements.{objects_faults, names_in_for, statement_faults, block_faults, else_faults, first_faults}
-use Rattle.c_declarations.proofs.Least.{least_append}
-use Rattle.c_declarations.proofs.StatementTrees.{block_tree, declare_tree, act_tree, if_tree, switch_tree, case_tree, while_tree, do_tree, for_tree, break_tree, continue_tree, return_tree, else_tree}
+use Rattle.c_meaning.specs.Checks.Faults.{lesser, least, fault_if}
+use Rattle.c_meaning.specs.Checks.Names.{Declared, kind_of}
+use Rattle.c_meaning.specs.Checks.Labels.{Around, in_part, in_loop, in_switch, return_faults, outside_faults, has_no_value, block_labels, repeated_faults}
+use Rattle.c_meaning.specs.Checks.Expressions.{expression_faults, actions_faults, optional_faults}
+use Rattle.c_meaning.specs.Checks.Statements.{objects_faults, names_in_for, statement_faults, block_faults, else_faults, first_faults}
+use Rattle.c_names.proofs.DeclarationsLemmas.Least.{least_append}
+use Rattle.c_names.proofs.DeclarationsLemmas.StatementTrees.{block_tree, declare_tree, act_tree, if_tree, switch_tree, case_tree, while_tree, do_tree, for_tree, break_tree, continue_tree, return_tree, else_tree}
 
 module _ (bodies : List (List ℕ)) (around : Around) (start : ℕ) (names : List Declared) where
   abbrev of_tree : StmtTree → Option Refusal

@@ -3,10 +3,10 @@ use Rattle.std.specs.Prelude.{ℕ, Bool, true, false, List, [], ◌∷◌, ◌++
 use Rattle.hls_base.specs.declared.refusal.Refusal.{Refusal}
 use Rattle.c_tree.specs.Tree as tree
 use Rattle.c_tree.specs.Tree.{Tree}
-use Rattle.c_checked.specs.Faults.{lesser, least}
-use Rattle.c_checked.specs.Names.{Declared}
-use Rattle.c_checked.specs.Conflicts.{Access, accesses, between, operand_conflicts, conflicts_inside}
-use Rattle.c_checked.specs.Expressions.{expression_faults}
+use Rattle.c_meaning.specs.Checks.Faults.{lesser, least}
+use Rattle.c_meaning.specs.Checks.Names.{Declared}
+use Rattle.c_meaning.specs.Checks.Conflicts.{Access, accesses, between, operand_conflicts, conflicts_inside}
+use Rattle.c_meaning.specs.Checks.Expressions.{expression_faults}
 use Rattle.c_types.specs.declared.steps.Changed.{Changed}
 use Rattle.c_types.specs.declared.steps.Step.{Step}
 use Rattle.c_types.specs.declared.steps.Step.TheVariants as s

@@ -2,15 +2,15 @@
 ghost use Rattle.std.specs.Prelude.{◌≡◌};
 ghost use Rattle.c_token.specs.Replacement as tokens;
 ghost use Rattle.c_tree.specs.View.{tree_of, trees_of};
-ghost use Rattle.c_checked.specs.Faults.{least};
-ghost use Rattle.c_checked.specs.Names.{sense_of};
-ghost use Rattle.c_checked.specs.Names as shapes;
-ghost use Rattle.c_checked.specs.Calls.{call_faults, same_elements, void_faults};
-ghost use Rattle.c_checked.specs.Expressions.{name_given_faults};
-ghost use Rattle.c_checked.specs.Calls as spec;
+ghost use Rattle.c_meaning.specs.Checks.Faults.{least};
+ghost use Rattle.c_meaning.specs.Checks.Names.{sense_of};
+ghost use Rattle.c_meaning.specs.Checks.Names as shapes;
+ghost use Rattle.c_meaning.specs.Checks.Calls.{call_faults, same_elements, void_faults};
+ghost use Rattle.c_meaning.specs.Checks.Expressions.{name_given_faults};
+ghost use Rattle.c_meaning.specs.Checks.Calls as spec;
 
-use c_declarations::faults::{fault, fault_if, lesser};
-use c_declarations::names::{Scopes, Sense, Shape, is_in};
+use c_names::declarations::faults::{fault, fault_if, lesser};
+use c_names::declarations::names::{Scopes, Sense, Shape, is_in};
 use c_token::ctype::CType;
 use c_tree::expression::Expr;
 use hls_base::place::Place;
@@ -146,7 +146,7 @@ pub fn count(es: &[Expr]) -> usize
 }
 
 /// The least fault of a call besides those inside its arguments.
-#[tactic(auto, using(c_declarations::proofs::Least::least_append))]
+#[tactic(auto, using(c_names::proofs::DeclarationsLemmas::Least::least_append))]
 pub fn call_fault(
     bodies: &[Text],
     names: &Scopes,

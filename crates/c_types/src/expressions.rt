@@ -1,22 +1,22 @@
 //! The faults of expressions.
 ghost use Rattle.std.specs.Prelude.{◌≡◌, ◌++◌, [], drop, IfOk, true, if◌then◌else◌};
 ghost use Rattle.c_tree.specs.View.{tree_of, trees_of, target_of};
-ghost use Rattle.c_checked.specs.Faults.{least};
-ghost use Rattle.c_checked.specs.Conflicts as conflicts;
-ghost use Rattle.c_checked.specs.Conflicts.{accesses, all_accesses, target_accesses, conflicts_among, conflicts_inside};
-ghost use Rattle.c_checked.specs.Names.{sense_of, use_faults, target_faults};
-ghost use Rattle.c_checked.specs.Names.{count as spec_count};
-ghost use Rattle.c_checked.specs.Expressions.{expression_faults, changed_faults, operand_faults};
-ghost use Rattle.c_checked.specs.Expressions as spec;
+ghost use Rattle.c_meaning.specs.Checks.Faults.{least};
+ghost use Rattle.c_meaning.specs.Checks.Conflicts as conflicts;
+ghost use Rattle.c_meaning.specs.Checks.Conflicts.{accesses, all_accesses, target_accesses, conflicts_among, conflicts_inside};
+ghost use Rattle.c_meaning.specs.Checks.Names.{sense_of, use_faults, target_faults};
+ghost use Rattle.c_meaning.specs.Checks.Names.{count as spec_count};
+ghost use Rattle.c_meaning.specs.Checks.Expressions.{expression_faults, changed_faults, operand_faults};
+ghost use Rattle.c_meaning.specs.Checks.Expressions as spec;
 ghost use Rattle.c_types.specs.Chains.{is_innermost};
 ghost use Rattle.c_tree.specs.Tree as tree;
 
 use crate::calls::{call_fault, count, is_array, name_given_fault, params_of, void_fault};
 use crate::steps::{Changed, Judged, Step, assigned, chosen, joined};
-use c_conflicts::accesses::{Accesses, change_of, read_of};
-use c_conflicts::conflicts::{between, conflict_inside};
-use c_declarations::faults::lesser;
-use c_declarations::names::{Scopes, Shape, target_fault, use_fault};
+use c_names::conflicts::accesses::{Accesses, change_of, read_of};
+use c_names::conflicts::conflicts::{between, conflict_inside};
+use c_names::declarations::faults::lesser;
+use c_names::declarations::names::{Scopes, Shape, target_fault, use_fault};
 use c_tree::expression::{Expr, Target};
 use hls_base::place::Place;
 use hls_base::refusal::Refusal;
@@ -157,7 +157,7 @@ fn named(alloc: Global, names: &Scopes, name: &Text, at: Place) -> Result<Judged
 /// An element that is read.
 #[inline(never)]
 #[cycle(expression)]
-#[tactic(auto, using(c_declarations::proofs::Least::least_append))]
+#[tactic(auto, using(c_names::proofs::DeclarationsLemmas::Least::least_append))]
 fn element(
     alloc: Global,
     bodies: &[Text],
@@ -181,7 +181,7 @@ fn element(
 
 #[inline(never)]
 #[cycle(expression)]
-#[tactic(auto, using(c_declarations::proofs::Least::least_append))]
+#[tactic(auto, using(c_names::proofs::DeclarationsLemmas::Least::least_append))]
 fn call(
     alloc: Global,
     bodies: &[Text],

@@ -1,23 +1,23 @@
 //! The faults of functions.
 ghost use Rattle.std.specs.Prelude.{◌≡◌, map, is_some, length, OnOk, IfOk};
 ghost use Rattle.c_tree.specs.View.{param_of, function_of, body_of};
-ghost use Rattle.c_checked.specs.Faults.{least};
-ghost use Rattle.c_checked.specs.Names.{sense_of};
-ghost use Rattle.c_checked.specs.Calls.{with_function, declaration_faults, param_shapes};
-ghost use Rattle.c_checked.specs.Calls as calls;
-ghost use Rattle.c_checked.specs.Labels as labels;
-ghost use Rattle.c_checked.specs.Statements.{with_param, with_params, function_faults};
-ghost use Rattle.c_checked.specs.Statements as spec;
-ghost use Rattle.c_declarations.specs.Extended.{Extends};
+ghost use Rattle.c_meaning.specs.Checks.Faults.{least};
+ghost use Rattle.c_meaning.specs.Checks.Names.{sense_of};
+ghost use Rattle.c_meaning.specs.Checks.Calls.{with_function, declaration_faults, param_shapes};
+ghost use Rattle.c_meaning.specs.Checks.Calls as calls;
+ghost use Rattle.c_meaning.specs.Checks.Labels as labels;
+ghost use Rattle.c_meaning.specs.Checks.Statements.{with_param, with_params, function_faults};
+ghost use Rattle.c_meaning.specs.Checks.Statements as spec;
+ghost use Rattle.c_names.specs.Declarations.Extended.{Extends};
 
 use crate::calls::{same_result, same_shapes};
 use crate::parts::lengths_fault;
 use crate::statements::block;
-use c_declarations::arrays::{function_arrays, limit_fault, param_places};
-use c_declarations::faults::{fault_if, lesser};
-use c_declarations::lengths::{form_of, shapes_of};
-use c_declarations::names::{Declared, Scopes, Sense, Shape, is_in};
-use c_labels::labels::Around;
+use c_names::declarations::arrays::{function_arrays, limit_fault, param_places};
+use c_names::declarations::faults::{fault_if, lesser};
+use c_names::declarations::lengths::{form_of, shapes_of};
+use c_names::declarations::names::{Declared, Scopes, Sense, Shape, is_in};
+use c_names::labels::Around;
 use c_token::ctype::CType;
 use c_tree::function::{Function, Param};
 use c_tree::statement::Stmt;
@@ -82,7 +82,7 @@ fn name_fault(has_body: bool, start: usize, names: &Scopes, param: &Param) -> Op
 }
 
 /// The least fault of a parameter, and its declaration.
-#[tactic(auto, using(c_declarations::proofs::Least::least_append))]
+#[tactic(auto, using(c_names::proofs::DeclarationsLemmas::Least::least_append))]
 fn param_fault(
     alloc: Global,
     bodies: &[Text],
@@ -148,7 +148,7 @@ fn body_fault(
 }
 
 /// The least fault of a function besides its declaration. `bodies` names the functions with a body.
-#[tactic(auto, using(c_declarations::proofs::Least::least_append))]
+#[tactic(auto, using(c_names::proofs::DeclarationsLemmas::Least::least_append))]
 pub fn function_fault(
     alloc: Global,
     bodies: &[Text],

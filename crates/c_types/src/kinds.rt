@@ -1,10 +1,10 @@
 //! The types of expressions.
 ghost use Rattle.std.specs.Prelude.{◌≡◌};
 ghost use Rattle.c_tree.specs.View.{tree_of};
-ghost use Rattle.c_checked.specs.Names.{sense_of};
-ghost use Rattle.c_checked.specs.Names as spec;
+ghost use Rattle.c_meaning.specs.Checks.Names.{sense_of};
+ghost use Rattle.c_meaning.specs.Checks.Names as spec;
 
-use c_declarations::names::{Scopes, Sense};
+use c_names::declarations::names::{Scopes, Sense};
 use c_token::ctype::CType;
 use c_tree::expression::Expr;
 use c_value::chain::{chain_length, part_at};

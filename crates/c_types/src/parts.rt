@@ -2,13 +2,13 @@
 ghost use Rattle.std.specs.Prelude.{◌≡◌, map, true, false, IfOk};
 ghost use Rattle.std.specs.Option.{option_map};
 ghost use Rattle.c_tree.specs.View.{tree_of, action_of, init_of, inits_of};
-ghost use Rattle.c_checked.specs.Faults.{least};
-ghost use Rattle.c_checked.specs.Expressions.{expression_faults, expression_of, actions_faults, optional_faults, lengths_faults, init_faults, inits_faults, optional_init_faults};
+ghost use Rattle.c_meaning.specs.Checks.Faults.{least};
+ghost use Rattle.c_meaning.specs.Checks.Expressions.{expression_faults, expression_of, actions_faults, optional_faults, lengths_faults, init_faults, inits_faults, optional_init_faults};
 
 use crate::expressions::{changed, expression};
-use c_conflicts::accesses::Accesses;
-use c_declarations::faults::lesser;
-use c_declarations::names::Scopes;
+use c_names::conflicts::accesses::Accesses;
+use c_names::declarations::faults::lesser;
+use c_names::declarations::names::Scopes;
 use c_tree::action::Action;
 use c_tree::expression::Expr;
 use c_tree::object::Init;
@@ -44,7 +44,7 @@ pub fn optional_fault(
 }
 
 /// The least fault of an action, which is an expression whose value is not used.
-#[tactic(auto, using(c_declarations::proofs::Least::least_append))]
+#[tactic(auto, using(c_names::proofs::DeclarationsLemmas::Least::least_append))]
 fn action_fault(
     alloc: Global,
     bodies: &[Text],

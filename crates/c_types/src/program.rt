@@ -3,18 +3,18 @@ ghost use Rattle.std.specs.Prelude.{◌≡◌, ◌≤◌, ◌<◌, ◌^◌, ◌+
 ghost use Rattle.hls_base.specs.Refusals.{IfRefused};
 ghost use Rattle.c_tree.specs.View.{item_of, program_of};
 ghost use Rattle.c_token.specs.Replacement as tokens;
-ghost use Rattle.c_checked.specs.Faults.{least, IsLeast};
-ghost use Rattle.c_checked.specs.Programs.{program_faults, top_name, items_faults, item_faults, with_item, with_body, body_name_of};
-ghost use Rattle.c_checked.specs.Programs as spec;
+ghost use Rattle.c_meaning.specs.Checks.Faults.{least, IsLeast};
+ghost use Rattle.c_meaning.specs.Checks.Programs.{program_faults, top_name, items_faults, item_faults, with_item, with_body, body_name_of};
+ghost use Rattle.c_meaning.specs.Checks.Programs as spec;
 
 use crate::functions::{declaration_fault, function_fault};
 use crate::statements::objects_fault;
 use c_calls::called::callers_of;
 use c_calls::recursion::recursion_fault;
-use c_checked::checked::Checked;
-use c_declarations::arrays::{file_arrays, function_places, kept_fault, limit_fault};
-use c_declarations::faults::{fault_if, lesser};
-use c_declarations::names::{Scopes, is_in, is_same_name};
+use c_meaning::checks::Checked;
+use c_names::declarations::arrays::{file_arrays, function_places, kept_fault, limit_fault};
+use c_names::declarations::faults::{fault_if, lesser};
+use c_names::declarations::names::{Scopes, is_in, is_same_name};
 use c_tree::program::{Item, Program};
 use hls_base::refusal::{Fail, Refusal};
 use hls_base::text::Text;
@@ -36,7 +36,7 @@ fn body_names(alloc: Global, items: &[Item]) -> Result<Vec<Text>, AllocError>
 }
 
 /// The least fault of an item, and what it declares. `before` names the functions whose bodies stand before.
-#[tactic(auto, using(c_declarations::proofs::Least::least_append))]
+#[tactic(auto, using(c_names::proofs::DeclarationsLemmas::Least::least_append))]
 fn item_fault(
     alloc: Global,
     bodies: &[Text],
@@ -82,7 +82,7 @@ fn items_fault(
 }
 
 /// The least fault of a program whose top function has this name.
-#[tactic(auto, using(c_declarations::proofs::Least::least_append))]
+#[tactic(auto, using(c_names::proofs::DeclarationsLemmas::Least::least_append))]
 fn least_fault(alloc: Global, program: &Program, top: &Text) -> Result<Option<Refusal>, AllocError>
     ensures { IfOk result (λ r. r ≡ least (program_faults (program_of program.now) top.now)) }
 {

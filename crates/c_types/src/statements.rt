@@ -4,25 +4,25 @@ ghost use Rattle.std.specs.Option.{option_map};
 ghost use Rattle.c_tree.specs.View.{tree_of, object_of, stmt_of, stmts_of, else_of, else_part, first_part, action_of};
 ghost use Rattle.c_tree.specs.Tree as tree;
 ghost use Rattle.c_value.specs.Values.{promoted as spec_promoted};
-ghost use Rattle.c_checked.specs.Faults as order;
-ghost use Rattle.c_checked.specs.Faults.{least};
-ghost use Rattle.c_checked.specs.Expressions.{expression_faults, optional_faults};
-ghost use Rattle.c_checked.specs.Names.{Declared};
-ghost use Rattle.c_checked.specs.Names.{kind_of as spec_kind_of};
-ghost use Rattle.c_checked.specs.Labels as labels;
-ghost use Rattle.c_checked.specs.Statements.{with_object, with_objects, names_behind, names_in_for, statement_faults, block_faults, else_faults, first_faults};
-ghost use Rattle.c_checked.specs.Statements as spec;
-ghost use Rattle.c_labels.specs.Written.{around_view};
-ghost use Rattle.c_declarations.specs.Extended.{Extends};
+ghost use Rattle.c_meaning.specs.Checks.Faults as order;
+ghost use Rattle.c_meaning.specs.Checks.Faults.{least};
+ghost use Rattle.c_meaning.specs.Checks.Expressions.{expression_faults, optional_faults};
+ghost use Rattle.c_meaning.specs.Checks.Names.{Declared};
+ghost use Rattle.c_meaning.specs.Checks.Names.{kind_of as spec_kind_of};
+ghost use Rattle.c_meaning.specs.Checks.Labels as labels;
+ghost use Rattle.c_meaning.specs.Checks.Statements.{with_object, with_objects, names_behind, names_in_for, statement_faults, block_faults, else_faults, first_faults};
+ghost use Rattle.c_meaning.specs.Checks.Statements as spec;
+ghost use Rattle.c_names.specs.Labels.Written.{around_view};
+ghost use Rattle.c_names.specs.Declarations.Extended.{Extends};
 
 use crate::kinds::kind_of;
 use crate::parts::{
     actions_fault, lengths_fault, optional_fault, optional_init_fault, value_fault,
 };
-use c_declarations::faults::{fault_if, lesser};
-use c_declarations::lengths::form_of;
-use c_declarations::names::{Declared, Scopes, Sense};
-use c_labels::labels::{Around, has_no_value, outside_fault, repeated_fault, return_fault};
+use c_names::declarations::faults::{fault_if, lesser};
+use c_names::declarations::lengths::form_of;
+use c_names::declarations::names::{Declared, Scopes, Sense};
+use c_names::labels::{Around, has_no_value, outside_fault, repeated_fault, return_fault};
 use c_tree::action::Action;
 use c_tree::expression::Expr;
 use c_tree::object::Object;
@@ -34,7 +34,7 @@ use hls_base::text::Text;
 use std::alloc::{AllocError, Global};
 
 /// The least fault of an object in a scope that began with so many names, and its declaration.
-#[tactic(auto, using(c_declarations::proofs::Least::least_append))]
+#[tactic(auto, using(c_names::proofs::DeclarationsLemmas::Least::least_append))]
 fn object_fault(
     alloc: Global,
     bodies: &[Text],

@@ -1,13 +1,13 @@
 //! What is found of an expression, and how an operator joins what is found of its operands.
 ghost use Rattle.std.specs.Prelude.{◌≡◌, ◌++◌, IfOk};
-ghost use Rattle.c_checked.specs.Faults as order;
-ghost use Rattle.c_checked.specs.Faults.{least};
-ghost use Rattle.c_checked.specs.Conflicts.{operand_conflicts};
+ghost use Rattle.c_meaning.specs.Checks.Faults as order;
+ghost use Rattle.c_meaning.specs.Checks.Faults.{least};
+ghost use Rattle.c_meaning.specs.Checks.Conflicts.{operand_conflicts};
 ghost use Rattle.c_types.specs.Chains as spec;
 
-use c_conflicts::accesses::Accesses;
-use c_conflicts::conflicts::{between, conflict_inside, operand_conflict};
-use c_declarations::faults::lesser;
+use c_names::conflicts::accesses::Accesses;
+use c_names::conflicts::conflicts::{between, conflict_inside, operand_conflict};
+use c_names::declarations::faults::lesser;
 use c_tree::operator::Binary;
 use hls_base::refusal::Refusal;
 use std::alloc::{AllocError, Global};

@@ -77,7 +77,7 @@ fn operated(
 }
 
 /// The type and the number of a constant expression.
-#[derive(Debug, Drop)]
+#[derive(Drop)]
 struct Valued {
     kind: CType,
     number: Result<i128, UbRule>,

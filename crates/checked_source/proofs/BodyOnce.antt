@@ -7,11 +7,11 @@ use Rattle.hls_base.specs.declared.refusal.Refusal.{Refusal}
 use Rattle.c_token.specs.Replacement.{is_in}
 use Rattle.c_tree.specs.Tree as tree
 use Rattle.c_tree.specs.Tree.{FunctionTree, ItemTree, ProgramTree}
-use Rattle.c_checked.specs.Faults.{fault_if}
-use Rattle.c_checked.specs.Names.{Declared, sense_of}
-use Rattle.c_checked.specs.Calls.{disagrees, with_function, declaration_faults}
-use Rattle.c_checked.specs.Statements.{function_faults}
-use Rattle.c_checked.specs.Programs.{items_faults, item_faults, with_body, with_item, body_names, program_faults, top_name, body_name_of}
+use Rattle.c_meaning.specs.Checks.Faults.{fault_if}
+use Rattle.c_meaning.specs.Checks.Names.{Declared, sense_of}
+use Rattle.c_meaning.specs.Checks.Calls.{disagrees, with_function, declaration_faults}
+use Rattle.c_meaning.specs.Checks.Statements.{function_faults}
+use Rattle.c_meaning.specs.Checks.Programs.{items_faults, item_faults, with_body, with_item, body_names, program_faults, top_name, body_name_of}
 use Rattle.checked_source.specs.Sources.{IsTopFunction}
 
 -- ---- words

@@ -9,8 +9,8 @@ use Rattle.c_token.proofs.Divided.{becomes_once, becomes_or_refused}
 use Rattle.c_tree.specs.Terminals.{terminals}
 use Rattle.c_tree.specs.Tree.{ProgramTree}
 use Rattle.c_tree.specs.Refusal.{IsProgram}
-use Rattle.c_checked.specs.Faults.{IsLeast}
-use Rattle.c_checked.specs.Programs.{program_faults}
+use Rattle.c_meaning.specs.Checks.Faults.{IsLeast}
+use Rattle.c_meaning.specs.Checks.Programs.{program_faults}
 use Rattle.checked_source.specs.Sources.{end_of, IsReplaced, IsProgramOf, IsTheProgramOf}
 use Rattle.checked_source.specs.SourceFaults as f
 use Rattle.checked_source.specs.SourceFaults.{IsFaultBefore, IsSourceFault}

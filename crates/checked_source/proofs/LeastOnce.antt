@@ -4,7 +4,7 @@ use Rattle.std.proofs.lemmas.Bool.Decides.{nat_tests}
 use Rattle.std.proofs.lemmas.List.Elements.{All-contains}
 use Rattle.hls_base.specs.declared.place.Place.{Place}
 use Rattle.hls_base.specs.declared.refusal.Refusal.{Refusal}
-use Rattle.c_checked.specs.Faults.{is_lesser, IsLeast}
+use Rattle.c_meaning.specs.Checks.Faults.{is_lesser, IsLeast}
 
 -- one step of an order by several numbers
 neither : (a b : ℕ) (p q : Bool) → (nat_lt a b || ((a == b) && p)) ≡ false → (nat_lt b a || ((b == a) && q)) ≡ false → (a ≡ b) × (p ≡ false) × (q ≡ false)

@@ -9,8 +9,8 @@ use Rattle.c_token.proofs.Divided.{becomes_or_refused, replacement_refused_once}
 use Rattle.c_tree.specs.Tree.{ProgramTree}
 use Rattle.c_tree.specs.Terminals.{terminals}
 use Rattle.c_tree.specs.Refusal.{IsFaultOf}
-use Rattle.c_checked.specs.Faults.{IsLeast}
-use Rattle.c_checked.specs.Programs.{program_faults}
+use Rattle.c_meaning.specs.Checks.Faults.{IsLeast}
+use Rattle.c_meaning.specs.Checks.Programs.{program_faults}
 use Rattle.c_tree.proofs.FaultOnce.{one_fault}
 use Rattle.checked_source.specs.Sources.{end_of, IsReplaced, IsTheProgramOf}
 use Rattle.checked_source.specs.SourceFaults as f

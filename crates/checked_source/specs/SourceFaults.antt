@@ -7,8 +7,8 @@ use Rattle.c_token.specs.Replacement.{FirstReplacementFault}
 use Rattle.c_tree.specs.Terminals.{terminals}
 use Rattle.c_tree.specs.Tree.{ProgramTree}
 use Rattle.c_tree.specs.Refusal.{IsFaultOf}
-use Rattle.c_checked.specs.Faults.{IsLeast}
-use Rattle.c_checked.specs.Programs.{program_faults}
+use Rattle.c_meaning.specs.Checks.Faults.{IsLeast}
+use Rattle.c_meaning.specs.Checks.Programs.{program_faults}
 use Rattle.checked_source.specs.Sources.{end_of, IsReplaced, IsTheProgramOf}
 
 -- the fault of a source that is no program within the limits: of its tokens, of their replacement, or of the grammar and its limits

@@ -3,13 +3,13 @@ ghost use Rattle.hls_base.specs.declared.refusal.Refusal.{Refusal};
 ghost use Rattle.hls_base.specs.Refusals.{IfRefused};
 ghost use Rattle.c_tree.specs.Tree.{ProgramTree};
 ghost use Rattle.c_tree.specs.View.{program_of};
-ghost use Rattle.c_checked.specs.Programs.{program_faults, top_name};
+ghost use Rattle.c_meaning.specs.Checks.Programs.{program_faults, top_name};
 ghost use Rattle.checked_source.specs.Sources.{IsProgramOf, IsTheProgramOf};
 ghost use Rattle.checked_source.specs.SourceFaults.{IsFaultBefore, IsSourceFault};
 
-use c_checked::checked::Checked;
 use c_lexer::{end_of, lex};
 use c_macro::replace;
+use c_meaning::checks::Checked;
 use c_parser::parse;
 use c_tree::program::Program;
 use c_types::program::check;

@@ -12,7 +12,7 @@ use Rattle.rtl_core.specs.Agreement.{ShowsPhase, ShowsValue, ShowsResult, IsBrok
 use Rattle.rtl_core.proofs.Fits.{fit_get, step_is_state}
 use Rattle.circuit_agreement.specs.Relating.{Relates}
 use Rattle.circuit_agreement.proofs.Relating.{related}
-use Rattle.clock_meaning.specs.ClockRuns.{clock_run}
+use Rattle.clock_ir.specs.ClockRuns.{clock_run}
 use Rattle.datapath.specs.Plans.{Plan, interface, initial_cycles}
 use Rattle.datapath.specs.Cycles.{Result, Contents}
 use Rattle.datapath.specs.Circuits.{ShowsReturn, Shows}
@@ -22,9 +22,9 @@ use Rattle.datapath.specs.Laws.{Resets}
 use Rattle.datapath.specs.Answers.{first_file_scope}
 use Rattle.datapath.proofs.Controller.{resets_always}
 use Rattle.circuit_flow.specs.Compiled.{IsCompiled}
-use Rattle.circuit_stores.specs.Laws.{HoldsHosts, IsFilled}
-use Rattle.circuit_stores.proofs.Found.{found_contents}
-use Rattle.circuit_stores.proofs.Starting.{filling_begins, filling_ends}
+use Rattle.circuit_agreement.specs.CircuitStores.{HoldsHosts, IsFilled}
+use Rattle.circuit_agreement.proofs.CircuitStores.Found.{found_contents}
+use Rattle.circuit_agreement.proofs.CircuitStores.Starting.{filling_begins, filling_ends}
 use Rattle.circuit_agreement.specs.Answers.{machine_answers}
 use Rattle.circuit_agreement.specs.Standing.{FitsFrame}
 use Rattle.circuit_agreement.specs.Boxes.{HasMemories, BoxStandsAs, BoxStands}

@@ -6,16 +6,16 @@ use Rattle.std.proofs.lemmas.Nat.{pow_pos}
 use Rattle.std.proofs.lemmas.Option.{get_or_from_slice_get}
 use Rattle.hls_base.specs.ArrayAddress.{addresses}
 use Rattle.hls_base.specs.FileScope.{FileScope}
-use Rattle.block_meaning.specs.Bodies.{Words}
+use Rattle.ir_core.specs.Bodies.{Words}
 use Rattle.datapath.specs.Plans.{Plan, Array, no_array, array_at, depth}
 use Rattle.datapath.specs.Cycles.{Variable, Contents}
 use Rattle.datapath.specs.Answers.{HaveWidths, Begins}
 use Rattle.circuit_flow.specs.Compiled.{IsCompiled}
 use Rattle.circuit_flow.specs.Flows.{HoldsMemories}
-use Rattle.unit_results.specs.Laws.{HasWidths}
-use Rattle.circuit_stores.specs.Words.{words_in}
-use Rattle.circuit_stores.specs.Laws.{TakesArguments}
-use Rattle.circuit_stores.proofs.Shown.{shown_plain, shown_table, same_elements}
+use Rattle.circuit_agreement.specs.UnitResults.{HasWidths}
+use Rattle.circuit_agreement.specs.CircuitStores.HeldWords.{words_in}
+use Rattle.circuit_agreement.specs.CircuitStores.{TakesArguments}
+use Rattle.circuit_agreement.proofs.CircuitStores.Shown.{shown_plain, shown_table, same_elements}
 use Rattle.circuit_agreement.specs.Standing.{FitsFrame}
 use Rattle.circuit_agreement.proofs.Widths.{WordsFit, given_fits}
 

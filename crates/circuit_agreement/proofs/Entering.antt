@@ -2,9 +2,9 @@
 use Rattle.std.proofs.Common.{◌≡◌, ℕ, ◌%◌, List, Option, Some, None, refl, sym, ap, ◌∙◌, subst, mod-eq_of_lt, arith}
 use Rattle.std.specs.Prelude.{slice_get}
 use Rattle.rtl_core.specs.Interface.{reset_of}
-use Rattle.block_meaning.specs.Bodies.{Words}
-use Rattle.clock_meaning.specs.Flows.{TimedBody, first_flow}
-use Rattle.clock_meaning.specs.ClockRuns.{TimedNode, block, overlapped, at_node, load}
+use Rattle.ir_core.specs.Bodies.{Words}
+use Rattle.clock_ir.specs.Flows.{TimedBody, first_flow}
+use Rattle.clock_ir.specs.ClockRuns.{TimedNode, block, overlapped, at_node, load}
 use Rattle.datapath.specs.Plans.{Plan, body_at, span}
 use Rattle.datapath.specs.Cycles.{Contents}
 use Rattle.datapath.specs.Circuits.{Step}
@@ -12,15 +12,15 @@ use Rattle.datapath.specs.Standing.{IsInside, IsEnteredAs}
 use Rattle.circuit_flow.specs.Compiled.{IsCompiled}
 use Rattle.circuit_flow.specs.Flows.{HoldsVariables, HoldsMemories}
 use Rattle.circuit_flow.proofs.Nodes.{body_found}
-use Rattle.held_results.proofs.Beginning.{nothing_first, entries_held}
-use Rattle.unit_results.proofs.Stepping.{units_begin}
-use Rattle.loop_gates.proofs.Turns.{first_time}
-use Rattle.loop_gates.proofs.Blocks.{blocks_run}
-use Rattle.loop_gates.proofs.Loops.{gates_begin}
-use Rattle.loop_gates.proofs.Controller.{loops_begin}
-use Rattle.node_ends.proofs.Comparing.{comparisons_begin}
-use Rattle.node_ends.proofs.Staying.{variables_stay_loading}
-use Rattle.circuit_stores.proofs.Shown.{loading_keeps}
+use Rattle.circuit_flow.proofs.HeldResults.Beginning.{nothing_first, entries_held}
+use Rattle.circuit_agreement.proofs.UnitResults.Stepping.{units_begin}
+use Rattle.circuit_flow.proofs.LoopGates.Turns.{first_time}
+use Rattle.circuit_flow.proofs.LoopGates.Blocks.{blocks_run}
+use Rattle.circuit_flow.proofs.LoopGates.Loops.{gates_begin}
+use Rattle.circuit_flow.proofs.LoopGates.Controller.{loops_begin}
+use Rattle.circuit_flow.proofs.NodeEnds.Comparing.{comparisons_begin}
+use Rattle.circuit_flow.proofs.NodeEnds.Staying.{variables_stay_loading}
+use Rattle.circuit_agreement.proofs.CircuitStores.Shown.{loading_keeps}
 use Rattle.circuit_agreement.specs.Standing.{FollowsAs, StandsInside, StandsLoadingAs, StandsIn}
 use Rattle.circuit_agreement.specs.Laws.{NodesAreEntered}
 use Rattle.circuit_agreement.proofs.Idle.{stays_idle}

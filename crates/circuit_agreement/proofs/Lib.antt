@@ -1,3 +1,6 @@
+pub mod CircuitStores
+pub mod UnitResults
+pub mod ApartStores
 pub mod Relating
 pub mod Idle
 pub mod Entering

@@ -7,9 +7,9 @@ use Rattle.hls_base.specs.declared.number.Kept.{Kept}
 use Rattle.rtl_core.specs.Interface.{reset_of, start_of, write_of, enable_of, arguments_of}
 use Rattle.rtl_core.specs.Box.{Answer, Ended, Undefined, Endless, Phase, Init, Idle, Busy, Done, Forever, Broken, Box, Element, initial, in_phase, entered, waited, named, accessed, served, Waits, StepIn}
 use Rattle.rtl_core.specs.Agreement.{IsBroken}
-use Rattle.block_meaning.specs.Bodies.{Words}
-use Rattle.clock_meaning.specs.ClockRuns as clock
-use Rattle.clock_meaning.specs.ClockRuns.{TimedNode, block, overlapped, TimedProgram, starting, loading, inside, ended, at_node, enter, clock_step, clock_run}
+use Rattle.ir_core.specs.Bodies.{Words}
+use Rattle.clock_ir.specs.ClockRuns as clock
+use Rattle.clock_ir.specs.ClockRuns.{TimedNode, block, overlapped, TimedProgram, starting, loading, inside, ended, at_node, enter, clock_step, clock_run}
 use Rattle.datapath.specs.Plans.{Plan, interface, initial_cycles}
 use Rattle.datapath.specs.Cycles.{Contents}
 use Rattle.datapath.specs.Circuits.{Step}
@@ -18,13 +18,13 @@ use Rattle.datapath.specs.Answers.{HoldsArrays, Begins, HasEnded}
 use Rattle.datapath.proofs.Controller.{waits, starts_first}
 use Rattle.datapath.proofs.Sequence.{sequences}
 use Rattle.circuit_flow.specs.Compiled.{IsCompiled}
-use Rattle.unit_results.specs.Laws.{HasWidths}
-use Rattle.node_ends.proofs.Staying.{variables_stay_waiting}
-use Rattle.circuit_stores.specs.Words.{words_in}
-use Rattle.circuit_stores.specs.Laws.{IsFilled}
-use Rattle.circuit_stores.proofs.Shown.{contents_are_shown}
-use Rattle.circuit_stores.proofs.Starting.{runs_begin, filling_goes_on, filling_ends}
-use Rattle.circuit_stores.proofs.Serving.{hosts_are_served}
+use Rattle.circuit_agreement.specs.UnitResults.{HasWidths}
+use Rattle.circuit_flow.proofs.NodeEnds.Staying.{variables_stay_waiting}
+use Rattle.circuit_agreement.specs.CircuitStores.HeldWords.{words_in}
+use Rattle.circuit_agreement.specs.CircuitStores.{IsFilled}
+use Rattle.circuit_agreement.proofs.CircuitStores.Shown.{contents_are_shown}
+use Rattle.circuit_agreement.proofs.CircuitStores.Starting.{runs_begin, filling_goes_on, filling_ends}
+use Rattle.circuit_agreement.proofs.CircuitStores.Serving.{hosts_are_served}
 use Rattle.circuit_agreement.specs.Answers.{IsClear, EndsAfter, machine_answers}
 use Rattle.circuit_agreement.specs.Standing.{FitsFrame, StandsLoadingAs, StandsAtEnd, StandsIn}
 use Rattle.circuit_agreement.specs.Boxes.{IsFilling, IsServing, IsRunning, IsRunningOn, BoxStandsAs, BoxStands}

@@ -6,10 +6,10 @@ use Rattle.ir_core.specs.declared.body.Operand.{Operand}
 use Rattle.ir_core.specs.declared.cfg.End.{End}
 use Rattle.ir_core.specs.declared.cfg.End.TheVariants as end
 use Rattle.rtl_core.specs.Interface.{reset_of}
-use Rattle.block_meaning.specs.Bodies.{Words}
-use Rattle.block_meaning.specs.FlatRuns.{Going, to, ends}
-use Rattle.clock_meaning.specs.Flows.{TimedBody, Flow, is_at, operand_at, tick, taken}
-use Rattle.clock_meaning.specs.ClockRuns.{TimedNode, block, overlapped, Phase, starting, loading, inside, ended, later, going_by, goes_to, clock_step}
+use Rattle.ir_core.specs.Bodies.{Words}
+use Rattle.ir_core.specs.FlatRuns.{Going, to, ends}
+use Rattle.clock_ir.specs.Flows.{TimedBody, Flow, is_at, operand_at, tick, taken}
+use Rattle.clock_ir.specs.ClockRuns.{TimedNode, block, overlapped, Phase, starting, loading, inside, ended, later, going_by, goes_to, clock_step}
 use Rattle.clock_runs.proofs.Lists.{some_same}
 use Rattle.datapath.specs.Plans.{Plan, body_at, span}
 use Rattle.datapath.specs.Cycles.{Contents, Cycle, in_cycle}
@@ -23,24 +23,24 @@ use Rattle.datapath.proofs.BlockSteps.{ticked_entry}
 use Rattle.circuit_flow.specs.Compiled.{IsCompiled}
 use Rattle.circuit_flow.specs.Flows.{Sees, Arrives, CountsIntervals, StoresAsRun, LeavesAsRun, HoldsMemories, StoresAreApart}
 use Rattle.circuit_flow.proofs.Nodes.{body_found}
-use Rattle.held_results.proofs.Seeing.{results_seen}
-use Rattle.held_results.proofs.Steps.{stays_held_law}
-use Rattle.unit_results.specs.Laws.{HasWidths}
-use Rattle.unit_results.specs.UnderWay.{IsWithin}
-use Rattle.unit_results.proofs.Giving.{units_give}
-use Rattle.unit_results.proofs.Stepping.{units_step}
-use Rattle.loop_gates.specs.Gates.{HoldsGates, is_left, RunsOnce}
-use Rattle.loop_gates.proofs.Blocks.{blocks_run_on, blocks_store}
-use Rattle.loop_gates.proofs.Loops.{loops_count, gates_step}
-use Rattle.loop_gates.proofs.Uses.{loops_leave, loops_store}
-use Rattle.loop_gates.proofs.Controller.{loops_go_on, loops_lead, blocks_go_on}
-use Rattle.circuit_stores.proofs.Storing.{nodes_store}
-use Rattle.node_ends.specs.Ends.{KeepsVariables, HandsOn, HoldsComparisons}
-use Rattle.node_ends.proofs.Staying.{variables_stay, variables_stay_in_blocks}
-use Rattle.node_ends.proofs.Handing.{blocks_hand_on}
-use Rattle.node_ends.proofs.Loops.{loops_hand_on}
-use Rattle.node_ends.proofs.Comparing.{comparisons_stay}
-use Rattle.node_ends.proofs.Entering.{blocks_enter}
+use Rattle.circuit_flow.proofs.HeldResults.Seeing.{results_seen}
+use Rattle.circuit_flow.proofs.HeldResults.Steps.{stays_held_law}
+use Rattle.circuit_agreement.specs.UnitResults.{HasWidths}
+use Rattle.circuit_agreement.specs.UnitResults.UnderWay.{IsWithin}
+use Rattle.circuit_agreement.proofs.UnitResults.Giving.{units_give}
+use Rattle.circuit_agreement.proofs.UnitResults.Stepping.{units_step}
+use Rattle.circuit_flow.specs.LoopGates.Gates.{HoldsGates, is_left, RunsOnce}
+use Rattle.circuit_flow.proofs.LoopGates.Blocks.{blocks_run_on, blocks_store}
+use Rattle.circuit_flow.proofs.LoopGates.Loops.{loops_count, gates_step}
+use Rattle.circuit_flow.proofs.LoopGates.Uses.{loops_leave, loops_store}
+use Rattle.circuit_flow.proofs.LoopGates.Controller.{loops_go_on, loops_lead, blocks_go_on}
+use Rattle.circuit_agreement.proofs.CircuitStores.Storing.{nodes_store}
+use Rattle.circuit_flow.specs.NodeEnds.Ends.{KeepsVariables, HandsOn, HoldsComparisons}
+use Rattle.circuit_flow.proofs.NodeEnds.Staying.{variables_stay, variables_stay_in_blocks}
+use Rattle.circuit_flow.proofs.NodeEnds.Handing.{blocks_hand_on}
+use Rattle.circuit_flow.proofs.NodeEnds.Loops.{loops_hand_on}
+use Rattle.circuit_flow.proofs.NodeEnds.Comparing.{comparisons_stay}
+use Rattle.circuit_flow.proofs.NodeEnds.Entering.{blocks_enter}
 use Rattle.circuit_agreement.specs.Standing.{FitsFrame, FollowsAs, StandsInside, StandsIn}
 use Rattle.circuit_agreement.specs.Laws.{RunsStep}
 use Rattle.circuit_agreement.proofs.Entering.{own_block, own_loop, nodes_are_entered, loading_steps}

@@ -8,7 +8,7 @@ use Rattle.std.proofs.lemmas.List.Elements.{All-head, All-tail}
 use Rattle.std.proofs.lemmas.List.Sums.{sum_by-cons}
 use Rattle.rtl_core.specs.Netlist.{Netlist, Memory}
 use Rattle.rtl_core.specs.ClockStep.{State, IsState, AreMemories, no_memory, one_memory, word_at}
-use Rattle.block_meaning.specs.FirstContents.{given_at}
+use Rattle.ir_core.specs.FirstContents.{given_at}
 use Rattle.datapath.specs.Plans.{Plan, Array, no_array, array_at, depth}
 use Rattle.datapath.specs.Cycles.{Register, Contents}
 use Rattle.datapath.specs.Netlists.{memory_of, Holds}

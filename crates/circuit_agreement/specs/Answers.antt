@@ -4,8 +4,8 @@ use Rattle.hls_base.specs.FileScope.{FileScope}
 use Rattle.rtl_core.specs.Netlist.{Netlist}
 use Rattle.rtl_core.specs.Box.{Ended, Undefined, Endless, Answers}
 use Rattle.rtl_core.specs.Agreement.{Agrees}
-use Rattle.block_meaning.specs.Bodies.{Words}
-use Rattle.clock_meaning.specs.ClockRuns.{Phase, inside, ended, clock_run}
+use Rattle.ir_core.specs.Bodies.{Words}
+use Rattle.clock_ir.specs.ClockRuns.{Phase, inside, ended, clock_run}
 use Rattle.datapath.specs.Plans.{Plan, interface, initial_cycles}
 use Rattle.datapath.specs.Answers.{HoldsArrays, Begins, HasEnded, first_file_scope}
 use Rattle.circuit_flow.specs.Flows.{StoresAreApart}

@@ -5,16 +5,16 @@ use Rattle.rtl_core.specs.Netlist.{Netlist, Memory}
 use Rattle.rtl_core.specs.Interface.{read_data_of}
 use Rattle.rtl_core.specs.Box.{Phase, Init, Idle, Busy, Done, Forever, Broken, Box}
 use Rattle.rtl_core.specs.Agreement.{ShowsValue}
-use Rattle.block_meaning.specs.Bodies.{Words}
-use Rattle.clock_meaning.specs.ClockRuns.{clock_run}
+use Rattle.ir_core.specs.Bodies.{Words}
+use Rattle.clock_ir.specs.ClockRuns.{clock_run}
 use Rattle.datapath.specs.Plans.{Plan, Array, initial_cycles}
 use Rattle.datapath.specs.Cycles.{Contents}
 use Rattle.datapath.specs.Circuits.{Shows}
 use Rattle.datapath.specs.Standing.{IsWaiting, IsInSequence}
 use Rattle.datapath.specs.Answers.{HoldsArrays, first_file_scope}
 use Rattle.circuit_flow.specs.Compiled.{IsCompiled}
-use Rattle.circuit_stores.specs.Words.{words_in}
-use Rattle.circuit_stores.specs.Laws.{IsFilled}
+use Rattle.circuit_agreement.specs.CircuitStores.HeldWords.{words_in}
+use Rattle.circuit_agreement.specs.CircuitStores.{IsFilled}
 use Rattle.circuit_agreement.specs.Answers.{EndsAfter, RunsOn}
 use Rattle.circuit_agreement.specs.Standing.{HasResult, StandsIn}
 

@@ -3,8 +3,8 @@ use Rattle.std.specs.Prelude.{◌≡◌, ℕ, List}
 use Rattle.rtl_core.specs.Netlist.{Netlist}
 use Rattle.rtl_core.specs.Valid.{IsValid}
 use Rattle.rtl_core.specs.Interface.{reset_of}
-use Rattle.block_meaning.specs.Bodies.{Words}
-use Rattle.clock_meaning.specs.ClockRuns.{Phase, enter, clock_step}
+use Rattle.ir_core.specs.Bodies.{Words}
+use Rattle.clock_ir.specs.ClockRuns.{Phase, enter, clock_step}
 use Rattle.datapath.specs.Plans.{Plan}
 use Rattle.datapath.specs.Cycles.{Contents}
 use Rattle.datapath.specs.Circuits.{Step}
@@ -14,7 +14,7 @@ use Rattle.datapath.specs.Standing.{IsEntered}
 use Rattle.datapath.specs.Answers.{HasEnded}
 use Rattle.circuit_flow.specs.Compiled.{IsCompiled}
 use Rattle.circuit_flow.specs.Flows.{HoldsVariables, HoldsMemories}
-use Rattle.unit_results.specs.Laws.{HasWidths}
+use Rattle.circuit_agreement.specs.UnitResults.{HasWidths}
 use Rattle.circuit_agreement.specs.Answers.{IsClear, AgreesWithRun}
 use Rattle.circuit_agreement.specs.Standing.{FitsFrame, StandsIn}
 use Rattle.circuit_agreement.specs.Boxes.{HasMemories}

@@ -1,3 +1,6 @@
+pub mod CircuitStores
+pub mod UnitResults
+pub mod ApartStores
 pub mod Answers
 pub mod Standing
 pub mod Boxes

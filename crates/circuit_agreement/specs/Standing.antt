@@ -2,19 +2,19 @@
 use Rattle.std.specs.Prelude.{◌≡◌, ◌≢◌, ℕ, ◌%◌, ◌^◌, ◌<◌, true, List, slice_get, Option, Some, None}
 use Rattle.ir_core.specs.declared.body.Operand.{Operand}
 use Rattle.ir_core.specs.declared.cfg.End.TheVariants as end
-use Rattle.block_meaning.specs.Bodies.{Words}
-use Rattle.clock_meaning.specs.Flows.{TimedBody, Flow}
-use Rattle.clock_meaning.specs.ClockRuns.{TimedNode, block, overlapped, Phase, starting, loading, inside, ended}
+use Rattle.ir_core.specs.Bodies.{Words}
+use Rattle.clock_ir.specs.Flows.{TimedBody, Flow}
+use Rattle.clock_ir.specs.ClockRuns.{TimedNode, block, overlapped, Phase, starting, loading, inside, ended}
 use Rattle.datapath.specs.Plans.{Plan, Array, body_at, span}
 use Rattle.datapath.specs.Cycles.{Variable, Result, Contents}
 use Rattle.datapath.specs.Standing.{IsWaiting, IsLoading, IsInside, IsBusy, IsStill}
 use Rattle.datapath.specs.Savings.{StaysForNextRun}
 use Rattle.circuit_flow.specs.Compiled.{IsCompiled}
 use Rattle.circuit_flow.specs.Flows.{HoldsVariables, HoldsMemories}
-use Rattle.held_results.specs.Holding.{HoldsResults}
-use Rattle.unit_results.specs.UnderWay.{HasUnderWay}
-use Rattle.loop_gates.specs.Gates.{HoldsGates, RunsOnce}
-use Rattle.node_ends.specs.Ends.{HoldsComparisons}
+use Rattle.circuit_flow.specs.HeldResults.Holding.{HoldsResults}
+use Rattle.circuit_agreement.specs.UnitResults.UnderWay.{HasUnderWay}
+use Rattle.circuit_flow.specs.LoopGates.Gates.{HoldsGates, RunsOnce}
+use Rattle.circuit_flow.specs.NodeEnds.Ends.{HoldsComparisons}
 
 -- A function that returns a word has a result, and the constants of a table have no more bits than its elements.
 pub record FitsFrame (p : Plan) : Type 0 where

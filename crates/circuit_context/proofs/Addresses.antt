@@ -15,14 +15,14 @@ use Rattle.ir_core.specs.declared.body.Operand.{Operand}
 use Rattle.ir_core.specs.declared.cfg.Frame.{Frame}
 use Rattle.ir_core.specs.declared.cfg.Memory.{Memory}
 use Rattle.ir_core.specs.declared.body.Source.TheVariants as source
-use Rattle.block_meaning.specs.Bodies.{address_of}
+use Rattle.ir_core.specs.Bodies.{address_of}
 use Rattle.rtl_logic.specs.Making.{Makes}
 use Rattle.rtl_logic.proofs.Making.{appended, appends_both, appends_none}
 use Rattle.datapath.specs.Plans.{Plan, array_at, depth}
 use Rattle.datapath.specs.Cycles.{Register, Cycle, in_cycle}
 use Rattle.datapath.specs.Reading.{operand}
-use Rattle.circuit_wires.specs.Carrying.{IsBegun, Carries, MakesCarrying}
-use Rattle.circuit_wires.proofs.Combining.{carries_on, carries_as, there_already, made_carries}
+use Rattle.datapath.specs.CircuitWires.Carrying.{IsBegun, Carries, MakesCarrying}
+use Rattle.datapath.proofs.Combining.{carries_on, carries_as, there_already, made_carries}
 use Rattle.circuit_context.specs.Contexts.{HasDimensions, MayCarry, MakesAddress, subscripted}
 use Rattle.circuit_context.proofs.Telling.{same_carries}
 

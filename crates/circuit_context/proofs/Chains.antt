@@ -11,13 +11,13 @@ use Rattle.rtl_core.specs.Netlist.{Netlist}
 use Rattle.rtl_core.specs.Valid.{IsBetween}
 use Rattle.ir_core.specs.declared.body.Operand.{Operand}
 use Rattle.dep_graph.specs.Dependences.{maker_of}
-use Rattle.clock_meaning.specs.Flows.{TimedBody, place, ready}
+use Rattle.clock_ir.specs.Flows.{TimedBody, place, ready}
 use Rattle.datapath.specs.Plans.{Plan, body_at}
 use Rattle.datapath.specs.Cycles.{Register, Value, Cycle}
 use Rattle.datapath.specs.Reading.{held_by, result_at, read_from, read_by, operand}
-use Rattle.circuit_wires.specs.Carrying.{Carries}
-use Rattle.circuit_log.specs.Logs.{CarriesSome}
-use Rattle.held_places.specs.Held.{IsHeldBy}
+use Rattle.datapath.specs.CircuitWires.Carrying.{Carries}
+use Rattle.circuit_context.specs.Wanted.Logs.{CarriesSome}
+use Rattle.datapath.specs.Held.{IsHeldBy}
 use Rattle.circuit_context.proofs.Telling.{number_carries}
 
 pub chain_some : (o : Option OpId) (n : ℕ) (op : OpId) (d : ℕ) → ◌≡◌ {A = Option (OpId × ℕ)} (Some (op, d)) (option_map (λ (q : OpId). (q, n)) o) → (o ≡ Some op) × (d ≡ n)

@@ -11,11 +11,11 @@ use Rattle.ir_core.specs.declared.body.OpKind.TheVariants as o
 use Rattle.ir_core.specs.declared.cfg.Cfg.{Cfg}
 use Rattle.ir_core.specs.declared.cfg.Node.{Node}
 use Rattle.ir_core.specs.declared.cfg.Node.TheVariants as node
-use Rattle.ir_operation.specs.Timing as timing
-use Rattle.clock_ir.specs.declared.timed.Timed.{Timed}
+use Rattle.ir_core.specs.Timing as timing
+use Rattle.ir_core.specs.declared.timed.Timed.{Timed}
 use Rattle.dep_graph.specs.Dependences.{test_maker}
-use Rattle.clock_meaning.specs.Flows.{timed_op, ready, ready_in, ready_if, known}
-use Rattle.clock_meaning.specs.ClockRuns.{timed_node}
+use Rattle.clock_ir.specs.Flows.{timed_op, ready, ready_in, ready_if, known}
+use Rattle.clock_ir.specs.ClockRuns.{timed_node}
 use Rattle.reg_binding.specs.SmallTimes.{IsEarlyOp, IsEarlyNode}
 use Rattle.datapath.specs.Plans.{body_of}
 use Rattle.circuit_context.specs.Programs.{IsBuildable}

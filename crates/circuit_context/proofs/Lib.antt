@@ -1,3 +1,8 @@
+pub mod WantedLemmas
+pub mod BankLemmas
+pub mod Loading
+pub mod Reaching
+pub mod Numbering
 pub mod Telling
 pub mod Standing
 pub mod Chains
@@ -5,3 +10,8 @@ pub mod Addresses
 pub mod Programs
 pub mod Early
 pub mod Named
+pub mod Gates
+pub mod Halving
+pub mod Choosing
+pub mod Naming
+pub mod Widths

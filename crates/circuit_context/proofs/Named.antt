@@ -4,10 +4,10 @@ use Rattle.std.specs.Option.{option_map}
 use Rattle.std.proofs.lemmas.Option.{slice_get-map, get_or_from_slice_get}
 use Rattle.ir_core.specs.declared.cfg.Node.{Node}
 use Rattle.ir_core.specs.declared.cfg.Node.TheVariants as node
-use Rattle.clock_ir.specs.declared.timed.Timed.{Timed}
+use Rattle.ir_core.specs.declared.timed.Timed.{Timed}
 use Rattle.program_validity.specs.Programs.{body_in}
-use Rattle.access_ports.specs.Counting.{ops_in}
-use Rattle.access_ports.specs.Numbers.{operations_of}
+use Rattle.circuit_context.specs.Counting.{ops_in}
+use Rattle.circuit_context.specs.Numbers.{operations_of}
 
 pub same_ops : (n : Node Timed) → ops_in n ≡ (body_in n).ops.items
 same_ops (node.Plain b) = refl

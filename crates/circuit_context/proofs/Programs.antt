@@ -10,14 +10,14 @@ use Rattle.ir_core.specs.declared.cfg.Cfg.{Cfg}
 use Rattle.ir_core.specs.declared.cfg.Memory.{Memory}
 use Rattle.ir_core.specs.declared.cfg.Node.{Node}
 use Rattle.ir_core.specs.declared.cfg.Node.TheVariants as node
-use Rattle.clock_ir.specs.declared.timed.Timed.{Timed}
+use Rattle.ir_core.specs.declared.timed.Timed.{Timed}
 use Rattle.program_validity.specs.Frames.{is_memory}
 use Rattle.program_validity.specs.Programs.{is_consistent}
 use Rattle.program_validity.proofs.Parts.{few_nodes, few_variables, few_memories, frame_valid, memories_valid, short_address}
 use Rattle.reg_binding.specs.SmallTimes.{IsEarlyNode}
-use Rattle.small_numbers.specs.Small.{HasFewParts, ops_in}
+use Rattle.ir_core.specs.Small.{HasFewParts, ops_in}
 use Rattle.datapath.specs.Plans.{array_of, cycles_for, initial_cycles}
-use Rattle.register_bank.specs.Banks.{HasShortStart}
+use Rattle.circuit_context.specs.Bank.Banks.{HasShortStart}
 use Rattle.circuit_context.specs.Programs.{IsBuildable}
 
 -- ---- few parts

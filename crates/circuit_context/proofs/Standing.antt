@@ -7,16 +7,16 @@ use Rattle.std.proofs.lemmas.Bool.{le-leb, lt-leb}
 use Rattle.std.proofs.Math.Bool.{and-true}
 use Rattle.rtl_core.specs.declared.design.Atom.{Atom}
 use Rattle.ir_core.specs.declared.cfg.Node.{Node}
-use Rattle.clock_ir.specs.declared.timed.Timed.{Timed}
-use Rattle.clock_meaning.specs.ClockRuns.{timed_node}
+use Rattle.ir_core.specs.declared.timed.Timed.{Timed}
+use Rattle.clock_ir.specs.ClockRuns.{timed_node}
 use Rattle.datapath.specs.Plans.{Plan, body_at, body_of, bits_of, span}
 use Rattle.datapath.specs.Cycles.{Register, Cycle, Time, Active, Passed, holds}
 use Rattle.datapath.specs.Circuits.{width}
 use Rattle.datapath.specs.Control.{greatest_time}
 use Rattle.datapath.specs.Reading.{at, has_passed, at_iteration}
-use Rattle.plan_sizes.proofs.Programs.{node_body}
-use Rattle.circuit_wires.specs.Carrying.{IsRegister}
-use Rattle.register_bank.specs.Banks.{names_of}
+use Rattle.datapath.proofs.Programs.{node_body}
+use Rattle.datapath.specs.CircuitWires.Carrying.{IsRegister}
+use Rattle.circuit_context.specs.Bank.Banks.{names_of}
 use Rattle.circuit_context.specs.declared.context.Context.{Context}
 use Rattle.circuit_context.specs.Contexts.{IsContext, IsProgramOf}
 use Rattle.circuit_context.proofs.Telling.{register_later}

@@ -16,10 +16,10 @@ use Rattle.rtl_logic.proofs.Making.{appended, appends_both, fits_later, seen_bou
 use Rattle.datapath.specs.Plans.{Plan}
 use Rattle.datapath.specs.Cycles.{Register, Cycle, in_cycle, holds, bit}
 use Rattle.datapath.specs.Circuits.{width}
-use Rattle.circuit_wires.specs.Carrying.{IsRegister, IsBegun, Carries, Tells, MakesCarrying, MakesTelling}
-use Rattle.circuit_wires.proofs.Carrying.{register}
-use Rattle.circuit_wires.proofs.Combining.{and_tells, equal_tells, constant_carries, carries_on}
-use Rattle.circuit_log.specs.Logs.{CarriesSome}
+use Rattle.datapath.specs.CircuitWires.Carrying.{IsRegister, IsBegun, Carries, Tells, MakesCarrying, MakesTelling}
+use Rattle.datapath.proofs.Carrying.{register}
+use Rattle.datapath.proofs.Combining.{and_tells, equal_tells, constant_carries, carries_on}
+use Rattle.circuit_context.specs.Wanted.Logs.{CarriesSome}
 
 -- ---- registers
 

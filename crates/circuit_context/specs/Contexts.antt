@@ -8,21 +8,21 @@ use Rattle.ir_core.specs.declared.body.Operand.{Operand}
 use Rattle.ir_core.specs.declared.cfg.Cfg.{Cfg}
 use Rattle.ir_core.specs.declared.cfg.Frame.{Frame}
 use Rattle.ir_core.specs.declared.cfg.Memory.{Memory}
-use Rattle.block_meaning.specs.Bodies.{address_of}
-use Rattle.clock_ir.specs.declared.timed.Timed.{Timed}
-use Rattle.clock_meaning.specs.Flows.{timed_op}
-use Rattle.clock_meaning.specs.ClockRuns.{timed_program}
-use Rattle.live_variables.specs.Liveness.{IsLiveness, flow_of}
+use Rattle.ir_core.specs.Bodies.{address_of}
+use Rattle.ir_core.specs.declared.timed.Timed.{Timed}
+use Rattle.clock_ir.specs.Flows.{timed_op}
+use Rattle.clock_ir.specs.ClockRuns.{timed_program}
+use Rattle.reg_binding.specs.Liveness.{IsLiveness, flow_of}
 use Rattle.rtl_logic.specs.Making.{Appends}
 use Rattle.datapath.specs.Plans.{Plan, Placed, plan_of, array_of, array_at, body_at}
 use Rattle.datapath.specs.Cycles.{Register, Cycle}
 use Rattle.datapath.specs.Reading.{operand}
-use Rattle.circuit_wires.specs.Carrying.{Carries, IsBegun}
-use Rattle.small_numbers.specs.Small.{HasSmallNumbers}
+use Rattle.datapath.specs.CircuitWires.Carrying.{Carries, IsBegun}
+use Rattle.ir_core.specs.Small.{HasSmallNumbers}
 use Rattle.datapath.specs.LeftOut.{savings_of, is_read}
-use Rattle.register_bank.specs.Banks.{names_of}
-use Rattle.held_places.specs.Tables.{ArePlaces}
-use Rattle.access_ports.specs.Numbers.{ArePorts}
+use Rattle.circuit_context.specs.Bank.Banks.{names_of}
+use Rattle.datapath.specs.Tables.{ArePlaces}
+use Rattle.circuit_context.specs.Numbers.{ArePorts}
 use Rattle.circuit_context.specs.declared.context.Context.{Context}
 
 -- The plan is that of the program, with these registers and with what is live. The bank's registers are the first ones of the circuit.

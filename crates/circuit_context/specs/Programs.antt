@@ -4,7 +4,7 @@ use Rattle.std.proofs.Props.{props}
 use Rattle.ir_core.specs.declared.cfg.Cfg.{Cfg}
 use Rattle.ir_core.specs.declared.cfg.Node.{Node}
 use Rattle.ir_core.specs.declared.cfg.Node.TheVariants as node
-use Rattle.clock_ir.specs.declared.timed.Timed.{Timed}
+use Rattle.ir_core.specs.declared.timed.Timed.{Timed}
 use Rattle.program_validity.specs.Programs.{is_consistent}
 use Rattle.reg_binding.specs.SmallTimes.{IsEarlyNode, HasSmallTimes}
 

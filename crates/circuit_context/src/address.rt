@@ -5,14 +5,14 @@ ghost use Rattle.rtl_logic.specs.Making.{circuit};
 ghost use Rattle.datapath.specs.Plans.{Plan, depth};
 ghost use Rattle.datapath.specs.Cycles.{Register, Cycle};
 ghost use Rattle.datapath.specs.Reading as reading;
-ghost use Rattle.circuit_wires.specs.Carrying.{IsBegun, Carries, MakesCarrying};
+ghost use Rattle.datapath.specs.CircuitWires.Carrying.{IsBegun, Carries, MakesCarrying};
 ghost use Rattle.circuit_context.specs.Contexts.{IsContext, HasDimensions, subscripted, MayCarry, MakesAddress};
 
 use crate::context::{Context, Reading};
+use datapath::plan_sizes::sizes::{dimension_bits, memory_at};
 use hls_base::number::ArrayId;
 use hls_base::refusal::impossible;
 use ir_core::body::Operand;
-use plan_sizes::sizes::{dimension_bits, memory_at};
 use rtl_core::design::Atom;
 use rtl_logic::logic::Logic;
 use std::alloc::AllocError;

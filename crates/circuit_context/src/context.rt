@@ -1,19 +1,19 @@
 //! A program with times, and what was found for its circuit.
 ghost use Rattle.std.specs.Prelude.{◌≤◌, length};
-ghost use Rattle.small_numbers.specs.Small.{HasFewParts};
-ghost use Rattle.register_bank.specs.Banks.{HasShortStart};
+ghost use Rattle.ir_core.specs.Small.{HasFewParts};
+ghost use Rattle.circuit_context.specs.Bank.Banks.{HasShortStart};
 ghost use Rattle.circuit_context.specs.Programs.{IsBuildable, Buildable-prop};
-ghost use Rattle.access_ports.specs.Numbers.{HasPlaces};
+ghost use Rattle.circuit_context.specs.Numbers.{HasPlaces};
 
-use access_ports::ports::PortNumbers;
-use circuit_log::role::Role;
-use clock_ir::timed::Timed;
-use held_places::places::Places;
+use crate::bank::bank::Bank;
+use crate::ports::PortNumbers;
+use crate::wanted::role::Role;
+use datapath::places::Places;
 use hls_base::number::NodeId;
 use ir_core::cfg::{Cfg, Node};
-use live_variables::live::Live;
+use ir_core::timed::Timed;
+use reg_binding::live::Live;
 use reg_binding::registers::Registers;
-use register_bank::bank::Bank;
 use rtl_core::design::Atom;
 use std::alloc::{AllocError, Global};
 
@@ -36,7 +36,7 @@ pub struct Context<'a> {
 }
 
 /// A node, and the time in its block or iteration.
-#[derive(Clone, Copy, Debug, PartialEq, Eq)]
+#[derive(Clone, Copy, PartialEq, Eq)]
 pub struct Reading {
     pub node: NodeId,
     pub time: u64,
@@ -47,8 +47,8 @@ impl<'a> Context<'a> {
     ghost use Rattle.reg_binding.specs.SmallTimes.{IsEarlyNode};
     ghost use Rattle.datapath.specs.Plans.{Plan};
     ghost use Rattle.datapath.specs.Cycles.{Register};
-    ghost use Rattle.circuit_wires.specs.Carrying.{IsRegister};
-    ghost use Rattle.circuit_log.specs.Roles.{named};
+    ghost use Rattle.datapath.specs.CircuitWires.Carrying.{IsRegister};
+    ghost use Rattle.circuit_context.specs.Wanted.Roles.{named};
     ghost use Rattle.circuit_context.specs.Contexts.{IsContext};
 
     /// The node with this number.

@@ -6,7 +6,7 @@ ghost use Rattle.rtl_core.specs.Valid.{IsBetween};
 ghost use Rattle.rtl_logic.specs.Making.{circuit};
 ghost use Rattle.datapath.specs.Plans.{Plan};
 ghost use Rattle.datapath.specs.Cycles.{Register, Cycle};
-ghost use Rattle.circuit_wires.specs.Carrying.{IsRegister, IsBegun, Tells, MakesTelling};
+ghost use Rattle.datapath.specs.CircuitWires.Carrying.{IsRegister, IsBegun, Tells, MakesTelling};
 
 use hls_base::refusal::impossible;
 use rtl_core::design::Atom;

@@ -5,11 +5,11 @@ use Rattle.ir_core.specs.declared.cfg.Memory.{Memory}
 use Rattle.ir_core.specs.declared.cfg.Node.{Node}
 use Rattle.ir_core.specs.declared.cfg.Node.TheVariants as node
 use Rattle.ir_core.specs.declared.stamp.Untimed.{Untimed}
-use Rattle.clock_ir.specs.declared.timed.Timed.{Timed}
-use Rattle.block_meaning.specs.Bodies.{Shapes}
-use Rattle.block_meaning.specs.FlatRuns.{shapes_of}
-use Rattle.clock_meaning.specs.ClockRuns.{TimedNode, timed_node, TimedProgram, timed_program}
-use Rattle.clock_meaning.specs.WellTimed.{IsWellTimedNode, AreWellTimed}
+use Rattle.ir_core.specs.declared.timed.Timed.{Timed}
+use Rattle.ir_core.specs.Bodies.{Shapes}
+use Rattle.ir_core.specs.FlatRuns.{shapes_of}
+use Rattle.clock_ir.specs.ClockRuns.{TimedNode, timed_node, TimedProgram, timed_program}
+use Rattle.clock_ir.specs.WellTimed.{IsWellTimedNode, AreWellTimed}
 use Rattle.clock_runs.specs.Premises.{IsSoundNode}
 use Rattle.clock_runs.proofs.Lists.{some_same, no_some, each_get}
 use Rattle.datapath.specs.Plans.{Plan, body_of, body_if, body_at}

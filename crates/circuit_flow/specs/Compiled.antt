@@ -13,15 +13,15 @@ use Rattle.ir_core.specs.declared.body.Source.TheVariants as source
 use Rattle.ir_core.specs.declared.cfg.Cfg.{Cfg}
 use Rattle.ir_core.specs.declared.cfg.Node.{Node}
 use Rattle.ir_core.specs.declared.stamp.Untimed.{Untimed}
-use Rattle.ir_operation.specs.Timing.{result_bits}
-use Rattle.clock_ir.specs.declared.timed.Timed.{Timed}
+use Rattle.ir_core.specs.Timing.{result_bits}
+use Rattle.ir_core.specs.declared.timed.Timed.{Timed}
 use Rattle.dep_graph.specs.Dependences.{maker_of}
-use Rattle.live_variables.specs.declared.live.Live.{Live}
-use Rattle.live_variables.specs.Liveness.{IsLiveness, flow_of, summary_of, is_behind}
+use Rattle.reg_binding.specs.declared.live.Live.{Live}
+use Rattle.reg_binding.specs.Liveness.{IsLiveness, flow_of, summary_of, is_behind}
 use Rattle.reg_binding.specs.declared.registers.Registers.{Registers}
 use Rattle.reg_binding.specs.Assigned.{IsAssigned}
-use Rattle.clock_meaning.specs.Flows.{TimedOp}
-use Rattle.clock_meaning.specs.WellTimed.{IsWellTimed}
+use Rattle.clock_ir.specs.Flows.{TimedOp}
+use Rattle.clock_ir.specs.WellTimed.{IsWellTimed}
 use Rattle.clock_runs.specs.Premises.{IsSoundProgram}
 use Rattle.datapath.specs.Plans.{Plan, array_of, array_at, body_at, plan_of, Array, host_arrays}
 use Rattle.datapath.specs.Control.{greatest_time, greatest_wait}

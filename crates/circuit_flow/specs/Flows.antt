@@ -4,9 +4,9 @@ use Rattle.hls_base.specs.ArrayAddress.{addresses}
 use Rattle.hls_base.specs.declared.number.ArrayId.{ArrayId}
 use Rattle.ir_core.specs.declared.body.OpKind.TheVariants as o
 use Rattle.ir_core.specs.declared.body.Operand.{Operand}
-use Rattle.block_meaning.specs.Bodies.{dims_of, address_of, subscripts}
-use Rattle.block_meaning.specs.FirstContents.{given_at}
-use Rattle.clock_meaning.specs.Flows.{TimedOp, Flow, latency, is_at, pushed, operand_at, holds_at, runs_at, given, starts}
+use Rattle.ir_core.specs.Bodies.{dims_of, address_of, subscripts}
+use Rattle.ir_core.specs.FirstContents.{given_at}
+use Rattle.clock_ir.specs.Flows.{TimedOp, Flow, latency, is_at, pushed, operand_at, holds_at, runs_at, given, starts}
 use Rattle.datapath.specs.Plans.{Plan, array_at, depth, body_at}
 use Rattle.datapath.specs.Cycles.{Variable, Contents, Cycle}
 use Rattle.datapath.specs.Reading.{has_passed, operand}

@@ -2,7 +2,7 @@
 use Rattle.std.specs.Prelude.{◌≡◌, ℕ, ◌≤◌, slice_get, Some}
 use Rattle.datapath.specs.Plans.{Plan, body_at, span}
 use Rattle.circuit_flow.specs.Compiled.{IsCompiled}
-use Rattle.clock_meaning.specs.ClockRuns.{TimedNode}
+use Rattle.clock_ir.specs.ClockRuns.{TimedNode}
 
 -- the iterations of a compiled program begin some cycles apart, and its blocks take some cycles
 abbrev pub IntervalsArePositive : Type 0

@@ -5,8 +5,8 @@ use Rattle.ir_core.specs.declared.body.Operand.{Operand}
 use Rattle.ir_core.specs.declared.body.Out.{Out}
 use Rattle.ir_core.specs.declared.body.Source.TheVariants as source
 use Rattle.ir_core.specs.declared.cfg.End.{End}
-use Rattle.clock_meaning.specs.Flows.{TimedOp, TimedBody, ready, known}
-use Rattle.clock_meaning.specs.ClockRuns.{block, overlapped, later}
+use Rattle.clock_ir.specs.Flows.{TimedOp, TimedBody, ready, known}
+use Rattle.clock_ir.specs.ClockRuns.{block, overlapped, later}
 use Rattle.datapath.specs.Plans.{Plan, body_at, span}
 use Rattle.datapath.specs.Blocks.{EndReads}
 use Rattle.datapath.specs.Savings.{IsLiveBehind}

@@ -1,4 +1,4 @@
-//! Tests over circuits, their texts and their reports: what is printed, read, refused and shown in each cycle.
+//! Tests over circuits and flat programs, their texts and their reports.
 #![tactic(auto)]
 
 #[cfg(test)]
@@ -7,6 +7,8 @@ mod cycles;
 mod design_rules;
 #[cfg(test)]
 mod printing;
+#[cfg(test)]
+mod programs;
 #[cfg(test)]
 mod reading;
 #[cfg(test)]

@@ -1,1 +1,3 @@
-pub mod Fits
+pub mod Flows
+pub mod ClockRuns
+pub mod WellTimed

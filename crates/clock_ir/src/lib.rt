@@ -1,4 +1,2 @@
-//! Programs with times: when each operation starts, and on which unit.
+//! What a run of a timed program is, and which programs are well timed.
 #![tactic(auto)]
-
-pub mod timed;

@@ -1,10 +1,10 @@
 -- What is read for an operation, one argument after another.
 use Rattle.std.proofs.Common.{◌≡◌, ℕ, zero, suc, ◌+◌, ◌<◌, List, [], ◌∷◌, ◌++◌, length, get_or, set, map, take, sym, ap, ◌∙◌, arith}
 use Rattle.std.proofs.lemmas.List.{take_more_set, map_more}
-use Rattle.clock_lines.specs.declared.program.Line.{Line}
-use Rattle.clock_lines.specs.declared.program.Read.{Read}
-use Rattle.clock_lines.specs.declared.registers.Registers.{Registers}
-use Rattle.clock_lines.specs.Registers.{ReadIsWithin}
+use Rattle.clock_machine.specs.declared.lines.program.Line.{Line}
+use Rattle.clock_machine.specs.declared.lines.program.Read.{Read}
+use Rattle.clock_machine.specs.declared.lines.registers.Registers.{Registers}
+use Rattle.clock_machine.specs.Lines.Registers.{ReadIsWithin}
 use Rattle.clock_machine.specs.Acts.{ReadsAreWithin}
 
 pub read_more : {X : Type 0} (f : X → ℕ) (xs : List X) (into : List ℕ) (i w : ℕ) (d : X) → i < length xs → i < length into → w ≡ f (get_or xs i d) → take i into ≡ map f (take i xs) → take (i + 1) (set into i w) ≡ map f (take (i + 1) xs)

@@ -5,16 +5,16 @@ use Rattle.std.proofs.lemmas.Option.{slice_get_within, slice_get-get_or}
 use Rattle.ir_core.specs.declared.body.Out.{Out}
 use Rattle.ir_core.specs.declared.body.Source.{Source}
 use Rattle.ir_core.specs.declared.body.Source.TheVariants as source
-use Rattle.block_meaning.specs.Bodies.{Shapes, Words}
-use Rattle.clock_meaning.specs.Flows.{TimedOp, TimedBody, is_result, entered, pushed, first_flow}
-use Rattle.clock_lines.specs.declared.program.Action.{Action}
-use Rattle.clock_lines.specs.declared.program.Line.{Line}
-use Rattle.clock_lines.specs.declared.program.Work.{Work}
-use Rattle.clock_lines.specs.declared.registers.Registers.{Registers}
-use Rattle.clock_lines.specs.Reads.{Each, entry_in}
-use Rattle.clock_lines.specs.Registers.{HasPushed, held}
-use Rattle.clock_lines.specs.Showing.{HasLines, ShowsChain, ShowsGates, Shows}
-use Rattle.clock_lines.proofs.Cycles.{rooms_stay, chain_stays, chain_pushed}
+use Rattle.ir_core.specs.Bodies.{Shapes, Words}
+use Rattle.clock_ir.specs.Flows.{TimedOp, TimedBody, is_result, entered, pushed, first_flow}
+use Rattle.clock_machine.specs.declared.lines.program.Action.{Action}
+use Rattle.clock_machine.specs.declared.lines.program.Line.{Line}
+use Rattle.clock_machine.specs.declared.lines.program.Work.{Work}
+use Rattle.clock_machine.specs.declared.lines.registers.Registers.{Registers}
+use Rattle.clock_machine.specs.Lines.Reads.{Each, entry_in}
+use Rattle.clock_machine.specs.Lines.Registers.{HasPushed, held}
+use Rattle.clock_machine.specs.Lines.Showing.{HasLines, ShowsChain, ShowsGates, Shows}
+use Rattle.clock_machine.proofs.LinesLemmas.Cycles.{rooms_stay, chain_stays, chain_pushed}
 use Rattle.clock_machine.specs.Keeping.{IsForm, IsMoment}
 use Rattle.clock_machine.specs.Standing.{NamesOne, IsOutOf}
 use Rattle.clock_machine.proofs.Made.{apart}

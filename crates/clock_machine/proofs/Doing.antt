@@ -6,17 +6,17 @@ use Rattle.std.proofs.Math.Nat.{div-le_self}
 use Rattle.std.proofs.lemmas.Bool.{cases_Bool, cond-true, cond-false}
 use Rattle.ir_core.specs.declared.body.OpKind.TheVariants as o
 use Rattle.ir_core.specs.declared.body.Operand.{Operand}
-use Rattle.block_meaning.specs.Bodies.{Shapes, Words, Performed, effect, first_bits}
-use Rattle.clock_meaning.specs.Flows.{TimedOp, TimedBody, Flow, operand_at, holds_at, place, known, gates_now, runs_at, is_at, starts, performed}
-use Rattle.clock_lines.specs.declared.program.Action.{Action}
-use Rattle.clock_lines.specs.declared.program.Line.{Line}
-use Rattle.clock_lines.specs.declared.program.Work.{Work}
-use Rattle.clock_lines.specs.declared.registers.Registers.{Registers}
-use Rattle.clock_lines.specs.Forms.{op_trees}
-use Rattle.clock_lines.specs.Reads.{Each, EachIf, IsCovered, read_of}
-use Rattle.clock_lines.specs.Registers.{ReadIsWithin, held, word_read}
-use Rattle.clock_lines.specs.Showing.{Shows, ShowsGates}
-use Rattle.clock_lines.proofs.Reading.{reads_operand}
+use Rattle.ir_core.specs.Bodies.{Shapes, Words, Performed, effect, first_bits}
+use Rattle.clock_ir.specs.Flows.{TimedOp, TimedBody, Flow, operand_at, holds_at, place, known, gates_now, runs_at, is_at, starts, performed}
+use Rattle.clock_machine.specs.declared.lines.program.Action.{Action}
+use Rattle.clock_machine.specs.declared.lines.program.Line.{Line}
+use Rattle.clock_machine.specs.declared.lines.program.Work.{Work}
+use Rattle.clock_machine.specs.declared.lines.registers.Registers.{Registers}
+use Rattle.clock_machine.specs.Lines.Forms.{op_trees}
+use Rattle.clock_machine.specs.Lines.Reads.{Each, EachIf, IsCovered, read_of}
+use Rattle.clock_machine.specs.Lines.Registers.{ReadIsWithin, held, word_read}
+use Rattle.clock_machine.specs.Lines.Showing.{Shows, ShowsGates}
+use Rattle.clock_machine.proofs.LinesLemmas.Reading.{reads_operand}
 use Rattle.clock_machine.specs.Acts.{ReadsAreWithin, ReadIsWithinIf, guard_holds, is_store, is_open, allows, op_in}
 use Rattle.clock_machine.specs.Keeping.{IsForm}
 use Rattle.clock_machine.specs.Starting.{stored_by}

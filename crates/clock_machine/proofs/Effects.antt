@@ -2,8 +2,8 @@
 use Rattle.std.proofs.Common.{◌≡◌, ◌⊎◌, inl, inr, ℕ, Bool, true, false, List, refl, ap, ap₂}
 use Rattle.ir_core.specs.declared.body.OpKind.{OpKind}
 use Rattle.ir_core.specs.declared.body.OpKind.TheVariants as o
-use Rattle.ir_operation.specs.Value as v
-use Rattle.block_meaning.specs.Bodies.{OpTree, Shapes, Words, performed, loaded, with_stored, effect}
+use Rattle.ir_core.specs.Value as v
+use Rattle.ir_core.specs.Bodies.{OpTree, Shapes, Words, performed, loaded, with_stored, effect}
 use Rattle.clock_machine.specs.Acts.{is_store}
 
 module _ (shapes : Shapes) (x y : OpTree) (from : ℕ) (args : List ℕ) (t : Words) (array : x.array ≡ y.array) (signed : x.signed ≡ y.signed) (bits : x.bits ≡ y.bits) where

@@ -2,17 +2,17 @@
 use Rattle.std.proofs.Common.{◌≡◌, ℕ, zero, suc, ◌<◌, ◌≤◌, List, [], ◌∷◌, length, slice_get, Some, None, refl, sym, ap, ◌∙◌, subst, arith}
 use Rattle.std.proofs.lemmas.Option.{slice_get_past, slice_get_within}
 use Rattle.hls_base.specs.declared.number.NodeId.{NodeId}
-use Rattle.block_meaning.specs.Bodies.{Words}
-use Rattle.clock_meaning.specs.Flows.{TimedBody, Flow, first_flow}
-use Rattle.clock_meaning.specs.ClockRuns.{TimedNode, block, overlapped, TimedProgram, Phase, starting, loading, inside, ended, at_node, enter, load, node_step, clock_step}
-use Rattle.clock_lines.specs.declared.program.Exit.{Exit}
-use Rattle.clock_lines.specs.declared.program.Program.{Program}
-use Rattle.clock_lines.specs.declared.program.Stage.{Stage}
-use Rattle.clock_lines.specs.declared.program.Stage.TheVariants as stage
-use Rattle.clock_lines.specs.declared.program.Way.{Way}
-use Rattle.clock_lines.specs.declared.program.Work.{Work}
-use Rattle.clock_lines.specs.Forms.{IsStageOf}
-use Rattle.clock_lines.specs.Stages.{work_in}
+use Rattle.ir_core.specs.Bodies.{Words}
+use Rattle.clock_ir.specs.Flows.{TimedBody, Flow, first_flow}
+use Rattle.clock_ir.specs.ClockRuns.{TimedNode, block, overlapped, TimedProgram, Phase, starting, loading, inside, ended, at_node, enter, load, node_step, clock_step}
+use Rattle.clock_machine.specs.declared.lines.program.Exit.{Exit}
+use Rattle.clock_machine.specs.declared.lines.program.Program.{Program}
+use Rattle.clock_machine.specs.declared.lines.program.Stage.{Stage}
+use Rattle.clock_machine.specs.declared.lines.program.Stage.TheVariants as stage
+use Rattle.clock_machine.specs.declared.lines.program.Way.{Way}
+use Rattle.clock_machine.specs.declared.lines.program.Work.{Work}
+use Rattle.clock_machine.specs.Lines.Forms.{IsStageOf}
+use Rattle.clock_machine.specs.Lines.Stages.{work_in}
 use Rattle.clock_machine.specs.declared.state.Position.{Position}
 use Rattle.clock_machine.specs.declared.state.Position.TheVariants as position
 use Rattle.clock_machine.specs.declared.state.State.{State}

@@ -3,10 +3,10 @@ use Rattle.std.proofs.Common.{◌≡◌, ℕ, zero, suc, ◌+◌, ◌<◌, ◌�
 use Rattle.std.proofs.lemmas.List.{drop_more, drop_all}
 use Rattle.hls_base.specs.declared.number.Kept.{Kept}
 use Rattle.hls_base.specs.declared.number.VarId.{VarId}
-use Rattle.block_meaning.specs.Bodies.{with_word}
-use Rattle.block_meaning.specs.FirstContents.{with_kept, with_arguments}
-use Rattle.machine_memory.proofs.Banks.{word_set, zero_words}
-use Rattle.clock_lines.specs.Registers.{held}
+use Rattle.ir_core.specs.Bodies.{with_word}
+use Rattle.ir_core.specs.FirstContents.{with_kept, with_arguments}
+use Rattle.flat_programs.proofs.MemoryLemmas.Banks.{word_set, zero_words}
+use Rattle.clock_machine.specs.Lines.Registers.{held}
 use Rattle.clock_machine.specs.Starts.{KeptThere, ParametersThere}
 
 pub held_set : (vs : List ℕ) (v w : ℕ) → v < length vs → held (set vs v w) ≡ with_word (held vs) v w

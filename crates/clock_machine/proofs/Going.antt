@@ -6,21 +6,21 @@ use Rattle.std.proofs.lemmas.Bool.{cond-true, cond-false, lt-ltb, le-ltb}
 use Rattle.hls_base.specs.declared.number.NodeId.{NodeId}
 use Rattle.ir_core.specs.declared.body.Operand.{Operand}
 use Rattle.ir_core.specs.declared.cfg.End.{End}
-use Rattle.machine_memory.specs.Contents.{words_in}
-use Rattle.block_meaning.specs.Bodies.{Shapes}
-use Rattle.clock_meaning.specs.Flows.{TimedBody, Flow, operand_at, taken, tick, place, known, is_at, runs_at}
-use Rattle.clock_meaning.specs.ClockRuns.{Phase, TimedNode, block, overlapped, TimedProgram, inside, going_by, goes_to, enter, block_left, block_step, later, loop_left, loop_step, node_step}
-use Rattle.clock_lines.specs.declared.program.Assignment.{Assignment}
-use Rattle.clock_lines.specs.declared.program.Exit.{Exit}
-use Rattle.clock_lines.specs.declared.program.Program.{Program}
-use Rattle.clock_lines.specs.declared.program.Stage.TheVariants as stage
-use Rattle.clock_lines.specs.declared.program.Way.{Way}
-use Rattle.clock_lines.specs.declared.program.Work.{Work}
-use Rattle.clock_lines.specs.Forms.{IsWorkOf, IsDeep, IsStageOf, assignment_of}
-use Rattle.clock_lines.specs.Reads.{Each, IsCovered, read_of}
-use Rattle.clock_lines.specs.Registers.{ReadIsWithin, held, word_read}
-use Rattle.clock_lines.specs.Stages.{work_in}
-use Rattle.clock_lines.proofs.Reading.{reads_operand}
+use Rattle.flat_programs.specs.Memory.Contents.{words_in}
+use Rattle.ir_core.specs.Bodies.{Shapes}
+use Rattle.clock_ir.specs.Flows.{TimedBody, Flow, operand_at, taken, tick, place, known, is_at, runs_at}
+use Rattle.clock_ir.specs.ClockRuns.{Phase, TimedNode, block, overlapped, TimedProgram, inside, going_by, goes_to, enter, block_left, block_step, later, loop_left, loop_step, node_step}
+use Rattle.clock_machine.specs.declared.lines.program.Assignment.{Assignment}
+use Rattle.clock_machine.specs.declared.lines.program.Exit.{Exit}
+use Rattle.clock_machine.specs.declared.lines.program.Program.{Program}
+use Rattle.clock_machine.specs.declared.lines.program.Stage.TheVariants as stage
+use Rattle.clock_machine.specs.declared.lines.program.Way.{Way}
+use Rattle.clock_machine.specs.declared.lines.program.Work.{Work}
+use Rattle.clock_machine.specs.Lines.Forms.{IsWorkOf, IsDeep, IsStageOf, assignment_of}
+use Rattle.clock_machine.specs.Lines.Reads.{Each, IsCovered, read_of}
+use Rattle.clock_machine.specs.Lines.Registers.{ReadIsWithin, held, word_read}
+use Rattle.clock_machine.specs.Lines.Stages.{work_in}
+use Rattle.clock_machine.proofs.LinesLemmas.Reading.{reads_operand}
 use Rattle.clock_machine.specs.declared.state.State.{State}
 use Rattle.clock_machine.specs.declared.state.Position.TheVariants as position
 use Rattle.clock_machine.specs.Leaving.{AssignmentsAreWithin, AssignmentsAreThere, WayIsWithin, assigned, going_in}

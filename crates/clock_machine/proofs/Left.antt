@@ -7,19 +7,19 @@ use Rattle.ir_core.specs.declared.body.Operand.{Operand}
 use Rattle.ir_core.specs.declared.body.Out.{Out}
 use Rattle.ir_core.specs.declared.cfg.End.{End}
 use Rattle.ir_core.specs.declared.cfg.End.TheVariants as end
-use Rattle.block_meaning.specs.Bodies.{Shapes, with_word}
-use Rattle.block_meaning.specs.FlatRuns.{to, ends}
-use Rattle.clock_meaning.specs.Flows.{TimedBody, taken}
-use Rattle.clock_meaning.specs.ClockRuns.{chosen_by, going_by}
-use Rattle.clock_lines.specs.declared.program.Assignment.{Assignment}
-use Rattle.clock_lines.specs.declared.program.Case.{Case}
-use Rattle.clock_lines.specs.declared.program.Line.{Line}
-use Rattle.clock_lines.specs.declared.program.Way.{Way}
-use Rattle.clock_lines.specs.declared.program.Way.TheVariants as way
-use Rattle.clock_lines.specs.declared.registers.Registers.{Registers}
-use Rattle.clock_lines.specs.Forms.{assignment_of, case_of, IsWayOf}
-use Rattle.clock_lines.specs.Reads.{Each, EachIf, IsCovered, CoversWay, read_at, read_of}
-use Rattle.clock_lines.specs.Registers.{ReadIsWithin, word_read}
+use Rattle.ir_core.specs.Bodies.{Shapes, with_word}
+use Rattle.ir_core.specs.FlatRuns.{to, ends}
+use Rattle.clock_ir.specs.Flows.{TimedBody, taken}
+use Rattle.clock_ir.specs.ClockRuns.{chosen_by, going_by}
+use Rattle.clock_machine.specs.declared.lines.program.Assignment.{Assignment}
+use Rattle.clock_machine.specs.declared.lines.program.Case.{Case}
+use Rattle.clock_machine.specs.declared.lines.program.Line.{Line}
+use Rattle.clock_machine.specs.declared.lines.program.Way.{Way}
+use Rattle.clock_machine.specs.declared.lines.program.Way.TheVariants as way
+use Rattle.clock_machine.specs.declared.lines.registers.Registers.{Registers}
+use Rattle.clock_machine.specs.Lines.Forms.{assignment_of, case_of, IsWayOf}
+use Rattle.clock_machine.specs.Lines.Reads.{Each, EachIf, IsCovered, CoversWay, read_at, read_of}
+use Rattle.clock_machine.specs.Lines.Registers.{ReadIsWithin, word_read}
 use Rattle.clock_machine.specs.Leaving.{AssignmentsAreWithin, AssignmentsAreThere, assigned, CasesAreWithin, chosen_in, WayIsWithin, going_in}
 use Rattle.clock_machine.specs.Standing.{IsOutOf}
 

@@ -1,3 +1,4 @@
+pub mod LinesLemmas
 pub mod FirstWords
 pub mod Acting
 pub mod TakenWords

@@ -3,17 +3,17 @@ use Rattle.std.proofs.Common.{◌≡◌, ◌≢◌, ℕ, suc, ◌+◌, ◌*◌, 
 use Rattle.std.proofs.lemmas.Bool.{cases_lt}
 use Rattle.std.proofs.lemmas.Option.{slice_get-get_or, slice_get-map, slice_get_within, get_or_from_slice_get}
 use Rattle.std.specs.Option.{option_map}
-use Rattle.block_meaning.specs.Bodies.{Shapes}
-use Rattle.clock_meaning.specs.Flows.{TimedOp, TimedBody, Flow, given, pushed}
-use Rattle.clock_lines.specs.declared.program.Action.{Action}
-use Rattle.clock_lines.specs.declared.program.Line.{Line}
-use Rattle.clock_lines.specs.declared.program.Work.{Work}
-use Rattle.clock_lines.specs.declared.registers.Registers.{Registers}
-use Rattle.clock_lines.specs.Agendas.{phase_at, IsNext}
-use Rattle.clock_lines.specs.Registers.{AreApart, HasPushed}
-use Rattle.clock_lines.specs.Showing.{HasLines, ShowsChain, ShowsMade}
-use Rattle.clock_lines.proofs.Cycles.{is_at_true, rooms_stay, chain_stays, made_stays, made_pushed, made_rests}
-use Rattle.clock_lines.proofs.Phases.{comes, comes_not, not_yet, Walked, walks_on}
+use Rattle.ir_core.specs.Bodies.{Shapes}
+use Rattle.clock_ir.specs.Flows.{TimedOp, TimedBody, Flow, given, pushed}
+use Rattle.clock_machine.specs.declared.lines.program.Action.{Action}
+use Rattle.clock_machine.specs.declared.lines.program.Line.{Line}
+use Rattle.clock_machine.specs.declared.lines.program.Work.{Work}
+use Rattle.clock_machine.specs.declared.lines.registers.Registers.{Registers}
+use Rattle.clock_machine.specs.Lines.Agendas.{phase_at, IsNext}
+use Rattle.clock_machine.specs.Lines.Registers.{AreApart, HasPushed}
+use Rattle.clock_machine.specs.Lines.Showing.{HasLines, ShowsChain, ShowsMade}
+use Rattle.clock_machine.proofs.LinesLemmas.Cycles.{is_at_true, rooms_stay, chain_stays, made_stays, made_pushed, made_rests}
+use Rattle.clock_machine.proofs.LinesLemmas.Phases.{comes, comes_not, not_yet, Walked, walks_on}
 use Rattle.clock_machine.specs.Keeping.{IsMoment, HasGiven, IsForm}
 
 -- an operation shows what it gave before this cycle, or this cycle included

@@ -4,11 +4,11 @@ use Rattle.ir_core.specs.declared.body.Body.{Body}
 use Rattle.ir_core.specs.declared.cfg.Cfg.{Cfg}
 use Rattle.ir_core.specs.declared.cfg.Node.{Node}
 use Rattle.ir_core.specs.declared.cfg.Node.TheVariants as node
-use Rattle.clock_ir.specs.declared.timed.Timed.{Timed}
-use Rattle.clock_meaning.specs.Flows.{TimedOp, timed_op, timed_body}
-use Rattle.clock_meaning.specs.ClockRuns.{timed_node, timed_program}
-use Rattle.clock_lines.specs.Regions.{IsOrderlyBody, IsOrderlyNode, IsOrderlyProgram}
-use Rattle.clock_lines.proofs.Appending.{from_map}
+use Rattle.ir_core.specs.declared.timed.Timed.{Timed}
+use Rattle.clock_ir.specs.Flows.{TimedOp, timed_op, timed_body}
+use Rattle.clock_ir.specs.ClockRuns.{timed_node, timed_program}
+use Rattle.clock_machine.specs.Lines.Regions.{IsOrderlyBody, IsOrderlyNode, IsOrderlyProgram}
+use Rattle.clock_machine.proofs.LinesLemmas.Appending.{from_map}
 use Rattle.clock_machine.specs.Standing.{body_at, IsSteadyBody, IsSteadyProgram}
 
 steady_body : (interval : ℕ) (b : Body Timed) → IsOrderlyBody interval b → IsSteadyBody (timed_body interval b)

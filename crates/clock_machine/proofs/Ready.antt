@@ -5,18 +5,18 @@ use Rattle.std.proofs.lemmas.Option.{slice_get-get_or, slice_get-map, slice_get_
 use Rattle.std.specs.Option.{option_map}
 use Rattle.ir_core.specs.declared.body.OpKind.{OpKind}
 use Rattle.ir_core.specs.declared.body.OpKind.TheVariants as o
-use Rattle.ir_operation.specs.Timing as timing
-use Rattle.block_meaning.specs.Bodies.{Shapes}
-use Rattle.clock_meaning.specs.Flows.{TimedOp, TimedBody, Flow, is_at, latency, given, pushed, chain_behind}
-use Rattle.clock_lines.specs.declared.program.Action.{Action}
-use Rattle.clock_lines.specs.declared.program.Line.{Line}
-use Rattle.clock_lines.specs.declared.program.Work.{Work}
-use Rattle.clock_lines.specs.declared.registers.Registers.{Registers}
-use Rattle.clock_lines.specs.Agendas.{phase_at, IsNext}
-use Rattle.clock_lines.specs.Registers.{HasPushed, LineIsWithin, value_in}
-use Rattle.clock_lines.specs.Showing.{HasLines, ShowsChain}
-use Rattle.clock_lines.proofs.Cycles.{rooms_stay, chain_stays, chain_pushed, made_stays, made_ready}
-use Rattle.clock_lines.proofs.Phases.{comes, comes_not, not_yet, Walked, walks_on}
+use Rattle.ir_core.specs.Timing as timing
+use Rattle.ir_core.specs.Bodies.{Shapes}
+use Rattle.clock_ir.specs.Flows.{TimedOp, TimedBody, Flow, is_at, latency, given, pushed, chain_behind}
+use Rattle.clock_machine.specs.declared.lines.program.Action.{Action}
+use Rattle.clock_machine.specs.declared.lines.program.Line.{Line}
+use Rattle.clock_machine.specs.declared.lines.program.Work.{Work}
+use Rattle.clock_machine.specs.declared.lines.registers.Registers.{Registers}
+use Rattle.clock_machine.specs.Lines.Agendas.{phase_at, IsNext}
+use Rattle.clock_machine.specs.Lines.Registers.{HasPushed, LineIsWithin, value_in}
+use Rattle.clock_machine.specs.Lines.Showing.{HasLines, ShowsChain}
+use Rattle.clock_machine.proofs.LinesLemmas.Cycles.{rooms_stay, chain_stays, chain_pushed, made_stays, made_ready}
+use Rattle.clock_machine.proofs.LinesLemmas.Phases.{comes, comes_not, not_yet, Walked, walks_on}
 use Rattle.clock_machine.specs.Keeping.{IsNextMoment, IsForm}
 use Rattle.clock_machine.proofs.Made.{apart, DoneAt}
 

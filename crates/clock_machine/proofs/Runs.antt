@@ -1,9 +1,9 @@
 -- Steps of a run, and a run that has ended.
 use Rattle.std.proofs.Common.{◌≡◌, ℕ, zero, suc, ◌+◌, inl, inr, Option, refl, sym, ap, ap₂, ◌∙◌, subst, arith}
 use Rattle.std.proofs.lemmas.Bool.{cases_eq}
-use Rattle.block_meaning.specs.Bodies.{Words}
-use Rattle.clock_meaning.specs.ClockRuns.{TimedProgram, Phase, starting, loading, inside, ended, clock_step, clock_run}
-use Rattle.clock_lines.specs.declared.program.Program.{Program}
+use Rattle.ir_core.specs.Bodies.{Words}
+use Rattle.clock_ir.specs.ClockRuns.{TimedProgram, Phase, starting, loading, inside, ended, clock_step, clock_run}
+use Rattle.clock_machine.specs.declared.lines.program.Program.{Program}
 use Rattle.clock_machine.specs.declared.state.Position.TheVariants as position
 use Rattle.clock_machine.specs.declared.state.State.{State}
 use Rattle.clock_machine.specs.Runs.{IsUnended, GoesOn}

@@ -1,20 +1,20 @@
 -- What stays from one state to the next, and what a state has for each body of its program.
 use Rattle.std.proofs.Common.{◌≡◌, ℕ, ◌+◌, ◌<◌, ◌≤◌, ◌^◌, List, [], ◌∷◌, length, get_or, slice_get, Some, refl, sym, ap, ◌∙◌, subst, arith}
 use Rattle.std.proofs.lemmas.Option.{slice_get_within, slice_get-get_or}
-use Rattle.block_meaning.specs.Bodies.{Shapes}
-use Rattle.machine_memory.specs.Contents.{dims_in}
-use Rattle.clock_meaning.specs.Flows.{TimedOp, TimedBody, Flow, latency}
-use Rattle.clock_meaning.specs.ClockRuns.{TimedNode, block, overlapped, TimedProgram}
-use Rattle.clock_lines.specs.declared.program.Action.{Action}
-use Rattle.clock_lines.specs.declared.program.Program.{Program}
-use Rattle.clock_lines.specs.declared.program.Stage.{Stage}
-use Rattle.clock_lines.specs.declared.program.Stage.TheVariants as stage
-use Rattle.clock_lines.specs.declared.program.Work.{Work}
-use Rattle.clock_lines.specs.declared.registers.Registers.{Registers}
-use Rattle.clock_lines.specs.Forms.{IsWorkOf, IsStageOf}
-use Rattle.clock_lines.specs.Registers.{SameSizes}
-use Rattle.clock_lines.specs.Showing.{Shows}
-use Rattle.clock_lines.specs.Stages.{work_in}
+use Rattle.ir_core.specs.Bodies.{Shapes}
+use Rattle.flat_programs.specs.Memory.Contents.{dims_in}
+use Rattle.clock_ir.specs.Flows.{TimedOp, TimedBody, Flow, latency}
+use Rattle.clock_ir.specs.ClockRuns.{TimedNode, block, overlapped, TimedProgram}
+use Rattle.clock_machine.specs.declared.lines.program.Action.{Action}
+use Rattle.clock_machine.specs.declared.lines.program.Program.{Program}
+use Rattle.clock_machine.specs.declared.lines.program.Stage.{Stage}
+use Rattle.clock_machine.specs.declared.lines.program.Stage.TheVariants as stage
+use Rattle.clock_machine.specs.declared.lines.program.Work.{Work}
+use Rattle.clock_machine.specs.declared.lines.registers.Registers.{Registers}
+use Rattle.clock_machine.specs.Lines.Forms.{IsWorkOf, IsStageOf}
+use Rattle.clock_machine.specs.Lines.Registers.{SameSizes}
+use Rattle.clock_machine.specs.Lines.Showing.{Shows}
+use Rattle.clock_machine.specs.Lines.Stages.{work_in}
 use Rattle.clock_machine.specs.declared.state.State.{State}
 use Rattle.clock_machine.specs.Keeping.{IsForm}
 use Rattle.clock_machine.specs.Standing.{HasRoom, body_at, IsSteadyBody, IsStateOf, KeepsRoom, IsBodyIn, IsAt}

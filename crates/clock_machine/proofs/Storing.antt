@@ -3,8 +3,8 @@ use Rattle.std.proofs.Common.{◌≡◌, ℕ, zero, suc, ◌+◌, ◌<◌, ◌�
 use Rattle.std.proofs.lemmas.Bool.{cases_lt}
 use Rattle.std.proofs.lemmas.List.{drop_more, drop_all}
 use Rattle.std.proofs.lemmas.Option.{slice_get-get_or}
-use Rattle.block_meaning.specs.Bodies.{Shapes}
-use Rattle.clock_meaning.specs.Flows.{TimedOp, TimedBody, Flow, behind_stores}
+use Rattle.ir_core.specs.Bodies.{Shapes}
+use Rattle.clock_ir.specs.Flows.{TimedOp, TimedBody, Flow, behind_stores}
 use Rattle.clock_machine.specs.Starting.{stored_by}
 
 -- some operation of a body that has one

@@ -3,14 +3,14 @@ use Rattle.std.proofs.Common.{◌≡◌, ◌≢◌, ℕ, zero, suc, ◌+◌, ◌
 use Rattle.std.proofs.lemmas.Bool.{cond-true, cond-false, ne_eqb, eq-eqb}
 use Rattle.std.proofs.lemmas.List.{drop_more}
 use Rattle.hls_base.specs.declared.number.NodeId.{NodeId}
-use Rattle.block_meaning.specs.Bodies.{with_word}
-use Rattle.clock_lines.specs.declared.program.Assignment.{Assignment}
-use Rattle.clock_lines.specs.declared.program.Case.{Case}
-use Rattle.clock_lines.specs.declared.program.Line.{Line}
-use Rattle.clock_lines.specs.declared.program.Read.{Read}
-use Rattle.clock_lines.specs.declared.registers.Registers.{Registers}
-use Rattle.clock_lines.specs.Registers.{ReadIsWithin}
-use Rattle.clock_lines.specs.Registers.{held}
+use Rattle.ir_core.specs.Bodies.{with_word}
+use Rattle.clock_machine.specs.declared.lines.program.Assignment.{Assignment}
+use Rattle.clock_machine.specs.declared.lines.program.Case.{Case}
+use Rattle.clock_machine.specs.declared.lines.program.Line.{Line}
+use Rattle.clock_machine.specs.declared.lines.program.Read.{Read}
+use Rattle.clock_machine.specs.declared.lines.registers.Registers.{Registers}
+use Rattle.clock_machine.specs.Lines.Registers.{ReadIsWithin}
+use Rattle.clock_machine.specs.Lines.Registers.{held}
 use Rattle.clock_machine.specs.Leaving.{AssignmentsAreWithin, AssignmentsAreThere, with_words, assigned, CasesAreWithin, chosen_in}
 use Rattle.clock_machine.proofs.FirstWords.{held_set}
 

@@ -1,9 +1,9 @@
 -- What a test that is known in a cycle does to the gates.
 use Rattle.std.proofs.Common.{◌≡◌, ℕ, zero, suc, ◌+◌, ◌-◌, ◌^◌, min, Bool, true, false, not, ◌&&◌, eqb, ltb, refl, sym, ap, ◌∙◌, subst, arith}
 use Rattle.std.proofs.lemmas.Bool.{cond-true, cond-false, and_parts, eq-eqb, eqb-true, ne_eqb, lt-ltb, le-ltb}
-use Rattle.clock_meaning.specs.Flows.{TimedBody, Flow, holds_at, known, is_at, gates_now, pushed}
-use Rattle.clock_lines.specs.Showing.{ShowsGates}
-use Rattle.clock_lines.proofs.Gates.{runs_still, fails}
+use Rattle.clock_ir.specs.Flows.{TimedBody, Flow, holds_at, known, is_at, gates_now, pushed}
+use Rattle.clock_machine.specs.Lines.Showing.{ShowsGates}
+use Rattle.clock_machine.proofs.LinesLemmas.Gates.{runs_still, fails}
 
 -- the iteration before runs where none was found that does not
 none_failed : (failed : ℕ) → not (ltb 0 failed) ≡ eqb failed 0

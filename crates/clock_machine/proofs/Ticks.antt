@@ -2,13 +2,13 @@
 use Rattle.std.proofs.Common.{◌≡◌, ℕ, suc, ◌+◌, ◌*◌, ◌/◌, ◌%◌, ◌<◌, ◌≤◌, ◌^◌, List, [], ◌∷◌, length, get_or, refl, sym, ap, ◌∙◌, subst, arith, div-add-mod', suc-mul}
 use Rattle.std.proofs.lemmas.Nat.{mod-mul-add, mod_below}
 use Rattle.std.proofs.lemmas.Option.{slice_get-get_or, slice_get_past}
-use Rattle.block_meaning.specs.Bodies.{Shapes}
-use Rattle.clock_meaning.specs.Flows.{TimedOp, TimedBody, Flow, behind_stores, chain_behind, gates_now, under_way_behind, tick}
-use Rattle.clock_lines.specs.declared.program.Line.{Line}
-use Rattle.clock_lines.specs.declared.program.Work.{Work}
-use Rattle.clock_lines.specs.declared.registers.Registers.{Registers}
-use Rattle.clock_lines.specs.Registers.{held}
-use Rattle.clock_lines.specs.Showing.{Shows, ShowsChain, ShowsGates, ShowsMade}
+use Rattle.ir_core.specs.Bodies.{Shapes}
+use Rattle.clock_ir.specs.Flows.{TimedOp, TimedBody, Flow, behind_stores, chain_behind, gates_now, under_way_behind, tick}
+use Rattle.clock_machine.specs.declared.lines.program.Line.{Line}
+use Rattle.clock_machine.specs.declared.lines.program.Work.{Work}
+use Rattle.clock_machine.specs.declared.lines.registers.Registers.{Registers}
+use Rattle.clock_machine.specs.Lines.Registers.{held}
+use Rattle.clock_machine.specs.Lines.Showing.{Shows, ShowsChain, ShowsGates, ShowsMade}
 use Rattle.clock_machine.specs.Keeping.{IsForm, IsMoment, IsNextMoment, ShowsReady}
 
 op_in : (xs : List TimedOp) (k : ℕ) → k < length xs → TimedOp

@@ -3,12 +3,12 @@ use Rattle.std.proofs.Common.{◌≡◌, ◌≢◌, ℕ, suc, ◌%◌, ◌<◌, 
 use Rattle.std.proofs.lemmas.Bool.{cases_eq, eq-eqb, ne_eqb}
 use Rattle.std.proofs.lemmas.List.{length-map}
 use Rattle.std.proofs.lemmas.Nat.{mod_below}
-use Rattle.block_meaning.specs.Bodies.{Shapes}
-use Rattle.clock_meaning.specs.Flows.{TimedOp, TimedBody, Flow, is_at}
-use Rattle.clock_lines.specs.declared.program.Action.{Action}
-use Rattle.clock_lines.specs.declared.program.Work.{Work}
-use Rattle.clock_lines.specs.Agendas.{phase_at, IsNext}
-use Rattle.clock_lines.proofs.Phases.{comes, comes_not, not_yet}
+use Rattle.ir_core.specs.Bodies.{Shapes}
+use Rattle.clock_ir.specs.Flows.{TimedOp, TimedBody, Flow, is_at}
+use Rattle.clock_machine.specs.declared.lines.program.Action.{Action}
+use Rattle.clock_machine.specs.declared.lines.program.Work.{Work}
+use Rattle.clock_machine.specs.Lines.Agendas.{phase_at, IsNext}
+use Rattle.clock_machine.proofs.LinesLemmas.Phases.{comes, comes_not, not_yet}
 use Rattle.clock_machine.specs.declared.state.State.{State}
 use Rattle.clock_machine.specs.Standing.{IsAt}
 use Rattle.clock_machine.proofs.Made.{start_of}

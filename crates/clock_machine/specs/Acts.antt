@@ -3,12 +3,12 @@ use Rattle.std.specs.Prelude.{ℕ, ◌<◌, ◌==◌, nat_lt, not, Bool, true, f
 use Rattle.hls_base.specs.declared.number.ArrayId.{ArrayId}
 use Rattle.ir_core.specs.declared.body.OpKind.{OpKind}
 use Rattle.ir_core.specs.declared.body.OpKind.TheVariants as o
-use Rattle.block_meaning.specs.Bodies.{OpTree, Shapes}
-use Rattle.clock_lines.specs.declared.program.Action.{Action}
-use Rattle.clock_lines.specs.declared.program.Line.{Line}
-use Rattle.clock_lines.specs.declared.program.Read.{Read}
-use Rattle.clock_lines.specs.declared.registers.Registers.{Registers}
-use Rattle.clock_lines.specs.Registers.{ReadIsWithin, word_read}
+use Rattle.ir_core.specs.Bodies.{OpTree, Shapes}
+use Rattle.clock_machine.specs.declared.lines.program.Action.{Action}
+use Rattle.clock_machine.specs.declared.lines.program.Line.{Line}
+use Rattle.clock_machine.specs.declared.lines.program.Read.{Read}
+use Rattle.clock_machine.specs.declared.lines.registers.Registers.{Registers}
+use Rattle.clock_machine.specs.Lines.Registers.{ReadIsWithin, word_read}
 
 abbrev pub shapes : List ℕ → List (List ℕ) → Shapes
 shapes widths dims = record { widths = widths; dims = dims }

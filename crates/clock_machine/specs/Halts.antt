@@ -1,6 +1,6 @@
 -- When the clocked machine has halted.
-use Rattle.machine_laws.specs.declared.machine.Halt.{Halt}
-use Rattle.machine_laws.specs.declared.machine.Halt.TheVariants as h
+use Rattle.ir_core.specs.declared.machine.Halt.{Halt}
+use Rattle.ir_core.specs.declared.machine.Halt.TheVariants as h
 use Rattle.clock_machine.specs.declared.state.Position.{Position}
 use Rattle.clock_machine.specs.declared.state.Position.TheVariants as p
 

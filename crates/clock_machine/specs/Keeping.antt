@@ -1,12 +1,12 @@
 -- What lines show behind a cycle, before the values come that are there from the next one on.
 use Rattle.std.specs.Prelude.{◌≡◌, ℕ, suc, ◌+◌, ◌-◌, ◌%◌, ◌^◌, ◌<◌, true, min, List, length, get_or, slice_get, Some}
-use Rattle.block_meaning.specs.Bodies.{Shapes}
-use Rattle.clock_meaning.specs.Flows.{TimedOp, TimedBody, Flow, is_at, latency, given, pushed, chain_behind}
-use Rattle.clock_lines.specs.declared.program.Line.{Line}
-use Rattle.clock_lines.specs.declared.program.Work.{Work}
-use Rattle.clock_lines.specs.declared.registers.Registers.{Registers}
-use Rattle.clock_lines.specs.Forms.{IsDeep, IsWorkOf}
-use Rattle.clock_lines.specs.Showing.{HasLines, ShowsChain, ShowsMade}
+use Rattle.ir_core.specs.Bodies.{Shapes}
+use Rattle.clock_ir.specs.Flows.{TimedOp, TimedBody, Flow, is_at, latency, given, pushed, chain_behind}
+use Rattle.clock_machine.specs.declared.lines.program.Line.{Line}
+use Rattle.clock_machine.specs.declared.lines.program.Work.{Work}
+use Rattle.clock_machine.specs.declared.lines.registers.Registers.{Registers}
+use Rattle.clock_machine.specs.Lines.Forms.{IsDeep, IsWorkOf}
+use Rattle.clock_machine.specs.Lines.Showing.{HasLines, ShowsChain, ShowsMade}
 
 -- the phase and the time, up to the greatest number of a machine
 pub record IsMoment (b : TimedBody) (f : Flow) (phase time : ℕ) : Type 0 where

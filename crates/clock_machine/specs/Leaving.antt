@@ -2,16 +2,16 @@
 use Rattle.std.specs.Prelude.{ℕ, ◌<◌, ◌==◌, not, if◌then◌else◌, List, [], ◌∷◌}
 use Rattle.std.specs.Option.{option_map}
 use Rattle.hls_base.specs.declared.number.NodeId.{NodeId}
-use Rattle.block_meaning.specs.Bodies.{with_word}
-use Rattle.block_meaning.specs.FlatRuns.{Going, to, ends}
-use Rattle.clock_lines.specs.declared.program.Assignment.{Assignment}
-use Rattle.clock_lines.specs.declared.program.Case.{Case}
-use Rattle.clock_lines.specs.declared.program.Line.{Line}
-use Rattle.clock_lines.specs.declared.program.Read.{Read}
-use Rattle.clock_lines.specs.declared.program.Way.{Way}
-use Rattle.clock_lines.specs.declared.program.Way.TheVariants as way
-use Rattle.clock_lines.specs.declared.registers.Registers.{Registers}
-use Rattle.clock_lines.specs.Registers.{ReadIsWithin}
+use Rattle.ir_core.specs.Bodies.{with_word}
+use Rattle.ir_core.specs.FlatRuns.{Going, to, ends}
+use Rattle.clock_machine.specs.declared.lines.program.Assignment.{Assignment}
+use Rattle.clock_machine.specs.declared.lines.program.Case.{Case}
+use Rattle.clock_machine.specs.declared.lines.program.Line.{Line}
+use Rattle.clock_machine.specs.declared.lines.program.Read.{Read}
+use Rattle.clock_machine.specs.declared.lines.program.Way.{Way}
+use Rattle.clock_machine.specs.declared.lines.program.Way.TheVariants as way
+use Rattle.clock_machine.specs.declared.lines.registers.Registers.{Registers}
+use Rattle.clock_machine.specs.Lines.Registers.{ReadIsWithin}
 use Rattle.clock_machine.specs.Acts.{ReadIsWithinIf}
 
 abbrev pub AssignmentsAreWithin : Registers → List Line → List Assignment → Type 0

@@ -1,7 +1,7 @@
 -- Where a machine is in the run of a timed program.
 use Rattle.std.specs.Prelude.{◌≡◌, ◌<◌, ◌≤◌, ℕ, Option}
-use Rattle.block_meaning.specs.Bodies.{Words}
-use Rattle.clock_meaning.specs.ClockRuns.{TimedProgram, ended, clock_run}
+use Rattle.ir_core.specs.Bodies.{Words}
+use Rattle.clock_ir.specs.ClockRuns.{TimedProgram, ended, clock_run}
 use Rattle.clock_machine.specs.declared.machine.ClockMachine.{ClockMachine}
 use Rattle.clock_machine.specs.Standing.{StandsAt}
 

@@ -1,8 +1,8 @@
 -- How long the lines and buffers of a state are.
 use Rattle.std.specs.Prelude.{ℕ, ◌+◌, ◌-◌, ◌^◌, ◌≤◌, ◌≡◌, List, length, min, slice_get, Some}
-use Rattle.clock_lines.specs.declared.program.Action.{Action}
-use Rattle.clock_lines.specs.declared.program.Line.{Line}
-use Rattle.clock_lines.specs.declared.program.Work.{Work}
+use Rattle.clock_machine.specs.declared.lines.program.Action.{Action}
+use Rattle.clock_machine.specs.declared.lines.program.Line.{Line}
+use Rattle.clock_machine.specs.declared.lines.program.Work.{Work}
 use Rattle.clock_machine.specs.declared.room.Sizes.{Sizes}
 
 abbrev pub HasArgs : List Action → ℕ → Type 0

@@ -3,21 +3,21 @@ use Rattle.std.specs.Prelude.{◌≡◌, ℕ, ◌+◌, ◌<◌, ◌≤◌, ◌^�
 use Rattle.ir_core.specs.declared.body.Out.{Out}
 use Rattle.ir_core.specs.declared.body.Source.{Source}
 use Rattle.ir_core.specs.declared.body.Source.TheVariants as source
-use Rattle.block_meaning.specs.Bodies.{Shapes}
-use Rattle.machine_memory.specs.Contents.{dims_in, words_in}
-use Rattle.clock_meaning.specs.Flows.{TimedOp, TimedBody, Flow, gates_now, behind_stores}
-use Rattle.clock_meaning.specs.ClockRuns.{TimedNode, block, overlapped, TimedProgram, Phase, starting, loading, inside, ended}
-use Rattle.clock_lines.specs.declared.program.Action.{Action}
-use Rattle.clock_lines.specs.declared.program.Line.{Line}
-use Rattle.clock_lines.specs.declared.program.Program.{Program}
-use Rattle.clock_lines.specs.declared.program.Stage.{Stage}
-use Rattle.clock_lines.specs.declared.program.Work.{Work}
-use Rattle.clock_lines.specs.declared.registers.Registers.{Registers}
-use Rattle.clock_lines.specs.Forms.{IsProgramOf}
-use Rattle.clock_lines.specs.Reads.{Each}
-use Rattle.clock_lines.specs.Registers.{SameSizes}
-use Rattle.clock_lines.specs.Stages.{work_in}
-use Rattle.clock_lines.specs.Showing.{Shows, ShowsGates}
+use Rattle.ir_core.specs.Bodies.{Shapes}
+use Rattle.flat_programs.specs.Memory.Contents.{dims_in, words_in}
+use Rattle.clock_ir.specs.Flows.{TimedOp, TimedBody, Flow, gates_now, behind_stores}
+use Rattle.clock_ir.specs.ClockRuns.{TimedNode, block, overlapped, TimedProgram, Phase, starting, loading, inside, ended}
+use Rattle.clock_machine.specs.declared.lines.program.Action.{Action}
+use Rattle.clock_machine.specs.declared.lines.program.Line.{Line}
+use Rattle.clock_machine.specs.declared.lines.program.Program.{Program}
+use Rattle.clock_machine.specs.declared.lines.program.Stage.{Stage}
+use Rattle.clock_machine.specs.declared.lines.program.Work.{Work}
+use Rattle.clock_machine.specs.declared.lines.registers.Registers.{Registers}
+use Rattle.clock_machine.specs.Lines.Forms.{IsProgramOf}
+use Rattle.clock_machine.specs.Lines.Reads.{Each}
+use Rattle.clock_machine.specs.Lines.Registers.{SameSizes}
+use Rattle.clock_machine.specs.Lines.Stages.{work_in}
+use Rattle.clock_machine.specs.Lines.Showing.{Shows, ShowsGates}
 use Rattle.clock_machine.specs.declared.state.State.{State}
 use Rattle.clock_machine.specs.declared.state.Position.TheVariants as position
 use Rattle.clock_machine.specs.Acts.{IsThere}

@@ -1,13 +1,13 @@
 -- What the operations of a cycle do, one after another.
 use Rattle.std.specs.Prelude.{ℕ, List, map, if◌then◌else◌}
-use Rattle.block_meaning.specs.Bodies.{Shapes, effect}
-use Rattle.clock_meaning.specs.Flows.{TimedOp, TimedBody, Flow, performed, starts}
-use Rattle.clock_lines.specs.declared.program.Action.{Action}
-use Rattle.clock_lines.specs.declared.program.Line.{Line}
-use Rattle.clock_lines.specs.declared.registers.Registers.{Registers}
-use Rattle.clock_lines.specs.Registers.{word_read}
+use Rattle.ir_core.specs.Bodies.{Shapes, effect}
+use Rattle.clock_ir.specs.Flows.{TimedOp, TimedBody, Flow, performed, starts}
+use Rattle.clock_machine.specs.declared.lines.program.Action.{Action}
+use Rattle.clock_machine.specs.declared.lines.program.Line.{Line}
+use Rattle.clock_machine.specs.declared.lines.registers.Registers.{Registers}
+use Rattle.clock_machine.specs.Lines.Registers.{word_read}
 use Rattle.clock_machine.specs.Acts.{guard_holds, op_in}
-use Rattle.clock_lines.specs.Registers.{held}
+use Rattle.clock_machine.specs.Lines.Registers.{held}
 
 -- what an action gives on these memories, where its guard lets it
 abbrev pub value_of : Shapes → Registers → List Line → Action → (ℕ → ℕ → ℕ) → ℕ

@@ -3,9 +3,9 @@ use Rattle.std.specs.Prelude.{◌≡◌, ℕ, ◌<◌, List, [], ◌∷◌, leng
 use Rattle.hls_base.specs.declared.number.Kept.{Kept}
 use Rattle.hls_base.specs.declared.number.VarId.{VarId}
 use Rattle.ir_core.specs.declared.cfg.Frame.{Frame}
-use Rattle.block_meaning.specs.Bodies.{Words}
-use Rattle.machine_memory.specs.Contents.{words_in}
-use Rattle.clock_lines.specs.Registers.{held}
+use Rattle.ir_core.specs.Bodies.{Words}
+use Rattle.flat_programs.specs.Memory.Contents.{words_in}
+use Rattle.clock_machine.specs.Lines.Registers.{held}
 use Rattle.clock_machine.specs.declared.state.State.{State}
 use Rattle.clock_machine.specs.declared.state.Position.TheVariants as position
 

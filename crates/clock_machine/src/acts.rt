@@ -1,17 +1,17 @@
 //! What an operation that starts in a cycle does to memories.
 ghost use Rattle.std.specs.Prelude.{◌≡◌, ◌≤◌, ◌<◌, ℕ, List, map, take, length, get_or};
-ghost use Rattle.block_meaning.specs.Bodies as bodies;
-ghost use Rattle.machine_memory.specs.Contents.{dims_in, words_in};
+ghost use Rattle.ir_core.specs.Bodies as bodies;
+ghost use Rattle.flat_programs.specs.Memory.Contents.{dims_in, words_in};
 ghost use Rattle.clock_machine.specs.Acts.{shapes, op_in, IsThere, ReadsAreWithin, ReadIsWithinIf, allows, is_open, guard_holds};
-ghost use Rattle.clock_lines.specs.Registers.{word_read};
+ghost use Rattle.clock_machine.specs.Lines.Registers.{word_read};
 
-use clock_lines::program::{Action, Line, Read};
-use clock_lines::registers::Registers;
-use clock_lines::words::{set_word, word_at};
+use crate::lines::program::{Action, Line, Read};
+use crate::lines::registers::Registers;
+use crate::lines::words::{set_word, word_at};
+use flat_programs::memory::memories::Memories;
 use hls_base::number::ArrayId;
 use ir_core::body::OpKind;
-use ir_operation::value::evaluate;
-use machine_memory::memories::Memories;
+use ir_core::value::evaluate;
 
 /// Puts what is read at the front of a buffer.
 pub fn read_all(registers: &Registers, lines: &[Line], reads: &[Read], into: &mut [u64])

@@ -1,10 +1,10 @@
 //! What the variables of a program hold as a run begins.
 ghost use Rattle.std.specs.Prelude.{◌≡◌, ℕ, length, get_or, slice_set, IfOk};
-ghost use Rattle.block_meaning.specs.FirstContents as first;
-ghost use Rattle.clock_lines.specs.Registers.{held};
+ghost use Rattle.ir_core.specs.FirstContents as first;
+ghost use Rattle.clock_machine.specs.Lines.Registers.{held};
 ghost use Rattle.clock_machine.specs.Starts.{KeptThere, ParametersThere};
 
-use clock_lines::words::set_word;
+use crate::lines::words::set_word;
 use hls_base::inputs::Inputs;
 use hls_base::number::{Kept, VarId};
 use ir_core::cfg::Frame;

@@ -1,16 +1,16 @@
 //! What goes into lines in a cycle.
 ghost use Rattle.std.specs.Prelude.{◌≡◌, ◌+◌, ◌<◌, ◌≤◌, ℕ, length, get_or, slice_get, Some, None};
-ghost use Rattle.block_meaning.specs.Bodies.{Shapes};
-ghost use Rattle.clock_meaning.specs.Flows.{TimedBody, Flow, first_flow};
-ghost use Rattle.clock_lines.specs.declared.program.Action.{Action};
-ghost use Rattle.clock_lines.specs.Registers.{HasPushed, LineIsWithin, SameSizes, held, value_in};
-ghost use Rattle.clock_lines.specs.Showing.{Shows};
+ghost use Rattle.ir_core.specs.Bodies.{Shapes};
+ghost use Rattle.clock_ir.specs.Flows.{TimedBody, Flow, first_flow};
+ghost use Rattle.clock_machine.specs.declared.lines.program.Action.{Action};
+ghost use Rattle.clock_machine.specs.Lines.Registers.{HasPushed, LineIsWithin, SameSizes, held, value_in};
+ghost use Rattle.clock_machine.specs.Lines.Showing.{Shows};
 ghost use Rattle.clock_machine.specs.Keeping.{IsForm, IsMoment, IsNextMoment, HasGiven, ShowsGiven, ShowsReady};
 ghost use Rattle.clock_machine.specs.Standing.{HasWords, IsWholeBody};
 
-use clock_lines::program::{Read, Work};
-use clock_lines::registers::Registers;
-use clock_lines::words::word_at;
+use crate::lines::program::{Read, Work};
+use crate::lines::registers::Registers;
+use crate::lines::words::word_at;
 
 /// The line of an operation begins with what a variable holds, if there is one whose next value it makes.
 fn begin_one(registers: &mut Registers, work: &Work, number: usize)

@@ -3,12 +3,12 @@ ghost use Rattle.std.specs.Prelude.{◌≡◌, ◌≤◌, length, map, take};
 ghost use Rattle.std.specs.Option.{option_map};
 ghost use Rattle.clock_machine.specs.Acts.{ReadIsWithinIf};
 ghost use Rattle.clock_machine.specs.Leaving as spec;
-ghost use Rattle.clock_lines.specs.Registers.{word_read};
-ghost use Rattle.clock_lines.specs.Registers.{held};
+ghost use Rattle.clock_machine.specs.Lines.Registers.{word_read};
+ghost use Rattle.clock_machine.specs.Lines.Registers.{held};
 
-use clock_lines::program::{Assignment, Case, Line, Read};
-use clock_lines::registers::Registers;
-use clock_lines::words::{set_word, word_at};
+use crate::lines::program::{Assignment, Case, Line, Read};
+use crate::lines::registers::Registers;
+use crate::lines::words::{set_word, word_at};
 use hls_base::number::NodeId;
 
 /// Puts what variables take at the front of a buffer.

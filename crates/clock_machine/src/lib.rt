@@ -5,6 +5,7 @@ mod acts;
 mod first;
 mod keeping;
 mod leaving;
+pub mod lines;
 pub mod machine;
 mod room;
 mod state;

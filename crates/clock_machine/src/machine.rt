@@ -1,30 +1,30 @@
 ghost use Rattle.std.specs.Prelude.{◌≡◌, ◌<◌, ◌+◌, ◌==◌, ℕ, Option, length, map, get_or, IfOk, false, true};
 ghost use Rattle.std.specs.Option.{IfSome, IfNone};
 ghost use Rattle.hls_base.specs.ArrayAddress.{addresses};
-ghost use Rattle.block_meaning.specs.Bodies.{Words};
-ghost use Rattle.block_meaning.specs.FirstContents.{first_words};
-ghost use Rattle.machine_laws.specs.Halts.{HasHalted, is_ended};
-ghost use Rattle.machine_memory.specs.Contents.{dims_in, dims_at, element_in};
-ghost use Rattle.clock_meaning.specs.ClockRuns.{TimedProgram, ended, timed_program, clock_run};
-ghost use Rattle.clock_lines.specs.Forms.{IsProgramOf};
-ghost use Rattle.clock_lines.specs.Regions.{IsOrderlyProgram};
+ghost use Rattle.ir_core.specs.Bodies.{Words};
+ghost use Rattle.ir_core.specs.FirstContents.{first_words};
+ghost use Rattle.ir_core.specs.Halts.{HasHalted, is_ended};
+ghost use Rattle.flat_programs.specs.Memory.Contents.{dims_in, dims_at, element_in};
+ghost use Rattle.clock_ir.specs.ClockRuns.{TimedProgram, ended, timed_program, clock_run};
+ghost use Rattle.clock_machine.specs.Lines.Forms.{IsProgramOf};
+ghost use Rattle.clock_machine.specs.Lines.Regions.{IsOrderlyProgram};
 ghost use Rattle.clock_machine.specs.Halts.{halt_at};
 ghost use Rattle.clock_machine.specs.Runs.{IsBehind, GoesOn, RunEndsAfter};
 ghost use Rattle.clock_machine.specs.Standing.{IsWholeProgram};
 ghost use Rattle.clock_machine.specs.Starts.{IsNamed, IsStarting, words_of};
 
+use crate::lines::making::program_of;
+use crate::lines::program::Program;
 use crate::state::{Position, State};
-use clock_ir::timed::Timed;
-use clock_lines::making::program_of;
-use clock_lines::program::Program;
 use hls_base::inputs::Inputs;
 use hls_base::number::ArrayId;
 use ir_core::cfg::Cfg;
-use machine_laws::machine::{Halt, Machine};
+use ir_core::machine::{Halt, Machine};
+use ir_core::timed::Timed;
 use std::alloc::{AllocError, Global};
 
 /// Runs a timed program: a step is one edge of the clock, the first one that of the cycle in which the run is started.
-#[derive(Debug, Drop)]
+#[derive(Drop)]
 pub struct ClockMachine {
     program: Program,
     state: State,

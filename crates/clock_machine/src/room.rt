@@ -1,14 +1,14 @@
 //! How long the lines and buffers of a machine are to be.
 ghost use Rattle.std.specs.Prelude.{◌≡◌, ℕ, slice_get, Some};
-ghost use Rattle.clock_lines.specs.declared.program.Stage.{Stage};
-ghost use Rattle.clock_lines.specs.Stages.{work_in};
+ghost use Rattle.clock_machine.specs.declared.lines.program.Stage.{Stage};
+ghost use Rattle.clock_machine.specs.Lines.Stages.{work_in};
 ghost use Rattle.clock_machine.specs.Sizes.{HasArgs, FitsWork, IsNoMoreThan};
 
-use clock_lines::program::{Action, Program, Work, work_of};
-use clock_lines::registers::extent;
+use crate::lines::program::{Action, Program, Work, work_of};
+use crate::lines::registers::extent;
 
 /// The greatest sizes of the lines and buffers.
-#[derive(Clone, Copy, Debug)]
+#[derive(Clone, Copy)]
 pub struct Sizes {
     pub words: usize,
     pub lines: usize,

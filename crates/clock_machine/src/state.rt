@@ -1,14 +1,14 @@
 //! What changes as a timed program runs, and what its operations do that start in a cycle.
 ghost use Rattle.std.specs.Prelude.{◌≡◌, ◌≢◌, ◌≤◌, ◌<◌, ◌%◌, ◌&&◌, not, ℕ, List, length, map, get_or, slice_get, slice_set, IfOk, false};
-ghost use Rattle.block_meaning.specs.Bodies.{Shapes, effect, performed};
-ghost use Rattle.block_meaning.specs.FirstContents.{first_words};
-ghost use Rattle.machine_memory.specs.Contents.{dims_in, words_in};
-ghost use Rattle.clock_meaning.specs.ClockRuns.{timed_program};
-ghost use Rattle.clock_meaning.specs.Flows as flows;
-ghost use Rattle.clock_meaning.specs.Flows.{TimedOp, TimedBody, Flow, gates_now};
-ghost use Rattle.clock_lines.specs.Forms.{IsProgramOf};
-ghost use Rattle.clock_lines.specs.Registers.{word_read};
-ghost use Rattle.clock_lines.specs.Showing.{ShowsGates};
+ghost use Rattle.ir_core.specs.Bodies.{Shapes, effect, performed};
+ghost use Rattle.ir_core.specs.FirstContents.{first_words};
+ghost use Rattle.flat_programs.specs.Memory.Contents.{dims_in, words_in};
+ghost use Rattle.clock_ir.specs.ClockRuns.{timed_program};
+ghost use Rattle.clock_ir.specs.Flows as flows;
+ghost use Rattle.clock_ir.specs.Flows.{TimedOp, TimedBody, Flow, gates_now};
+ghost use Rattle.clock_machine.specs.Lines.Forms.{IsProgramOf};
+ghost use Rattle.clock_machine.specs.Lines.Registers.{word_read};
+ghost use Rattle.clock_machine.specs.Lines.Showing.{ShowsGates};
 ghost use Rattle.clock_machine.specs.Acts.{shapes, op_in, IsThere, ReadsAreWithin, ReadIsWithinIf, allows, guard_holds, is_store};
 ghost use Rattle.clock_machine.specs.Keeping.{IsMoment, GivesAt, HasGiven};
 ghost use Rattle.clock_machine.specs.Standing.{IsWholeProgram, IsSteadyProgram, IsStateOf, KeepsRoom, IsAt, IsInside, HasStarted};
@@ -17,21 +17,21 @@ ghost use Rattle.clock_machine.specs.Starts.{IsNamed, IsStarting, words_of};
 
 use crate::acts::{does_guard_hold, given, is_allowed, perform, read_all};
 use crate::first::first_variables;
+use crate::lines::agenda::phase_of;
+use crate::lines::program::{Action, Line, Program, Read, Work};
+use crate::lines::registers::Registers;
+use crate::lines::words::set_word;
 use crate::room::sizes_of;
-use clock_ir::timed::Timed;
-use clock_lines::agenda::phase_of;
-use clock_lines::program::{Action, Line, Program, Read, Work};
-use clock_lines::registers::Registers;
-use clock_lines::words::set_word;
+use flat_programs::memory::memories::Memories;
 use hls_base::inputs::Inputs;
 use hls_base::number::NodeId;
 use ir_core::body::OpKind;
 use ir_core::cfg::Cfg;
-use machine_memory::memories::Memories;
+use ir_core::timed::Timed;
 use std::alloc::{AllocError, Global};
 
 /// Before the start, before the first values of a loop are loaded, in a block or loop, or at the end.
-#[derive(Clone, Copy, Debug, PartialEq, Eq)]
+#[derive(Clone, Copy, PartialEq, Eq)]
 pub enum Position {
     Start,
     Loading(NodeId),
@@ -40,7 +40,7 @@ pub enum Position {
 }
 
 /// The time within a block or loop, its phase, and how many iterations were found not to run.
-#[derive(Clone, Copy, Debug)]
+#[derive(Clone, Copy)]
 pub struct Moment {
     pub time: u64,
     pub phase: u64,
@@ -54,7 +54,7 @@ pub const FIRST_MOMENT: Moment = Moment {
 };
 
 /// `args` and `fresh` are buffers.
-#[derive(Debug, Drop)]
+#[derive(Drop)]
 pub struct State {
     pub memories: Memories,
     pub position: Position,

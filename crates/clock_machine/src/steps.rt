@@ -1,14 +1,14 @@
 //! From one cycle of a timed program to the next one.
 ghost use Rattle.std.specs.Prelude.{◌≡◌, ◌≤◌, ◌<◌, ◌&&◌, ◌-◌, ◌^◌, not, ℕ, length, slice_get, Some};
-ghost use Rattle.block_meaning.specs.Bodies.{Shapes};
-ghost use Rattle.machine_memory.specs.Contents.{words_in};
+ghost use Rattle.ir_core.specs.Bodies.{Shapes};
+ghost use Rattle.flat_programs.specs.Memory.Contents.{words_in};
 ghost use Rattle.ir_core.specs.declared.cfg.End.{End};
-ghost use Rattle.clock_meaning.specs.ClockRuns as runs;
-ghost use Rattle.clock_meaning.specs.ClockRuns.{TimedProgram, Phase};
-ghost use Rattle.clock_meaning.specs.Flows as flows;
-ghost use Rattle.clock_meaning.specs.Flows.{TimedBody, Flow};
-ghost use Rattle.clock_lines.specs.Forms.{IsStageOf};
-ghost use Rattle.clock_lines.specs.Registers.{SameSizes, held, word_read};
+ghost use Rattle.clock_ir.specs.ClockRuns as runs;
+ghost use Rattle.clock_ir.specs.ClockRuns.{TimedProgram, Phase};
+ghost use Rattle.clock_ir.specs.Flows as flows;
+ghost use Rattle.clock_ir.specs.Flows.{TimedBody, Flow};
+ghost use Rattle.clock_machine.specs.Lines.Forms.{IsStageOf};
+ghost use Rattle.clock_machine.specs.Lines.Registers.{SameSizes, held, word_read};
 ghost use Rattle.clock_machine.specs.Keeping.{IsMoment, IsNextMoment};
 ghost use Rattle.clock_machine.specs.Leaving.{AssignmentsAreWithin, AssignmentsAreThere, WayIsWithin, assigned, going_in};
 ghost use Rattle.clock_machine.specs.Standing.{IsStateOf, KeepsRoom, IsBodyIn, IsInside, HasStarted, IsInNode, StandsAt};
@@ -16,8 +16,8 @@ ghost use Rattle.clock_machine.specs.Starts.{words_of};
 
 use crate::keeping::{begin_lines, keep_made, keep_ready};
 use crate::leaving::{chosen, read_assigned, result_of, set_assigned};
+use crate::lines::program::{Exit, Program, Stage, Way, Work};
 use crate::state::{FIRST_MOMENT, Position, State};
-use clock_lines::program::{Exit, Program, Stage, Way, Work};
 use hls_base::number::NodeId;
 
 impl State {

@@ -7,7 +7,7 @@ use Rattle.ir_core.specs.declared.body.OpKind.{OpKind}
 use Rattle.ir_core.specs.declared.body.OpKind.TheVariants as o
 use Rattle.ir_core.specs.declared.body.Operand.{Operand}
 use Rattle.dep_graph.specs.Meetings.{subscript_count}
-use Rattle.block_meaning.specs.Bodies.{OpTree, Shapes, Words, dims_of, address_of, is_within, subscripts, fault_of, access_fault}
+use Rattle.ir_core.specs.Bodies.{OpTree, Shapes, Words, dims_of, address_of, is_within, subscripts, fault_of, access_fault}
 use Rattle.clock_runs.specs.Premises.{IsSoundAs, IsSoundAccess}
 use Rattle.clock_runs.proofs.Effects.{Sort, computing, loading, storing, sort_of, Reaches, Loads, Stores}
 use Rattle.clock_runs.proofs.Settings.{Setting, op_at, allows}

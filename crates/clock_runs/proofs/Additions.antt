@@ -7,15 +7,15 @@ use Rattle.ir_core.specs.declared.body.OpKind.TheVariants as o
 use Rattle.ir_core.specs.declared.body.Operand.{Operand}
 use Rattle.ir_core.specs.declared.body.Source.{Source}
 use Rattle.ir_core.specs.declared.body.Source.TheVariants as source
-use Rattle.ir_operation.specs.Value as v
-use Rattle.ir_operation.specs.Value.{number_of}
+use Rattle.ir_core.specs.Value as v
+use Rattle.ir_core.specs.Value.{number_of}
 use Rattle.dep_graph.specs.declared.counter.Addition.{Addition}
 use Rattle.dep_graph.specs.Offsets.{constant_of, addition_by, negated, or_else, added_by, added}
-use Rattle.block_meaning.specs.Bodies.{OpTree, Shapes, fault, fault_of, broken_rule}
+use Rattle.ir_core.specs.Bodies.{OpTree, Shapes, fault, fault_of, broken_rule}
 use Rattle.clock_runs.specs.Premises.{Each, HasWidth, IsSoundSum, IsSoundAs}
 use Rattle.clock_runs.proofs.Effects.{Memories, computing, sort_of, value_by}
 use Rattle.clock_runs.proofs.Signed.{sum_stands, difference_stands}
-use Rattle.ir_operation.specs.Timing.{result_bits}
+use Rattle.ir_core.specs.Timing.{result_bits}
 use Rattle.clock_runs.proofs.Lists.{some_same, no_some, some_no}
 
 -- ---- the constant

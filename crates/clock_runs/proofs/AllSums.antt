@@ -11,11 +11,11 @@ use Rattle.ir_core.specs.declared.body.Out.{Out}
 use Rattle.ir_core.specs.declared.body.Source.{Source}
 use Rattle.ir_core.specs.declared.body.Source.TheVariants as source
 use Rattle.ir_core.specs.declared.stamp.Untimed.{Untimed}
-use Rattle.ir_operation.specs.Value.{number_of}
+use Rattle.ir_core.specs.Value.{number_of}
 use Rattle.dep_graph.specs.declared.counter.Addition.{Addition}
 use Rattle.dep_graph.specs.declared.counter.Sum.{Sum}
 use Rattle.dep_graph.specs.Offsets.{nth, added, addition, source_sum, added_sum, op_sum, sums_from, sums_of}
-use Rattle.block_meaning.specs.Bodies.{OpTree, Words, first_bits}
+use Rattle.ir_core.specs.Bodies.{OpTree, Words, first_bits}
 use Rattle.clock_runs.specs.Premises.{IsOperandAs, IsOperand, HasWidth}
 use Rattle.clock_runs.proofs.Settings.{Setting, op_at, ops_of, count_of, allows, after}
 use Rattle.clock_runs.proofs.Defined.{Defined}

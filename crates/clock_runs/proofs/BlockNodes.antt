@@ -11,13 +11,13 @@ use Rattle.ir_core.specs.declared.cfg.Memory.{Memory}
 use Rattle.ir_core.specs.declared.cfg.Node.{Node}
 use Rattle.ir_core.specs.declared.cfg.Node.TheVariants as node
 use Rattle.ir_core.specs.declared.stamp.Untimed.{Untimed}
-use Rattle.clock_ir.specs.declared.timed.Timed.{Timed}
-use Rattle.run_steps.specs.Steps.{went, waiting}
-use Rattle.block_meaning.specs.Bodies.{op_of, Shapes, Words, Ranged, operand, outs, with_outs}
-use Rattle.block_meaning.specs.FlatRuns.{Going, going, node_run}
-use Rattle.clock_meaning.specs.Flows.{Flow, operand_at, first_flow, taken}
-use Rattle.clock_meaning.specs.ClockRuns.{TimedProgram, Phase, inside, at_node, enter, going_by, goes_to, block_left, block_step, node_step, timed_node, clock_step}
-use Rattle.clock_meaning.specs.WellTimed.{IsWellTimedBlock}
+use Rattle.ir_core.specs.declared.timed.Timed.{Timed}
+use Rattle.hls_base.specs.Steps.{went, waiting}
+use Rattle.ir_core.specs.Bodies.{op_of, Shapes, Words, Ranged, operand, outs, with_outs}
+use Rattle.ir_core.specs.FlatRuns.{Going, going, node_run}
+use Rattle.clock_ir.specs.Flows.{Flow, operand_at, first_flow, taken}
+use Rattle.clock_ir.specs.ClockRuns.{TimedProgram, Phase, inside, at_node, enter, going_by, goes_to, block_left, block_step, node_step, timed_node, clock_step}
+use Rattle.clock_ir.specs.WellTimed.{IsWellTimedBlock}
 use Rattle.clock_runs.specs.Premises.{Each, IsOperand, IsSoundEnd, IsSoundBlock}
 use Rattle.clock_runs.specs.Laws.{node_cycles, IsEnded}
 use Rattle.clock_runs.proofs.Settings.{Setting, count_of, flow, after}

@@ -5,10 +5,10 @@ use Rattle.hls_base.specs.declared.refusal.UbRule.{UbRule}
 use Rattle.ir_core.specs.declared.cfg.Block.{Block}
 use Rattle.ir_core.specs.declared.cfg.Node.TheVariants as node
 use Rattle.ir_core.specs.declared.stamp.Untimed.{Untimed}
-use Rattle.run_steps.specs.Steps.{Outcome, went, undefined, waiting}
-use Rattle.run_steps.specs.Valued.{Valued, is, faulty, valued}
-use Rattle.block_meaning.specs.Bodies.{Shapes, Words, Ranged, operations, with_outs, OpTree}
-use Rattle.block_meaning.specs.FlatRuns.{Going, body_of, going, block_left, node_run}
+use Rattle.hls_base.specs.Steps.{Outcome, went, undefined, waiting}
+use Rattle.hls_base.specs.Valued.{Valued, is, faulty, valued}
+use Rattle.ir_core.specs.Bodies.{Shapes, Words, Ranged, operations, with_outs, OpTree}
+use Rattle.ir_core.specs.FlatRuns.{Going, body_of, going, block_left, node_run}
 
 pub not_waiting : {S A : Type 0} {v : A} {s : S} {n : ℕ} → waiting ≡ went v s n → ⊥
 not_waiting e = (cc)

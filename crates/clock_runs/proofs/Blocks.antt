@@ -1,8 +1,8 @@
 -- What a block holds behind its last cycle.
 use Rattle.std.proofs.Common.{◌≡◌, ℕ, ◌*◌, ◌<◌, true, inl, inr, sym, ap, ◌∙◌, subst, arith, le_refl}
 use Rattle.ir_core.specs.declared.body.Operand.{Operand}
-use Rattle.block_meaning.specs.Bodies.{Words, operand}
-use Rattle.clock_meaning.specs.Flows.{operand_at}
+use Rattle.ir_core.specs.Bodies.{Words, operand}
+use Rattle.clock_ir.specs.Flows.{operand_at}
 use Rattle.clock_runs.proofs.Settings.{Setting, op_at, count_of, after, moment, Runs, flow, IsReady, IsTimely, KeepsOrder, passes_from}
 use Rattle.clock_runs.proofs.Numbers.{earlier_turn}
 use Rattle.clock_runs.proofs.Iterations.{moment_start}

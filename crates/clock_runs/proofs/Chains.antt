@@ -5,8 +5,8 @@ use Rattle.std.proofs.lemmas.Option.{slice_get-get_or}
 use Rattle.std.specs.Prelude.{slice_get}
 use Rattle.ir_core.specs.declared.body.OpKind.{OpKind}
 use Rattle.ir_core.specs.declared.body.OpKind.TheVariants as o
-use Rattle.ir_operation.specs.Timing as timing
-use Rattle.clock_meaning.specs.Flows.{TimedOp, latency, is_at, pushed, chain_behind, under_way_behind, gates_now, behind_stores, entered, first_flow, tick}
+use Rattle.ir_core.specs.Timing as timing
+use Rattle.clock_ir.specs.Flows.{TimedOp, latency, is_at, pushed, chain_behind, under_way_behind, gates_now, behind_stores, entered, first_flow, tick}
 use Rattle.clock_runs.proofs.Numbers.{quotient, count, turn, is_at_sure, is_at_true, count_more, count_same}
 use Rattle.clock_runs.proofs.Settings.{Setting, nothing, op_at, count_of, flow, available, time_of, computed, val}
 

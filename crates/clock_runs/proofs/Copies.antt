@@ -7,11 +7,11 @@ use Rattle.ir_core.specs.declared.body.Body.{Body}
 use Rattle.ir_core.specs.declared.body.Op.{Op}
 use Rattle.ir_core.specs.declared.body.Out.{Out}
 use Rattle.ir_core.specs.declared.stamp.Untimed.{Untimed}
-use Rattle.clock_ir.specs.declared.timed.Timed.{Timed}
+use Rattle.ir_core.specs.declared.timed.Timed.{Timed}
 use Rattle.dep_graph.specs.Offsets.{nth}
-use Rattle.body_times.specs.Copies.{IsTimedCopy, AreTimedCopies, IsTimedBody}
-use Rattle.block_meaning.specs.Bodies.{op_of, Shapes, Words}
-use Rattle.clock_meaning.specs.Flows.{TimedOp, timed_op, timed_body}
+use Rattle.unit_binding.specs.Copies.{IsTimedCopy, AreTimedCopies, IsTimedBody}
+use Rattle.ir_core.specs.Bodies.{op_of, Shapes, Words}
+use Rattle.clock_ir.specs.Flows.{TimedOp, timed_op, timed_body}
 use Rattle.clock_runs.specs.Premises.{AreSoundOps}
 use Rattle.clock_runs.proofs.Settings.{Setting, nothing, op_at, ops_of, count_of}
 use Rattle.clock_runs.proofs.Defined.{op_of_at}

@@ -4,9 +4,9 @@ use Rattle.std.specs.Prelude.{slice_get}
 use Rattle.std.proofs.lemmas.Int.{ints}
 use Rattle.ir_core.specs.declared.body.Body.{Body}
 use Rattle.ir_core.specs.declared.stamp.Untimed.{Untimed}
-use Rattle.ir_operation.specs.Value.{number_of}
+use Rattle.ir_core.specs.Value.{number_of}
 use Rattle.dep_graph.specs.Offsets.{maker, added, step_of}
-use Rattle.block_meaning.specs.Bodies.{OpTree, word, first_bits}
+use Rattle.ir_core.specs.Bodies.{OpTree, word, first_bits}
 use Rattle.clock_runs.specs.Premises.{HasWidth}
 use Rattle.clock_runs.proofs.Settings.{Setting, op_at, ops_of, count_of, allows, after, moment, AreOuts}
 use Rattle.clock_runs.proofs.Iterations.{variable_next, taken_over}

@@ -7,9 +7,9 @@ use Rattle.hls_base.specs.declared.refusal.UbRule.{UbRule}
 use Rattle.ir_core.specs.declared.body.Operand.{Operand}
 use Rattle.ir_core.specs.declared.body.Source.{Source}
 use Rattle.ir_core.specs.declared.body.Source.TheVariants as source
-use Rattle.run_steps.specs.Valued.{is, faulty}
-use Rattle.block_meaning.specs.Bodies.{Words, Performed, performed, Ranged, first_bits, operand, word, fault, fault_if, is_allowed, perform}
-use Rattle.clock_meaning.specs.Flows.{TimedOp}
+use Rattle.hls_base.specs.Valued.{is, faulty}
+use Rattle.ir_core.specs.Bodies.{Words, Performed, performed, Ranged, first_bits, operand, word, fault, fault_if, is_allowed, perform}
+use Rattle.clock_ir.specs.Flows.{TimedOp}
 use Rattle.clock_runs.proofs.Effects.{sort_of, effect_by, effect_is}
 use Rattle.clock_runs.proofs.Settings.{Setting, nothing, op_at, ops_of, count_of, allows, value_at, memories_at, after}
 

@@ -4,8 +4,8 @@ use Rattle.std.proofs.lemmas.Bool.{cases_Bool, both_ways, eqb-true, eq-eqb, cond
 use Rattle.hls_base.specs.declared.number.ArrayId.{ArrayId}
 use Rattle.ir_core.specs.declared.body.OpKind.{OpKind}
 use Rattle.ir_core.specs.declared.body.OpKind.TheVariants as o
-use Rattle.ir_operation.specs.Value as v
-use Rattle.block_meaning.specs.Bodies.{OpTree, Shapes, Words, Performed, performed, effect, dims_of, address_of, subscripts, stored, with_word, with_element, loaded, with_stored}
+use Rattle.ir_core.specs.Value as v
+use Rattle.ir_core.specs.Bodies.{OpTree, Shapes, Words, Performed, performed, effect, dims_of, address_of, subscripts, stored, with_word, with_element, loaded, with_stored}
 
 pub data Sort : Type 0 where
   computing : Sort

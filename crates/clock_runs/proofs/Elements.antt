@@ -5,8 +5,8 @@ use Rattle.std.proofs.Math.Nat.{mod-eq_of_lt}
 use Rattle.std.proofs.lemmas.Nat.{pow-add, pow_pos, mul-add-lt, mod_below}
 use Rattle.std.proofs.lemmas.Bool.{and_parts, ltb-true}
 use Rattle.hls_base.specs.ArrayAddress.{subscript_bits, address_bits}
-use Rattle.array_address.proofs.Rising.{short-fits}
-use Rattle.block_meaning.specs.Bodies.{address_of, is_within}
+use Rattle.ir_core.proofs.Rising.{short-fits}
+use Rattle.ir_core.specs.Bodies.{address_of, is_within}
 use Rattle.clock_runs.specs.Premises.{Each}
 use Rattle.clock_runs.proofs.Numbers.{quotient}
 

@@ -5,11 +5,11 @@ use Rattle.ir_core.specs.declared.body.Operand.{Operand}
 use Rattle.ir_core.specs.declared.body.Out.{Out}
 use Rattle.ir_core.specs.declared.cfg.End.{End}
 use Rattle.ir_core.specs.declared.cfg.End.TheVariants as end
-use Rattle.body_times.specs.Copies.{IsEndCopy}
-use Rattle.block_meaning.specs.Bodies.{Words, operand, with_word, outs}
-use Rattle.block_meaning.specs.FlatRuns.{to, ends, chosen, going}
-use Rattle.clock_meaning.specs.Flows.{taken}
-use Rattle.clock_meaning.specs.ClockRuns.{chosen_by, going_by}
+use Rattle.unit_binding.specs.Copies.{IsEndCopy}
+use Rattle.ir_core.specs.Bodies.{Words, operand, with_word, outs}
+use Rattle.ir_core.specs.FlatRuns.{to, ends, chosen, going}
+use Rattle.clock_ir.specs.Flows.{taken}
+use Rattle.clock_ir.specs.ClockRuns.{chosen_by, going_by}
 use Rattle.clock_runs.specs.Premises.{Each, IsOperand, IsSoundEnd}
 
 pub end_copied : (read : Operand → ℕ) (e c : End) → IsEndCopy e c → going_by read c ≡ going_by read e

@@ -6,7 +6,7 @@ use Rattle.hls_base.specs.declared.number.OpId.{OpId}
 use Rattle.ir_core.specs.declared.body.Operand.{Operand}
 use Rattle.ir_core.specs.declared.body.Out.{Out}
 use Rattle.dep_graph.specs.Offsets.{maker, result_of}
-use Rattle.block_meaning.specs.Bodies.{Words, operand, outs, word, with_word}
+use Rattle.ir_core.specs.Bodies.{Words, operand, outs, word, with_word}
 use Rattle.clock_runs.proofs.Settings.{Setting, count_of, value_at, memories_at, after, moment, passes, Begins, Each, AreOuts, IsReady, IsReadyIf, allows}
 
 -- ---- within an iteration

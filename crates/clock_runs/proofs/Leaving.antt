@@ -8,9 +8,9 @@ use Rattle.ir_core.specs.declared.body.Source.{Source}
 use Rattle.ir_core.specs.declared.body.Source.TheVariants as source
 use Rattle.dep_graph.specs.Offsets.{maker}
 use Rattle.dep_graph.specs.Dependences.{maker_by}
-use Rattle.block_meaning.specs.Bodies.{Words, with_word}
-use Rattle.clock_meaning.specs.Flows.{Flow, known, place, held, operand_at, is_at, runs_at, tick, taken}
-use Rattle.clock_meaning.specs.ClockRuns.{TimedNode, Phase, inside, enter, later, loop_step}
+use Rattle.ir_core.specs.Bodies.{Words, with_word}
+use Rattle.clock_ir.specs.Flows.{Flow, known, place, held, operand_at, is_at, runs_at, tick, taken}
+use Rattle.clock_ir.specs.ClockRuns.{TimedNode, Phase, inside, enter, later, loop_step}
 use Rattle.clock_runs.proofs.Effects.{Memories, storing, stores_storing}
 use Rattle.clock_runs.proofs.Settings.{Setting, op_at, count_of, sort_at, moment, passes, Begins, flow, IsCarried, Each, AreOuts, IsTimely, KeepsOrder}
 use Rattle.clock_runs.proofs.Numbers.{turn, is_at_true, is_at_sure, later_turn, earlier_turn}

@@ -42,3 +42,4 @@ pub mod Counting
 pub mod TimedLoops
 pub mod LoopNodes
 pub mod Whole
+pub mod IntervalBounds

@@ -8,15 +8,15 @@ use Rattle.ir_core.specs.declared.cfg.Loop.{Loop}
 use Rattle.ir_core.specs.declared.cfg.Memory.{Memory}
 use Rattle.ir_core.specs.declared.cfg.Node.TheVariants as node
 use Rattle.ir_core.specs.declared.stamp.Untimed.{Untimed}
-use Rattle.clock_ir.specs.declared.timed.Timed.{Timed}
-use Rattle.run_steps.specs.Steps.{Outcome, went, undefined, waiting, Ran, ran, goes, then_}
-use Rattle.block_meaning.specs.Bodies.{Words}
-use Rattle.block_meaning.specs.Trees.{BodyTree}
-use Rattle.block_meaning.specs.TreeRuns.{Turn, repeat, iteration, way_behind, tested}
-use Rattle.block_meaning.specs.FlatRuns.{Going, to, body_of, node_run}
-use Rattle.clock_meaning.specs.Flows.{Flow}
-use Rattle.clock_meaning.specs.ClockRuns.{TimedProgram, Phase, loading, inside, at_node, load, enter, goes_to, loop_step, node_step, clock_step, timed_node}
-use Rattle.clock_meaning.specs.WellTimed.{IsWellTimedLoop}
+use Rattle.ir_core.specs.declared.timed.Timed.{Timed}
+use Rattle.hls_base.specs.Steps.{Outcome, went, undefined, waiting, Ran, ran, goes, then_}
+use Rattle.ir_core.specs.Bodies.{Words}
+use Rattle.ir_core.specs.Trees.{BodyTree}
+use Rattle.ir_core.specs.TreeRuns.{Turn, repeat, iteration, way_behind, tested}
+use Rattle.ir_core.specs.FlatRuns.{Going, to, body_of, node_run}
+use Rattle.clock_ir.specs.Flows.{Flow}
+use Rattle.clock_ir.specs.ClockRuns.{TimedProgram, Phase, loading, inside, at_node, load, enter, goes_to, loop_step, node_step, clock_step, timed_node}
+use Rattle.clock_ir.specs.WellTimed.{IsWellTimedLoop}
 use Rattle.clock_runs.specs.Premises.{IsSoundLoop}
 use Rattle.clock_runs.specs.Laws.{IsEnded}
 use Rattle.clock_runs.proofs.Settings.{Setting, ops_of, count_of, flow, moment, passes, Begins, IsTimely, KeepsOrder, sort_at}

@@ -7,7 +7,7 @@ use Rattle.ir_core.specs.declared.body.Source.{Source}
 use Rattle.ir_core.specs.declared.body.Source.TheVariants as source
 use Rattle.dep_graph.specs.Offsets.{result_of, maker}
 use Rattle.modulo_loop.specs.Rules as rules
-use Rattle.clock_meaning.specs.Flows.{is_result, entered}
+use Rattle.clock_ir.specs.Flows.{is_result, entered}
 use Rattle.clock_runs.specs.Premises.{Each, NamesResult, AreApart}
 use Rattle.clock_runs.proofs.Settings.{AreOuts}
 use Rattle.clock_runs.proofs.Lists.{some_same, no_some, each_map, each_both}

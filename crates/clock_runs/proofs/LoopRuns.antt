@@ -7,12 +7,12 @@ use Rattle.hls_base.specs.declared.point.Point.{Point}
 use Rattle.hls_base.specs.declared.refusal.UbRule.{UbRule}
 use Rattle.ir_core.specs.declared.body.Operand.{Operand}
 use Rattle.ir_core.specs.declared.body.Out.{Out}
-use Rattle.run_steps.specs.Steps.{went, undefined, waiting, Ran, ran, goes, then_, reached}
-use Rattle.run_steps.specs.Valued.{Valued, is, faulty, valued}
-use Rattle.block_meaning.specs.Bodies.{OpTree, Words, Ranged, operand, outs, with_word, operations, with_outs}
-use Rattle.block_meaning.specs.Trees.{BodyTree}
-use Rattle.block_meaning.specs.TreeRuns.{Turn, again, over, tested, goes_round, iterated, iteration}
-use Rattle.clock_meaning.specs.Flows.{TimedOp}
+use Rattle.hls_base.specs.Steps.{went, undefined, waiting, Ran, ran, goes, then_, reached}
+use Rattle.hls_base.specs.Valued.{Valued, is, faulty, valued}
+use Rattle.ir_core.specs.Bodies.{OpTree, Words, Ranged, operand, outs, with_word, operations, with_outs}
+use Rattle.ir_core.specs.Trees.{BodyTree}
+use Rattle.ir_core.specs.TreeRuns.{Turn, again, over, tested, goes_round, iterated, iteration}
+use Rattle.clock_ir.specs.Flows.{TimedOp}
 use Rattle.clock_runs.proofs.Effects.{Memories, Sort, computing, loading, storing, memories_by}
 use Rattle.clock_runs.proofs.Settings.{Setting, op_at, ops_of, count_of, sort_at, allows, after, passes_from, next, moment}
 use Rattle.clock_runs.proofs.Iterations.{after_none, after_memories}

@@ -1,8 +1,8 @@
 -- Each load of an iteration that runs finds the word that it finds one after another.
 use Rattle.std.proofs.Common.{◌≡◌, ℕ, zero, suc, ◌+◌, ◌*◌, ◌<◌, ◌≤◌, ◌⊎◌, List, Bool, true, map, inl, inr, refl, sym, ap, ap₂, ◌∙◌, subst, arith, le_refl, le_of_lt}
 use Rattle.std.proofs.lemmas.Bool.{cases_Bool, cases_lt, cases_order, cond-true, cond-false, and_parts, and_from, both_ways}
-use Rattle.block_meaning.specs.Bodies.{Words, first_bits, stored}
-use Rattle.clock_meaning.specs.Flows.{is_at, runs_at, starts}
+use Rattle.ir_core.specs.Bodies.{Words, first_bits, stored}
+use Rattle.clock_ir.specs.Flows.{is_at, runs_at, starts}
 use Rattle.clock_runs.proofs.Effects.{Memories, storing, sort_of, Stores, value_by, stores_storing, memory_step, value_same}
 use Rattle.clock_runs.proofs.Settings.{Setting, op_at, ops_of, count_of, sort_at, allows, after, moment, passes, Begins, Runs, reading, result, StoresAt, flow, time_of, val, IsTimely, IsBefore, KeepsOrder}
 use Rattle.clock_runs.proofs.Numbers.{turn, is_at_true, is_at_sure, later_turn}

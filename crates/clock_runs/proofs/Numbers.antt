@@ -2,7 +2,7 @@
 use Rattle.std.proofs.Common.{◌≡◌, ℕ, suc, ◌+◌, ◌-◌, ◌*◌, ◌/◌, ◌%◌, ◌<◌, ◌≤◌, true, false, leb, eqb, inl, inr, sym, ap, ◌∙◌, arith, div-add-mod', suc-mul, mul-le-mul_right, lt_of_mul-lt-mul_right}
 use Rattle.std.proofs.lemmas.Bool.{cases_lt, and_from, and_parts, and_cases, le-leb, leb-true, leb-false, eq-eqb, eqb-true, eqb-false}
 use Rattle.std.proofs.lemmas.Nat.{div-mul-add}
-use Rattle.clock_meaning.specs.Flows.{is_at, place}
+use Rattle.clock_ir.specs.Flows.{is_at, place}
 
 pub quotient : (x q w r : ℕ) → x ≡ q * w + r → r < w → x / w ≡ q
 quotient x q w r e h = ap (λ y. y / w) e ∙ div-mul-add q w r h

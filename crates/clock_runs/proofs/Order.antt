@@ -7,7 +7,7 @@ use Rattle.ir_core.specs.declared.stamp.Untimed.{Untimed}
 use Rattle.dep_graph.specs.declared.access.Meeting.TheVariants as m
 use Rattle.dep_graph.specs.Offsets.{nth, sums_of}
 use Rattle.dep_graph.specs.Meetings.{subscript_count, subscript_of, subscripts_of, distances_between}
-use Rattle.block_meaning.specs.Bodies.{OpTree, Shapes, Words, dims_of, address_of, is_within}
+use Rattle.ir_core.specs.Bodies.{OpTree, Shapes, Words, dims_of, address_of, is_within}
 use Rattle.clock_runs.specs.Premises.{Each, IsOperand}
 use Rattle.clock_runs.proofs.Settings.{Setting, op_at, count_of}
 use Rattle.clock_runs.proofs.Iterations.{map_same}

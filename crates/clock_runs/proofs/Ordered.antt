@@ -12,7 +12,7 @@ use Rattle.dep_graph.specs.declared.edge.Edge.{Edge}
 use Rattle.dep_graph.specs.Offsets.{nth, sums_of}
 use Rattle.dep_graph.specs.Meetings.{is_store, subscripts_of, distances_between}
 use Rattle.dep_graph.specs.Dependences.{memory_edge, edges_of}
-use Rattle.block_meaning.specs.Bodies.{OpTree}
+use Rattle.ir_core.specs.Bodies.{OpTree}
 use Rattle.clock_runs.proofs.Effects.{sort_of}
 use Rattle.clock_runs.proofs.Settings.{Setting, op_at, ops_of, count_of, moment, Begins, Runs, LoadsAt, StoresAt, time_of, IsTimely, IsBefore, KeepsOrder}
 use Rattle.clock_runs.proofs.Numbers.{later_turn}

@@ -1,7 +1,7 @@
 -- Which gates are open, by the tests that are read cycle by cycle.
 use Rattle.std.proofs.Common.{◌≡◌, ℕ, zero, suc, ◌+◌, ◌-◌, ◌*◌, ◌/◌, ◌<◌, ◌≤◌, Bool, true, false, ◌&&◌, eqb, ◌%◌, ap₂, inl, inr, sym, ap, ◌∙◌, subst, arith}
 use Rattle.std.proofs.lemmas.Bool.{cases_Bool, cases_lt, cases_eq, cond-true, cond-false, and_parts, and_from, lt-leb, le-leb}
-use Rattle.clock_meaning.specs.Flows.{is_at, known, place, holds_at, runs_at}
+use Rattle.clock_ir.specs.Flows.{is_at, known, place, holds_at, runs_at}
 use Rattle.clock_runs.proofs.Numbers.{quotient, count, turn, is_at_true, count_more, count_same, place_same}
 use Rattle.clock_runs.proofs.Settings.{Setting, flow}
 use Rattle.clock_runs.proofs.Chains.{flow-time, flow-gates, flow-start}

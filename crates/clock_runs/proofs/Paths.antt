@@ -1,7 +1,7 @@
 -- Edges of the clock, one after another, from any phase.
 use Rattle.std.proofs.Common.{◌≡◌, ℕ, zero, suc, ◌+◌, ◌∙◌, refl, ap, arith}
-use Rattle.block_meaning.specs.Bodies.{Words}
-use Rattle.clock_meaning.specs.ClockRuns.{TimedProgram, Phase, starting, clock_step, clock_run}
+use Rattle.ir_core.specs.Bodies.{Words}
+use Rattle.clock_ir.specs.ClockRuns.{TimedProgram, Phase, starting, clock_step, clock_run}
 
 abbrev pub run_from : TimedProgram → Phase → ℕ → Phase
 run_from p c zero = c

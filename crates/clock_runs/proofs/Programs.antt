@@ -4,11 +4,11 @@ use Rattle.std.specs.Prelude.{slice_get}
 use Rattle.std.proofs.lemmas.Bool.{cases_lt}
 use Rattle.ir_core.specs.declared.cfg.Node.{Node}
 use Rattle.ir_core.specs.declared.stamp.Untimed.{Untimed}
-use Rattle.clock_ir.specs.declared.timed.Timed.{Timed}
-use Rattle.run_steps.specs.Steps.{Outcome, went, undefined, waiting, Ran, after}
-use Rattle.block_meaning.specs.Bodies.{Shapes, Words}
-use Rattle.block_meaning.specs.FlatRuns.{Going, to, ends, node_run, going_on, node_then, from_node}
-use Rattle.clock_meaning.specs.ClockRuns.{TimedNode, block, overlapped, TimedProgram, Phase, loading, ended, at_node, enter, load, clock_step}
+use Rattle.ir_core.specs.declared.timed.Timed.{Timed}
+use Rattle.hls_base.specs.Steps.{Outcome, went, undefined, waiting, Ran, after}
+use Rattle.ir_core.specs.Bodies.{Shapes, Words}
+use Rattle.ir_core.specs.FlatRuns.{Going, to, ends, node_run, going_on, node_then, from_node}
+use Rattle.clock_ir.specs.ClockRuns.{TimedNode, block, overlapped, TimedProgram, Phase, loading, ended, at_node, enter, load, clock_step}
 use Rattle.clock_runs.specs.Laws.{node_cycles, cycles_behind, cycles_at, cycles_from, IsEnded}
 use Rattle.clock_runs.proofs.Paths.{run_from, run_on}
 use Rattle.clock_runs.proofs.BlockRuns.{not_waiting, not_undefined, undefined_not, went_not, went_parts}

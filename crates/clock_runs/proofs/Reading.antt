@@ -6,7 +6,7 @@ use Rattle.ir_core.specs.declared.body.Source.{Source}
 use Rattle.ir_core.specs.declared.body.Source.TheVariants as source
 use Rattle.dep_graph.specs.Offsets.{maker}
 use Rattle.dep_graph.specs.Dependences.{maker_by}
-use Rattle.clock_meaning.specs.Flows.{ready, ready_in, place, held, operand_at}
+use Rattle.clock_ir.specs.Flows.{ready, ready_in, place, held, operand_at}
 use Rattle.clock_runs.proofs.Numbers.{count, place_same, place_before}
 use Rattle.clock_runs.proofs.Settings.{Setting, count_of, flow, available, val, IsCarried, IsReadyAs, IsReady}
 use Rattle.clock_runs.proofs.Chains.{there, flow-entry, chain_holds, chain_entry}

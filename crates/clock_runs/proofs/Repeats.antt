@@ -2,9 +2,9 @@
 use Rattle.std.proofs.Common.{◌≡◌, ℕ, zero, suc, ◌+◌, ◌<◌, ◌≤◌, ◌∙◌, inl, inr, sym, refl, ap, subst, true, false, length, arith}
 use Rattle.std.proofs.lemmas.Bool.{cases_lt, cases_eq, false≢true}
 use Rattle.hls_base.specs.declared.point.Point.{Point}
-use Rattle.run_steps.specs.Steps.{went, waiting, Ran, then_}
-use Rattle.block_meaning.specs.Bodies.{Words}
-use Rattle.block_meaning.specs.TreeRuns.{Turn, over, repeat, if_again, tested}
+use Rattle.hls_base.specs.Steps.{went, waiting, Ran, then_}
+use Rattle.ir_core.specs.Bodies.{Words}
+use Rattle.ir_core.specs.TreeRuns.{Turn, over, repeat, if_again, tested}
 use Rattle.clock_runs.proofs.Effects.{storing}
 use Rattle.clock_runs.proofs.Settings.{Setting, count_of, sort_at, passes_from, next, moment, passes, Begins, Runs}
 use Rattle.clock_runs.proofs.Iterations.{begins_more}

@@ -5,9 +5,9 @@ use Rattle.ir_core.specs.declared.body.Operand.{Operand}
 use Rattle.ir_core.specs.declared.body.Source.{Source}
 use Rattle.ir_core.specs.declared.body.Source.TheVariants as source
 use Rattle.dep_graph.specs.Offsets.{maker}
-use Rattle.block_meaning.specs.Bodies.{Words, operand, word}
-use Rattle.block_meaning.specs.TreeRuns.{tested}
-use Rattle.clock_meaning.specs.Flows.{TimedBody, Flow, known, operand_at, holds_at, runs_at}
+use Rattle.ir_core.specs.Bodies.{Words, operand, word}
+use Rattle.ir_core.specs.TreeRuns.{tested}
+use Rattle.clock_ir.specs.Flows.{TimedBody, Flow, known, operand_at, holds_at, runs_at}
 use Rattle.clock_runs.proofs.Numbers.{later_turn}
 use Rattle.clock_runs.proofs.Settings.{Setting, op_at, count_of, flow, time_of, val, after, moment, passes, Begins, Runs, reading, result, allows, IsCarried, IsReadyAs, IsReady, IsTimely}
 use Rattle.clock_runs.proofs.Chains.{takes}

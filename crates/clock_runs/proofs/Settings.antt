@@ -7,9 +7,9 @@ use Rattle.ir_core.specs.declared.body.Out.{Out}
 use Rattle.ir_core.specs.declared.body.Source.{Source}
 use Rattle.ir_core.specs.declared.body.Source.TheVariants as source
 use Rattle.dep_graph.specs.Offsets.{maker}
-use Rattle.block_meaning.specs.Bodies.{OpTree, Shapes, Words, first_bits, operand, outs}
-use Rattle.block_meaning.specs.TreeRuns.{tested}
-use Rattle.clock_meaning.specs.Flows.{TimedOp, TimedBody, Flow, latency, known, given, first_flow, tick, entered}
+use Rattle.ir_core.specs.Bodies.{OpTree, Shapes, Words, first_bits, operand, outs}
+use Rattle.ir_core.specs.TreeRuns.{tested}
+use Rattle.clock_ir.specs.Flows.{TimedOp, TimedBody, Flow, latency, known, given, first_flow, tick, entered}
 pub use Rattle.clock_runs.specs.Premises.{Each}
 use Rattle.clock_runs.proofs.Effects.{Memories, Sort, storing, sort_of, value_by, memories_by, Loads, Stores}
 

@@ -6,7 +6,7 @@ use Rattle.std.proofs.lemmas.Int.{ints}
 use Rattle.std.proofs.lemmas.Bool.{cases_Bool, cases_lt, cond-true, cond-false, and_parts, leb-true, leb-false}
 use Rattle.std.proofs.Math.Nat.{mod-add-div', mod-lt, mul-le-mul_right, two-pow-succ}
 use Rattle.std.proofs.lemmas.Nat.{pow_pos}
-use Rattle.ir_operation.specs.Value.{count_of, half_of, number_of, pattern, is_of}
+use Rattle.ir_core.specs.Value.{count_of, half_of, number_of, pattern, is_of}
 
 -- two numbers that differ by a multiple of m
 abbrev Congruent : ℕ → ℤ → ℤ → Type 0

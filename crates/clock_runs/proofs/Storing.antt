@@ -2,8 +2,8 @@
 use Rattle.std.proofs.Common.{◌≡◌, ℕ, suc, ◌+◌, ◌<◌, List, [], ◌∷◌, ◌++◌, if◌then◌else◌, map, take, refl, sym, ap, ◌∙◌, arith}
 use Rattle.std.proofs.lemmas.List.{take_more, take_all}
 use Rattle.ir_core.specs.declared.body.Operand.{Operand}
-use Rattle.block_meaning.specs.Bodies.{Words, Performed, first_bits}
-use Rattle.clock_meaning.specs.Flows.{TimedOp, Flow, operand_at, holds_at, performed, starts, behind_stores}
+use Rattle.ir_core.specs.Bodies.{Words, Performed, first_bits}
+use Rattle.clock_ir.specs.Flows.{TimedOp, Flow, operand_at, holds_at, performed, starts, behind_stores}
 use Rattle.clock_runs.proofs.Effects.{Memories, sort_of, effect_by, effect_is}
 use Rattle.clock_runs.proofs.Settings.{Setting, nothing, op_at, ops_of, count_of, allows, value_at, memories_at, flow, computed}
 use Rattle.clock_runs.proofs.Chains.{flow-memories}

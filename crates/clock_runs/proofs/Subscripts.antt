@@ -9,14 +9,14 @@ use Rattle.ir_core.specs.declared.body.Out.{Out}
 use Rattle.ir_core.specs.declared.body.Source.{Source}
 use Rattle.ir_core.specs.declared.body.Source.TheVariants as source
 use Rattle.ir_core.specs.declared.stamp.Untimed.{Untimed}
-use Rattle.ir_operation.specs.Value.{number_of}
+use Rattle.ir_core.specs.Value.{number_of}
 use Rattle.dep_graph.specs.declared.access.Meeting.{Meeting}
 use Rattle.dep_graph.specs.declared.access.Subscript.{Subscript}
 use Rattle.dep_graph.specs.declared.access.Subscript.TheVariants as u
 use Rattle.dep_graph.specs.declared.counter.Offset.{Offset}
 use Rattle.dep_graph.specs.Offsets.{step_of, source_sum, sums_of, covered}
 use Rattle.dep_graph.specs.Meetings.{counted_or_unknown, subscript_by, subscript_of, distance_of, offsets_meet, subscripts_meet, both, distances_from}
-use Rattle.block_meaning.specs.Bodies.{Words, word}
+use Rattle.ir_core.specs.Bodies.{Words, word}
 use Rattle.clock_runs.specs.Premises.{Each, IsOperandAs, IsOperand}
 use Rattle.clock_runs.proofs.Settings.{Setting, count_of, allows, after}
 use Rattle.clock_runs.proofs.Defined.{Defined}

@@ -15,12 +15,12 @@ use Rattle.ir_core.specs.declared.body.Out.{Out}
 use Rattle.ir_core.specs.declared.body.Source.{Source}
 use Rattle.ir_core.specs.declared.body.Source.TheVariants as source
 use Rattle.ir_core.specs.declared.stamp.Untimed.{Untimed}
-use Rattle.ir_operation.specs.Timing.{result_bits}
-use Rattle.ir_operation.specs.Value.{number_of}
+use Rattle.ir_core.specs.Timing.{result_bits}
+use Rattle.ir_core.specs.Value.{number_of}
 use Rattle.dep_graph.specs.declared.counter.Sum.{Sum}
 use Rattle.dep_graph.specs.Offsets.{nth, added, step_of, same_source, same_operand, guards_agree, is_covered, or_else, counter_sum, source_sum}
-use Rattle.block_meaning.specs.Bodies.{OpTree, Words, operand, word, fault, first_bits, op_of}
-use Rattle.clock_meaning.specs.Flows.{TimedOp}
+use Rattle.ir_core.specs.Bodies.{OpTree, Words, operand, word, fault, first_bits, op_of}
+use Rattle.clock_ir.specs.Flows.{TimedOp}
 use Rattle.clock_runs.specs.Premises.{IsOperandAs, IsOperand, IsOperandIf, HasWidth, IsSoundOp}
 use Rattle.clock_runs.proofs.Effects.{sort_of, value_by}
 use Rattle.clock_runs.proofs.Settings.{Setting, nothing, op_at, ops_of, count_of, allows, after}

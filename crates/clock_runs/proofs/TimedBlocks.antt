@@ -10,16 +10,16 @@ use Rattle.ir_core.specs.declared.body.Source.TheVariants as source
 use Rattle.ir_core.specs.declared.cfg.Block.{Block}
 use Rattle.ir_core.specs.declared.cfg.Memory.{Memory}
 use Rattle.ir_core.specs.declared.stamp.Untimed.{Untimed}
-use Rattle.ir_operation.specs.Value.{number_of}
-use Rattle.ir_operation.specs.Timing as timing
-use Rattle.clock_ir.specs.declared.timed.Timed.{Timed}
+use Rattle.ir_core.specs.Value.{number_of}
+use Rattle.ir_core.specs.Timing as timing
+use Rattle.ir_core.specs.declared.timed.Timed.{Timed}
 use Rattle.dep_graph.specs.Offsets.{maker}
 use Rattle.block_schedule.specs.Schedules.{ready_at}
-use Rattle.run_steps.specs.Valued.{is}
-use Rattle.block_meaning.specs.Bodies.{OpTree, op_of, Shapes, Words, Ranged, operations, operand}
-use Rattle.block_meaning.specs.TreeRuns.{tested}
-use Rattle.clock_meaning.specs.Flows.{latency, known, TimedOp, ready_if}
-use Rattle.clock_meaning.specs.WellTimed.{IsWellTimedBlock}
+use Rattle.hls_base.specs.Valued.{is}
+use Rattle.ir_core.specs.Bodies.{OpTree, op_of, Shapes, Words, Ranged, operations, operand}
+use Rattle.ir_core.specs.TreeRuns.{tested}
+use Rattle.clock_ir.specs.Flows.{latency, known, TimedOp, ready_if}
+use Rattle.clock_ir.specs.WellTimed.{IsWellTimedBlock}
 use Rattle.clock_runs.specs.Premises.{IsOperandAs, IsOperand, IsSoundBlock}
 use Rattle.clock_runs.proofs.Settings.{Setting, op_at, ops_of, count_of, available, after, moment, passes_from, IsReadyAs, IsReady, IsReadyIf, IsTimely, KeepsOrder, allows}
 use Rattle.clock_runs.proofs.Numbers.{earlier_turn}

@@ -14,8 +14,8 @@ use Rattle.ir_core.specs.declared.body.Source.TheVariants as source
 use Rattle.ir_core.specs.declared.cfg.Loop.{Loop}
 use Rattle.ir_core.specs.declared.cfg.Memory.{Memory}
 use Rattle.ir_core.specs.declared.stamp.Untimed.{Untimed}
-use Rattle.ir_operation.specs.Timing as timing
-use Rattle.clock_ir.specs.declared.timed.Timed.{Timed}
+use Rattle.ir_core.specs.Timing as timing
+use Rattle.ir_core.specs.declared.timed.Timed.{Timed}
 use Rattle.dep_graph.specs.declared.edge.Edge.{Edge}
 use Rattle.dep_graph.specs.declared.edge.Why.TheVariants as w
 use Rattle.dep_graph.specs.Offsets.{maker, result_of}
@@ -23,10 +23,10 @@ use Rattle.dep_graph.specs.Meetings.{is_store}
 use Rattle.dep_graph.specs.Dependences.{test_maker}
 use Rattle.modulo_loop.specs.Rules as rules
 use Rattle.modulo_loop.specs.Lowest as lowest
-use Rattle.block_meaning.specs.Bodies.{OpTree, op_of, Shapes, Words}
-use Rattle.block_meaning.specs.TreeRuns.{tested, tested_by}
-use Rattle.clock_meaning.specs.Flows.{TimedOp, latency, ready_if, known, entered}
-use Rattle.clock_meaning.specs.WellTimed.{Keeps, IsWellTimedLoop}
+use Rattle.ir_core.specs.Bodies.{OpTree, op_of, Shapes, Words}
+use Rattle.ir_core.specs.TreeRuns.{tested, tested_by}
+use Rattle.clock_ir.specs.Flows.{TimedOp, latency, ready_if, known, entered}
+use Rattle.clock_ir.specs.WellTimed.{Keeps, IsWellTimedLoop}
 use Rattle.clock_runs.specs.Premises.{Each, IsOperandAs, IsOperandIf, NamesResult, IsSoundLoop}
 use Rattle.clock_runs.proofs.Effects.{storing}
 use Rattle.clock_runs.proofs.Settings.{Setting, nothing, op_at, ops_of, count_of, sort_at, available, IsReadyAs, IsReadyIf, IsTimely}

@@ -12,8 +12,8 @@ use Rattle.ir_core.specs.declared.body.Source.TheVariants as source
 use Rattle.ir_core.specs.declared.stamp.Untimed.{Untimed}
 use Rattle.dep_graph.specs.Offsets.{nth, maker}
 use Rattle.dep_graph.specs.Dependences.{maker_by, maker_of}
-use Rattle.block_meaning.specs.Bodies.{OpTree}
-use Rattle.clock_meaning.specs.Flows.{entered}
+use Rattle.ir_core.specs.Bodies.{OpTree}
+use Rattle.clock_ir.specs.Flows.{entered}
 use Rattle.clock_runs.specs.Premises.{IsOperandAs, IsOperand, IsOperandIf, Each}
 use Rattle.clock_runs.proofs.Settings.{Setting, op_at, count_of, available, IsCarried, IsReadyAs, IsReady, IsReadyIf}
 use Rattle.clock_runs.proofs.Sums.{IsCopy}

@@ -10,15 +10,15 @@ use Rattle.ir_core.specs.declared.body.Op.{Op}
 use Rattle.ir_core.specs.declared.body.Operand.{Operand}
 use Rattle.ir_core.specs.declared.body.Out.{Out}
 use Rattle.ir_core.specs.declared.stamp.Untimed.{Untimed}
-use Rattle.ir_operation.specs.Timing as timing
+use Rattle.ir_core.specs.Timing as timing
 use Rattle.dep_graph.specs.declared.edge.Edge.{Edge}
 use Rattle.dep_graph.specs.declared.edge.Why.{Why}
 use Rattle.dep_graph.specs.declared.edge.Why.TheVariants as w
 use Rattle.dep_graph.specs.Offsets.{nth, sums_of}
 use Rattle.dep_graph.specs.Meetings.{is_store, reaches_from}
 use Rattle.dep_graph.specs.Dependences.{gather, maker_of, edge_behind, edges_behind, data_edge, data_edges, test_maker, control_edges, op_edges, edges_of_reaches}
-use Rattle.block_meaning.specs.Bodies.{OpTree}
-use Rattle.clock_meaning.specs.Flows.{latency}
+use Rattle.ir_core.specs.Bodies.{OpTree}
+use Rattle.clock_ir.specs.Flows.{latency}
 use Rattle.clock_runs.proofs.Settings.{Setting, op_at, count_of, available}
 use Rattle.clock_runs.proofs.Sums.{IsCopy}
 use Rattle.clock_runs.proofs.Ordered.{AreKept}

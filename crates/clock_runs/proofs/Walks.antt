@@ -4,9 +4,9 @@ use Rattle.std.proofs.lemmas.Bool.{cases_eq}
 use Rattle.std.proofs.lemmas.List.{drop_more, length-map}
 use Rattle.hls_base.specs.declared.place.Place.{Place}
 use Rattle.hls_base.specs.declared.refusal.UbRule.{UbRule}
-use Rattle.run_steps.specs.Valued.{Valued, is, faulty, and_then}
-use Rattle.block_meaning.specs.Bodies.{Words, Performed, Ranged, perform, operations}
-use Rattle.clock_meaning.specs.Flows.{TimedOp}
+use Rattle.hls_base.specs.Valued.{Valued, is, faulty, and_then}
+use Rattle.ir_core.specs.Bodies.{Words, Performed, Ranged, perform, operations}
+use Rattle.clock_ir.specs.Flows.{TimedOp}
 use Rattle.clock_runs.proofs.Settings.{Setting, nothing, op_at, ops_of, count_of, value_at, memories_at, after}
 use Rattle.clock_runs.proofs.Defined.{reading_in, Defined, inner, ranged, op_of_at, performs}
 

@@ -8,11 +8,11 @@ use Rattle.ir_core.specs.declared.cfg.Memory.{Memory}
 use Rattle.ir_core.specs.declared.cfg.Node.{Node}
 use Rattle.ir_core.specs.declared.cfg.Node.TheVariants as node
 use Rattle.ir_core.specs.declared.stamp.Untimed.{Untimed}
-use Rattle.clock_ir.specs.declared.timed.Timed.{Timed}
-use Rattle.block_meaning.specs.Bodies.{Words}
-use Rattle.block_meaning.specs.FlatRuns.{shapes_of}
-use Rattle.clock_meaning.specs.ClockRuns.{TimedProgram, starting, enter, timed_node, timed_program, clock_run}
-use Rattle.clock_meaning.specs.WellTimed.{IsWellTimedNode, AreWellTimed, IsWellTimed}
+use Rattle.ir_core.specs.declared.timed.Timed.{Timed}
+use Rattle.ir_core.specs.Bodies.{Words}
+use Rattle.ir_core.specs.FlatRuns.{shapes_of}
+use Rattle.clock_ir.specs.ClockRuns.{TimedProgram, starting, enter, timed_node, timed_program, clock_run}
+use Rattle.clock_ir.specs.WellTimed.{IsWellTimedNode, AreWellTimed, IsWellTimed}
 use Rattle.clock_runs.specs.Premises.{IsSoundNode, IsSoundProgram}
 use Rattle.clock_runs.specs.Laws.{run_cycles, IsEnded, KeepsRun, TimesKeepRuns}
 use Rattle.clock_runs.proofs.Order.{AreShort}

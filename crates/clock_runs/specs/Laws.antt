@@ -4,12 +4,12 @@ use Rattle.ir_core.specs.declared.cfg.Cfg.{Cfg}
 use Rattle.ir_core.specs.declared.cfg.Node.{Node}
 use Rattle.ir_core.specs.declared.cfg.Node.TheVariants as node
 use Rattle.ir_core.specs.declared.stamp.Untimed.{Untimed}
-use Rattle.clock_ir.specs.declared.timed.Timed.{Timed}
-use Rattle.run_steps.specs.Steps.{Outcome, went, undefined, waiting, Ran}
-use Rattle.block_meaning.specs.Bodies.{Shapes, Words}
-use Rattle.block_meaning.specs.FlatRuns.{Going, to, ends, shapes_of, node_run, flat_run}
-use Rattle.clock_meaning.specs.ClockRuns.{Phase, starting, loading, inside, ended, timed_program, clock_run}
-use Rattle.clock_meaning.specs.WellTimed.{IsWellTimed}
+use Rattle.ir_core.specs.declared.timed.Timed.{Timed}
+use Rattle.hls_base.specs.Steps.{Outcome, went, undefined, waiting, Ran}
+use Rattle.ir_core.specs.Bodies.{Shapes, Words}
+use Rattle.ir_core.specs.FlatRuns.{Going, to, ends, shapes_of, node_run, flat_run}
+use Rattle.clock_ir.specs.ClockRuns.{Phase, starting, loading, inside, ended, timed_program, clock_run}
+use Rattle.clock_ir.specs.WellTimed.{IsWellTimed}
 use Rattle.clock_runs.specs.Premises.{IsSoundProgram}
 
 -- ---- cycles

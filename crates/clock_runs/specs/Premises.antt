@@ -17,11 +17,11 @@ use Rattle.ir_core.specs.declared.cfg.Loop.{Loop}
 use Rattle.ir_core.specs.declared.cfg.Node.{Node}
 use Rattle.ir_core.specs.declared.cfg.Node.TheVariants as node
 use Rattle.ir_core.specs.declared.stamp.Untimed.{Untimed}
-use Rattle.ir_operation.specs.Timing.{result_bits}
+use Rattle.ir_core.specs.Timing.{result_bits}
 use Rattle.dep_graph.specs.Offsets.{maker}
-use Rattle.block_meaning.specs.Bodies.{OpTree, Shapes, dims_of}
-use Rattle.block_meaning.specs.TreeRuns.{tested}
-use Rattle.block_meaning.specs.FlatRuns.{body_of, shapes_of}
+use Rattle.ir_core.specs.Bodies.{OpTree, Shapes, dims_of}
+use Rattle.ir_core.specs.TreeRuns.{tested}
+use Rattle.ir_core.specs.FlatRuns.{body_of, shapes_of}
 
 abbrev pub Each : {A : Type 0} → (A → Type 0) → List A → Type 0
 Each P [] = Unit {0}

@@ -1,4 +1,5 @@
-//! Timed programs keep runs: cycle by cycle, a well timed program does what its blocks do one after another.
+//! Timed programs keep runs, and where the search for the least interval of a loop ends.
 #![tactic(auto)]
 
+pub mod interval_bounds;
 pub mod laws;

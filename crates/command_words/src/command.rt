@@ -11,7 +11,7 @@ use crate::options::Options;
 use crate::word::is_word;
 
 /// The names of the three files of `synth`, that of the top function, and what is asked for.
-#[derive(Clone, Copy, Debug)]
+#[derive(Clone, Copy)]
 pub struct Synth<'a> {
     pub source: &'a str,
     pub module_file: &'a str,
@@ -24,7 +24,7 @@ pub struct Synth<'a> {
 }
 
 /// The names of the four files of `cosim`, that of the top function, and the limits.
-#[derive(Clone, Copy, Debug)]
+#[derive(Clone, Copy)]
 pub struct Cosim<'a> {
     pub source: &'a str,
     pub module_file: &'a str,
@@ -36,7 +36,7 @@ pub struct Cosim<'a> {
 }
 
 /// What the words ask for.
-#[derive(Clone, Copy, Debug)]
+#[derive(Clone, Copy)]
 pub enum Command<'a> {
     Synth(Synth<'a>),
     Cosim(Cosim<'a>),

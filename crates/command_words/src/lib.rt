@@ -8,4 +8,6 @@ mod number;
 mod options;
 mod plain_form;
 pub mod reading;
+#[cfg(test)]
+mod tests;
 mod word;

@@ -8,7 +8,7 @@ ghost use Rattle.command_words.specs.OptionViews.{options_view, reading_behind};
 use crate::word::{is_plain, is_word};
 
 /// What the options give, each where it is there.
-#[derive(Clone, Copy, Debug)]
+#[derive(Clone, Copy)]
 pub struct Options<'a> {
     pub top: Option<&'a str>,
     pub mul: Option<&'a str>,
@@ -74,7 +74,7 @@ fn flagged<'a>(options: Options<'a>) -> Option<Options<'a>>
 }
 
 /// How far options were read: what was given, and the name of the option whose value comes next.
-#[derive(Clone, Copy, Debug)]
+#[derive(Clone, Copy)]
 struct Reading<'a> {
     options: Options<'a>,
     name: Option<&'a str>,

@@ -5,12 +5,12 @@ use Rattle.hls_base.specs.declared.settings.Settings.{Settings}
 use Rattle.hls_base.specs.declared.settings.Units.{Units}
 use Rattle.ir_core.specs.declared.cfg.Cfg.{Cfg}
 use Rattle.ir_core.specs.declared.stamp.Untimed.{Untimed}
-use Rattle.clock_ir.specs.declared.timed.Timed.{Timed}
+use Rattle.ir_core.specs.declared.timed.Timed.{Timed}
 use Rattle.rtl_core.specs.Netlist.{Netlist}
 use Rattle.cycle_report.specs.PlainReport.{PlainLoop, PlainReport}
 use Rattle.report_rows.specs.Costs.{IsAtLeastOne}
 use Rattle.report_rows.proofs.Merging.{each_counts}
-use Rattle.program_times.proofs.Loops.{all_count}
+use Rattle.report_rows.proofs.Loops.{all_count}
 use Rattle.compile_steps.specs.Reports.{IsTimed, IsReportOf, EachNodeCounts}
 
 pub each_node_counts : (untimed : Cfg Untimed) (timed : Cfg Timed) (units : Units) (loops : List PlainLoop) (report : PlainReport) (settings : Settings) (design : Netlist)

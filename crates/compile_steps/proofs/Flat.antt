@@ -6,11 +6,11 @@ use Rattle.hls_base.specs.declared.point.Point.{Point}
 use Rattle.pieces.specs.Program.{ExpandedTree}
 use Rattle.ir_core.specs.declared.cfg.Cfg.{Cfg}
 use Rattle.ir_core.specs.declared.stamp.Untimed.{Untimed}
-use Rattle.block_meaning.specs.Trees.{SequenceTree, side}
-use Rattle.lowering.specs.Shapes.{first_point}
-use Rattle.lowering.specs.Lowering.{scope_of, last, lowered, lowering, side_from}
-use Rattle.numbering.specs.Numbering.{numbered_sequence}
-use Rattle.conversion.specs.Conversion.{converted_sequence}
+use Rattle.ir_core.specs.Trees.{SequenceTree, side}
+use Rattle.passes.specs.Lowering.Shapes.{first_point}
+use Rattle.passes.specs.Lowering.{scope_of, last, lowered, lowering, side_from}
+use Rattle.passes.specs.Numbering.{numbered_sequence}
+use Rattle.passes.specs.Conversion.{converted_sequence}
 use Rattle.ir_layout.specs.Nodes.{node_of}
 use Rattle.ir_layout.specs.Layout.{laid_out}
 use Rattle.compile_steps.specs.Flat.{variable_widths, tree_of, IsFlatOf}

@@ -5,12 +5,12 @@ use Rattle.c_value.specs.Values.{width}
 use Rattle.pieces.specs.Program.{ExpandedTree}
 use Rattle.ir_core.specs.declared.cfg.Cfg.{Cfg}
 use Rattle.ir_core.specs.declared.stamp.Untimed.{Untimed}
-use Rattle.block_meaning.specs.Trees.{SequenceTree}
-use Rattle.lowering.specs.Shapes.{first_point}
-use Rattle.lowering.specs.Blocks.{begun}
-use Rattle.lowering.specs.Lowering.{scope_of, last, lowered}
-use Rattle.numbering.specs.Numbering.{numbered_sequence}
-use Rattle.conversion.specs.Conversion.{converted_sequence}
+use Rattle.ir_core.specs.Trees.{SequenceTree}
+use Rattle.passes.specs.Lowering.Shapes.{first_point}
+use Rattle.passes.specs.Lowering.Blocks.{begun}
+use Rattle.passes.specs.Lowering.{scope_of, last, lowered}
+use Rattle.passes.specs.Numbering.{numbered_sequence}
+use Rattle.passes.specs.Conversion.{converted_sequence}
 use Rattle.ir_layout.specs.Nodes.{node_of}
 use Rattle.ir_layout.specs.Layout.{laid_out}
 

@@ -9,14 +9,14 @@ use Rattle.ir_core.specs.declared.cfg.Cfg.{Cfg}
 use Rattle.ir_core.specs.declared.cfg.Node.{Node}
 use Rattle.ir_core.specs.declared.stamp.Untimed.{Untimed}
 use Rattle.ir_lower.specs.Frames.{frame_view}
-use Rattle.clock_ir.specs.declared.timed.Timed.{Timed}
+use Rattle.ir_core.specs.declared.timed.Timed.{Timed}
 use Rattle.rtl_core.specs.Netlist.{Netlist}
 use Rattle.cycle_report.specs.FormulaValue.{cycles}
 use Rattle.cycle_report.specs.PlainReport.{PlainLoop, PlainReport}
 use Rattle.report_rows.specs.Costs.{AreRowsOf, node_point}
 use Rattle.report_rows.specs.Initial.{initial_cycles, AreAddressed}
 use Rattle.report_rows.specs.Resources.{shape_of, row_shape, declared_names, built_units}
-use Rattle.program_times.specs.Timing.{AreTimedAs}
+use Rattle.report_rows.specs.Timing.{AreTimedAs}
 
 -- the units that the settings allow
 abbrev pub allowed_units : Settings → Units

@@ -5,11 +5,11 @@ use Rattle.hls_base.specs.declared.place.Place.{Place}
 use Rattle.c_tree.specs.Tree.{ProgramTree}
 use Rattle.c_tree.specs.Terminals.{Terminal}
 use Rattle.c_tree.specs.Grammar.{DerivesProgram}
-use Rattle.c_checked.specs.Programs.{top_name, program_faults}
+use Rattle.c_meaning.specs.Checks.Programs.{top_name, program_faults}
 use Rattle.c_meaning.specs.Run.{c_run}
 use Rattle.pieces.specs.Program.{ExpandedTree}
-use Rattle.piece_meaning.specs.Values.{Store}
-use Rattle.piece_meaning.specs.Runs.{frame_of, pieces_answer}
+use Rattle.c_meaning.specs.PieceRuns.Values.{Store}
+use Rattle.c_meaning.specs.PieceRuns.Runs.{frame_of, pieces_answer}
 use Rattle.expand_runs.specs.Reading.{IsTyped}
 use Rattle.expand_runs.specs.Laws.{IsDefined}
 use Rattle.elaborated_programs.specs.Written.{NumbersFit}

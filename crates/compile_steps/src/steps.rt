@@ -8,26 +8,26 @@ ghost use Rattle.pieces.specs.Program.{expanded_of};
 ghost use Rattle.c_expand.specs.Expansion.{expansion, expanded_weight, IsOverweight};
 ghost use Rattle.ir_lower.specs.Frames.{frame_view, frame_of};
 ghost use Rattle.cycle_report.specs.PlainReport.{loop_of};
-ghost use Rattle.program_times.specs.ForwardNodes.{HasForwardBody};
+ghost use Rattle.report_rows.specs.ForwardNodes.{HasForwardBody};
 ghost use Rattle.compile_steps.specs.Flat.{IsFlatOf};
 ghost use Rattle.compile_steps.specs.Runs.{IsWithoutFaults, RunsAsProgram};
 ghost use Rattle.compile_steps.specs.Reports.{IsTimed};
 
 use crate::frame::copy_frame;
-use c_checked::checked::Checked;
 use c_elaborate::elaborate::elaborate;
 use c_expand::expand::expand;
-use clock_ir::timed::Timed;
+use c_meaning::checks::Checked;
 use cycle_report::report::LoopRow;
 use hls_base::refusal::Fail;
 use hls_base::settings::{Settings, Units};
 use if_convert::convert::convert;
 use ir_core::cfg::Cfg;
 use ir_core::stamp::Untimed;
+use ir_core::timed::Timed;
 use ir_layout::layout::lay_out;
 use ir_lower::lower::lower;
 use pieces::expanded::Expanded;
-use program_times::nodes::{TimedNodes, timed_nodes};
+use report_rows::nodes::{TimedNodes, timed_nodes};
 use std::alloc::{AllocError, Global};
 use value_number::number::number;
 
@@ -59,7 +59,7 @@ pub fn flat_program(
 }
 
 /// A program with times, and what the report says of its overlapped loops.
-#[derive(Debug, Drop)]
+#[derive(Drop)]
 pub struct Schedule {
     pub timed: Cfg<Timed>,
     pub loops: Vec<LoopRow>,

@@ -12,17 +12,17 @@ use Rattle.ir_core.specs.declared.body.Source.{Source}
 use Rattle.ir_core.specs.declared.body.Source.TheVariants as source
 use Rattle.ir_core.specs.declared.cfg.Node.{Node}
 use Rattle.ir_core.specs.declared.stamp.Untimed.{Untimed}
-use Rattle.block_meaning.specs.Bodies.{OpTree, Shapes}
-use Rattle.block_meaning.specs.Trees.{BlockTree, BodyTree}
-use Rattle.lowering.specs.Blocks.{Scope}
-use Rattle.conversion.specs.Outs.{is_set}
-use Rattle.conversion.specs.Overlapping.{carried_from, carried, carried_op, carried_out, iteration}
+use Rattle.ir_core.specs.Bodies.{OpTree, Shapes}
+use Rattle.ir_core.specs.Trees.{BlockTree, BodyTree}
+use Rattle.passes.specs.Lowering.Blocks.{Scope}
+use Rattle.passes.specs.Conversion.Outs.{is_set}
+use Rattle.passes.specs.Conversion.Overlapping.{carried_from, carried, carried_op, carried_out, iteration}
 use Rattle.convert_runs.specs.Typed.{HasBits, OutsAreTyped}
 use Rattle.convert_runs.specs.Blocks.{Once}
 use Rattle.convert_runs.proofs.Joining.{has_more}
 use Rattle.ir_layout.specs.Nodes.{NodeTree, node_of}
 use Rattle.ir_layout.specs.Layout.{finish, laid_out}
-use Rattle.lowered_conversions.specs.Suiting.{widths_of, words_of, PiecesSuit}
+use Rattle.convert_runs.specs.LoweredConversions.Suiting.{widths_of, words_of, PiecesSuit}
 use Rattle.clock_runs.specs.Premises.{Each, AreApart}
 use Rattle.clock_runs.proofs.Lists.{some_same, no_some}
 use Rattle.sound_trees.specs.Ready.{AllHave, IsChecked, OpIsReady, OpsAreReady, BlockIsReady}

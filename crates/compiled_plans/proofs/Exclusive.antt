@@ -10,12 +10,12 @@ use Rattle.ir_core.specs.declared.body.Source.{Source}
 use Rattle.ir_core.specs.declared.body.Source.TheVariants as source
 use Rattle.ir_core.specs.declared.cfg.End.{End}
 use Rattle.ir_core.specs.declared.cfg.End.TheVariants as end
-use Rattle.numbering.specs.Equal.{operand_eq}
-use Rattle.numbering.proofs.Equalities.{operand_same}
+use Rattle.passes.specs.Numbering.Equal.{operand_eq}
+use Rattle.passes.proofs.Equalities.{operand_same}
 use Rattle.convert_runs.proofs.Opening.{itself_number}
 use Rattle.sound_trees.proofs.Fixed.{both_true}
 use Rattle.clock_runs.proofs.Lists.{some_same, no_some}
-use Rattle.clock_meaning.specs.Flows.{TimedOp, TimedBody}
+use Rattle.clock_ir.specs.Flows.{TimedOp, TimedBody}
 use Rattle.datapath.specs.Savings.{Compares, AreDifferent, AreExclusive}
 use Rattle.datapath.specs.LeftOut.{with_number, arguments_compared, compared_by, compared_if, compared_in, compared, differ_as, differ, all_differ, ends_exclusive}
 

@@ -9,14 +9,14 @@ use Rattle.ir_core.specs.declared.cfg.Cfg.{Cfg}
 use Rattle.ir_core.specs.declared.cfg.Memory.{Memory}
 use Rattle.ir_core.specs.declared.cfg.Node.{Node}
 use Rattle.ir_core.specs.declared.cfg.Node.TheVariants as node
-use Rattle.clock_ir.specs.declared.timed.Timed.{Timed}
+use Rattle.ir_core.specs.declared.timed.Timed.{Timed}
 use Rattle.clock_runs.proofs.Lists.{some_same, no_some}
 use Rattle.reg_binding.specs.declared.registers.Registers.{Registers}
-use Rattle.clock_meaning.specs.ClockRuns.{TimedNode, timed_node}
+use Rattle.clock_ir.specs.ClockRuns.{TimedNode, timed_node}
 use Rattle.datapath.specs.Plans.{Plan, Array, Savings, array_of, plan_of, body_if, body_at, span, numbered, cycles_for, initial_cycles}
 use Rattle.datapath.specs.Control.{greatest_time, greatest_wait, wait_as}
 use Rattle.report_rows.specs.Initial.{AreAddressed}
-use Rattle.small_numbers.specs.Small.{HasSmallNumbers}
+use Rattle.ir_core.specs.Small.{HasSmallNumbers}
 use Rattle.compiled_plans.proofs.Lists.{mapped}
 
 -- ---- greatest elements

@@ -1,7 +1,7 @@
 -- What holds of the blocks and bodies of a tree holds of the nodes that it is laid out to.
 use Rattle.std.proofs.Common.{◌≡◌, ℕ, ◌+◌, List, [], ◌∷◌, ◌++◌}
 use Rattle.hls_base.specs.declared.point.Point.{Point}
-use Rattle.block_meaning.specs.Trees.{BlockTree, BodyTree, SequenceTree, sequence, PartTrees, no_part, more_parts, ShapeTree, fork, loop, switch, land, overlapped, SideTree, no_side, side, ArmTrees, no_arm, more_arms}
+use Rattle.ir_core.specs.Trees.{BlockTree, BodyTree, SequenceTree, sequence, PartTrees, no_part, more_parts, ShapeTree, fork, loop, switch, land, overlapped, SideTree, no_side, side, ArmTrees, no_arm, more_arms}
 use Rattle.ir_layout.specs.Nodes.{NodeTree, looped}
 use Rattle.ir_layout.specs.Sizes.{sequence_size, side_size, parts_size, arms_size}
 use Rattle.ir_layout.specs.Layout.{Ahead, onto, tested, Around, laid_block, ahead_of_parts, behind_shape, before_parts, in_loop, in_switch, body_start, step_start, laid, laid_parts, laid_shape, laid_side, laid_arms}

@@ -9,7 +9,7 @@ use Rattle.ir_core.specs.declared.body.Operand.{Operand}
 use Rattle.ir_core.specs.declared.body.Source.TheVariants as source
 use Rattle.convert_runs.proofs.Opening.{itself_number}
 use Rattle.clock_runs.proofs.Lists.{some_same, no_some}
-use Rattle.live_variables.specs.Liveness.{is_among, read_by, operand_reads}
+use Rattle.reg_binding.specs.Liveness.{is_among, read_by, operand_reads}
 
 pub or_left : (a b : Bool) → a ≡ true → (a || b) ≡ true
 or_left a b e = ap (λ c. c || b) e

@@ -9,10 +9,10 @@ use Rattle.ir_core.specs.declared.body.OpKind.TheVariants as o
 use Rattle.ir_core.specs.declared.body.Operand.{Operand}
 use Rattle.ir_core.specs.declared.body.Source.{Source}
 use Rattle.ir_core.specs.declared.body.Source.TheVariants as source
-use Rattle.block_meaning.specs.Bodies.{OpTree}
-use Rattle.lowering.specs.Operations as lower
-use Rattle.lowering.specs.Operations.{Emitted, Given, gives, added, constant, plain, defined, conversion, resized, converted, converted_from, valued, tested, assigned, promoted_value, balanced, kind_of}
-use Rattle.lowering.specs.Guards.{Guard, Guarded, guarded, outside, own_bit, under, bit_of}
+use Rattle.ir_core.specs.Bodies.{OpTree}
+use Rattle.passes.specs.Lowering.Operations as lower
+use Rattle.passes.specs.Lowering.Operations.{Emitted, Given, gives, added, constant, plain, defined, conversion, resized, converted, converted_from, valued, tested, assigned, promoted_value, balanced, kind_of}
+use Rattle.passes.specs.Lowering.Guards.{Guard, Guarded, guarded, outside, own_bit, under, bit_of}
 use Rattle.compiled_plans.specs.Operations as named
 
 -- a type has at most 64 bits

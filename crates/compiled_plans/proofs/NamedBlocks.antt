@@ -15,16 +15,16 @@ use Rattle.pieces.specs.Kind.{kind}
 use Rattle.ir_core.specs.declared.body.OpKind.TheVariants as o
 use Rattle.ir_core.specs.declared.body.Operand.{Operand}
 use Rattle.ir_core.specs.declared.body.Out.{Out}
-use Rattle.block_meaning.specs.Bodies.{OpTree}
-use Rattle.block_meaning.specs.Trees.{ExitTree, BlockTree, BodyTree, SequenceTree, sequence, PartTrees, no_part, more_parts}
-use Rattle.lowering.specs.Operations.{Emitted, added, constant, plain, flagged, assigned, balanced}
-use Rattle.lowering.specs.Outs.{operand_eq, held, without, own_out, with_out}
-use Rattle.lowering.specs.Shapes.{first_point}
-use Rattle.lowering.specs.Expressions.{emitted, emitted_all}
-use Rattle.lowering.specs.Blocks as lower
-use Rattle.lowering.specs.Blocks.{Scope, variable_type, element_type, begun, is_live, with_exit, with_ops, value_as, set, put, condition, ends_by_test, all_set, set_before, forking, ends_by_fork, Cases, case_or, cases, ends_by_cases}
-use Rattle.lowering.specs.Copies.{Fixed, Copied, needs_copy, own_operand, with_own, copied_out, copied_outs, copied_block, copied_parts, copied, fixed_in, fixed_behind, fixed_behind_shape, parts_set}
-use Rattle.lowered_conversions.specs.Suiting.{PureSuits, PieceSuits, PiecesSuit}
+use Rattle.ir_core.specs.Bodies.{OpTree}
+use Rattle.ir_core.specs.Trees.{ExitTree, BlockTree, BodyTree, SequenceTree, sequence, PartTrees, no_part, more_parts}
+use Rattle.passes.specs.Lowering.Operations.{Emitted, added, constant, plain, flagged, assigned, balanced}
+use Rattle.passes.specs.Lowering.Outs.{operand_eq, held, without, own_out, with_out}
+use Rattle.passes.specs.Lowering.Shapes.{first_point}
+use Rattle.passes.specs.Lowering.Expressions.{emitted, emitted_all}
+use Rattle.passes.specs.Lowering.Blocks as lower
+use Rattle.passes.specs.Lowering.Blocks.{Scope, variable_type, element_type, begun, is_live, with_exit, with_ops, value_as, set, put, condition, ends_by_test, all_set, set_before, forking, ends_by_fork, Cases, case_or, cases, ends_by_cases}
+use Rattle.passes.specs.Lowering.Copies.{Fixed, Copied, needs_copy, own_operand, with_own, copied_out, copied_outs, copied_block, copied_parts, copied, fixed_in, fixed_behind, fixed_behind_shape, parts_set}
+use Rattle.convert_runs.specs.LoweredConversions.Suiting.{PureSuits, PieceSuits, PiecesSuit}
 use Rattle.sound_trees.specs.Trees.{SequenceHas, PartsHave}
 use Rattle.compiled_plans.specs.Operations.{PutsNoTable, AllNamed, OutsNamed, ExitNamed, BlockNamed}
 use Rattle.compiled_plans.proofs.NamedAdding.{width_small, IsNamed, OpsNamed, Gives, added_gives, tested_gives, assigned_gives, balanced_gives}

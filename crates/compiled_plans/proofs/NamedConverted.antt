@@ -7,12 +7,12 @@ use Rattle.ir_core.specs.declared.body.Operand.{Operand}
 use Rattle.ir_core.specs.declared.body.Out.{Out}
 use Rattle.ir_core.specs.declared.body.Source.{Source}
 use Rattle.ir_core.specs.declared.body.Source.TheVariants as source
-use Rattle.block_meaning.specs.Bodies.{OpTree}
-use Rattle.block_meaning.specs.Trees.{branch, BlockTree, BodyTree, SequenceTree, sequence, PartTrees, no_part, more_parts, ShapeTree, fork, loop, switch, land, overlapped, SideTree, no_side, side, ArmTrees, no_arm, more_arms}
-use Rattle.conversion.specs.Outs.{is_set}
-use Rattle.conversion.specs.Merging.{Branches, branches_of, opened, merged, joined, first_block, first_of}
-use Rattle.conversion.specs.Overlapping.{carried_from, carried, carried_op, carried_out, iteration, loop_by, chosen_test, overlapped_test}
-use Rattle.conversion.specs.Conversion.{Scope, going_on, part_before, behind, converted_sequence, converted_behind, converted_parts, converted_shape, converted_side, converted_arms}
+use Rattle.ir_core.specs.Bodies.{OpTree}
+use Rattle.ir_core.specs.Trees.{branch, BlockTree, BodyTree, SequenceTree, sequence, PartTrees, no_part, more_parts, ShapeTree, fork, loop, switch, land, overlapped, SideTree, no_side, side, ArmTrees, no_arm, more_arms}
+use Rattle.passes.specs.Conversion.Outs.{is_set}
+use Rattle.passes.specs.Conversion.Merging.{Branches, branches_of, opened, merged, joined, first_block, first_of}
+use Rattle.passes.specs.Conversion.Overlapping.{carried_from, carried, carried_op, carried_out, iteration, loop_by, chosen_test, overlapped_test}
+use Rattle.passes.specs.Conversion.{Scope, going_on, part_before, behind, converted_sequence, converted_behind, converted_parts, converted_shape, converted_side, converted_arms}
 use Rattle.convert_runs.proofs.Finding.{fork_found, no_fork_found, loop_is_no_fork, IsOverlapped, overlapped_found}
 use Rattle.sound_trees.specs.Trees.{SequenceHas, PartsHave, ShapeHas, SideHas, ArmsHave}
 use Rattle.sound_trees.proofs.Converted.{by_option}

@@ -17,13 +17,13 @@ use Rattle.ir_core.specs.declared.body.OpKind.{OpKind}
 use Rattle.ir_core.specs.declared.body.OpKind.TheVariants as o
 use Rattle.ir_core.specs.declared.body.Operand.{Operand}
 use Rattle.ir_core.specs.declared.body.Out.{Out}
-use Rattle.block_meaning.specs.Bodies.{OpTree}
-use Rattle.lowering.specs.Operations.{Emitted, added, plain, defined, flagged, kind_of, valued, tested, assigned, balanced}
-use Rattle.lowering.specs.Guards.{Guard, guarded, outside, only_where}
-use Rattle.lowering.specs.Outs.{held}
-use Rattle.lowering.specs.Blocks.{Scope}
-use Rattle.lowering.specs.Expressions.{Evaluated, Next, Subscripts, with_value, with_truth, under_guard, is_total, computed, operated, junction, joined, binary, unary, choice, cast_to, subscript, emitted, emitted_all, left_type, right_type}
-use Rattle.lowered_conversions.specs.Suiting.{PureSuits, EachSuits}
+use Rattle.ir_core.specs.Bodies.{OpTree}
+use Rattle.passes.specs.Lowering.Operations.{Emitted, added, plain, defined, flagged, kind_of, valued, tested, assigned, balanced}
+use Rattle.passes.specs.Lowering.Guards.{Guard, guarded, outside, only_where}
+use Rattle.passes.specs.Lowering.Outs.{held}
+use Rattle.passes.specs.Lowering.Blocks.{Scope}
+use Rattle.passes.specs.Lowering.Expressions.{Evaluated, Next, Subscripts, with_value, with_truth, under_guard, is_total, computed, operated, junction, joined, binary, unary, choice, cast_to, subscript, emitted, emitted_all, left_type, right_type}
+use Rattle.convert_runs.specs.LoweredConversions.Suiting.{PureSuits, EachSuits}
 use Rattle.compiled_plans.specs.Operations.{AllNamed, OutsNamed, Accesses}
 use Rattle.compiled_plans.proofs.Safe.{within}
 use Rattle.compiled_plans.proofs.NamedAdding.{width_small, IsNamed, IsNamedIf, OpNamed, OpsNamed, Gives, added_gives, GivenNamed, valued_gives, tested_gives, assigned_gives, balanced_gives, GuardsNamed, outside_named, guarded_named}

@@ -9,14 +9,14 @@ use Rattle.ir_core.specs.declared.body.Operand.{Operand}
 use Rattle.ir_core.specs.declared.body.Out.{Out}
 use Rattle.ir_core.specs.declared.body.Source.{Source}
 use Rattle.ir_core.specs.declared.body.Source.TheVariants as source
-use Rattle.block_meaning.specs.Bodies.{OpTree}
-use Rattle.block_meaning.specs.Trees.{ExitTree, next, branch, choose, break_, continue_, leave, BlockTree}
-use Rattle.numbering.specs.Equal.{operand_eq}
-use Rattle.numbering.specs.Numbering as n
-use Rattle.numbering.specs.Numbering.{Value, operand_or}
-use Rattle.conversion.specs.Outs.{out, entry_value, held_or, held, is_set, with_out, with_outs}
-use Rattle.conversion.specs.Joining.{Guard, Joined, standing_for, renamed, renamed_op, renamed_out, renamed_exit, next_result, plain, bit_for, or_constant, bit_in, with_guard, with_taken, with_both, with_bit, needs_guard, with_op, guarded, staying, converted, first_word, by_word, joined_op, joined_ops}
-use Rattle.conversion.specs.Merging.{Branches, Branched, Choice, opened, branched, is_taken, choices_for, choices, others, selected_bits, with_selection, with_selections, merged, joined}
+use Rattle.ir_core.specs.Bodies.{OpTree}
+use Rattle.ir_core.specs.Trees.{ExitTree, next, branch, choose, break_, continue_, leave, BlockTree}
+use Rattle.passes.specs.Numbering.Equal.{operand_eq}
+use Rattle.passes.specs.Numbering as n
+use Rattle.passes.specs.Numbering.{Value, operand_or}
+use Rattle.passes.specs.Conversion.Outs.{out, entry_value, held_or, held, is_set, with_out, with_outs}
+use Rattle.passes.specs.Conversion.Joining.{Guard, Joined, standing_for, renamed, renamed_op, renamed_out, renamed_exit, next_result, plain, bit_for, or_constant, bit_in, with_guard, with_taken, with_both, with_bit, needs_guard, with_op, guarded, staying, converted, first_word, by_word, joined_op, joined_ops}
+use Rattle.passes.specs.Conversion.Merging.{Branches, Branched, Choice, opened, branched, is_taken, choices_for, choices, others, selected_bits, with_selection, with_selections, merged, joined}
 use Rattle.compiled_plans.specs.Operations.{IsNamedAs, OutsNamed, ExitNamed, BlockNamed}
 use Rattle.compiled_plans.proofs.NamedAdding.{IsNamed, IsNamedIf, OpNamed, OpsNamed, ops_more}
 use Rattle.compiled_plans.proofs.NamedNumbered.{args_renamed, op_as, ValuesNamed, value_named, values_more}

@@ -20,17 +20,17 @@ use Rattle.ir_core.specs.declared.cfg.Memory.{Memory}
 use Rattle.ir_core.specs.declared.cfg.Node.{Node}
 use Rattle.ir_core.specs.declared.cfg.Node.TheVariants as node
 use Rattle.ir_core.specs.declared.stamp.Untimed.{Untimed}
-use Rattle.clock_ir.specs.declared.timed.Timed.{Timed}
-use Rattle.block_meaning.specs.Bodies.{op_of}
-use Rattle.block_meaning.specs.Trees.{ExitTree, next, branch, choose, break_, continue_, leave, BlockTree}
-use Rattle.body_times.specs.Copies.{IsTimedCopy, AreTimedCopies, IsEndCopy}
-use Rattle.lowering.specs.Blocks.{Scope, begun}
-use Rattle.lowering.specs.Lowering.{last, lowered}
-use Rattle.lowered_conversions.specs.Suiting.{widths_of, PiecesSuit}
-use Rattle.numbering.specs.Numbering.{numbered_sequence}
+use Rattle.ir_core.specs.declared.timed.Timed.{Timed}
+use Rattle.ir_core.specs.Bodies.{op_of}
+use Rattle.ir_core.specs.Trees.{ExitTree, next, branch, choose, break_, continue_, leave, BlockTree}
+use Rattle.unit_binding.specs.Copies.{IsTimedCopy, AreTimedCopies, IsEndCopy}
+use Rattle.passes.specs.Lowering.Blocks.{Scope, begun}
+use Rattle.passes.specs.Lowering.{last, lowered}
+use Rattle.convert_runs.specs.LoweredConversions.Suiting.{widths_of, PiecesSuit}
+use Rattle.passes.specs.Numbering.{numbered_sequence}
 use Rattle.ir_layout.specs.Nodes.{case_of, end_of, node_of}
 use Rattle.ir_layout.specs.Layout.{Ahead, finish, onto, tested, by_case, Around, held_behind, unset, left_in, straight, end_for, laid_block, laid_out}
-use Rattle.clock_meaning.specs.WellTimed.{IsWellTimedNode}
+use Rattle.clock_ir.specs.WellTimed.{IsWellTimedNode}
 use Rattle.clock_runs.specs.Premises.{Each}
 use Rattle.clock_runs.proofs.Lists.{some_same, no_some}
 use Rattle.sound_trees.specs.Laws.{tree_in}

@@ -7,10 +7,10 @@ use Rattle.ir_core.specs.declared.body.Operand.{Operand}
 use Rattle.ir_core.specs.declared.body.Out.{Out}
 use Rattle.ir_core.specs.declared.body.Source.{Source}
 use Rattle.ir_core.specs.declared.body.Source.TheVariants as source
-use Rattle.block_meaning.specs.Bodies.{OpTree}
-use Rattle.block_meaning.specs.Trees.{ExitTree, next, branch, choose, break_, continue_, leave, BlockTree, BodyTree, SequenceTree, sequence, PartTrees, no_part, more_parts, ShapeTree, fork, loop, switch, land, overlapped, SideTree, no_side, side, ArmTrees, no_arm, more_arms}
-use Rattle.numbering.specs.Constants.{computed}
-use Rattle.numbering.specs.Numbering.{Scope, Value, Numbered, operand_or, standing_for, renamed, renamed_op, first_bits, earlier, with_earlier, with_word, makes_out, numbered_op, numbered_ops, nothing, ops_of, renamed_out, renamed_exit, numbered_block, in_loop, numbered_sequence, numbered_parts, numbered_shape, numbered_side, numbered_arms}
+use Rattle.ir_core.specs.Bodies.{OpTree}
+use Rattle.ir_core.specs.Trees.{ExitTree, next, branch, choose, break_, continue_, leave, BlockTree, BodyTree, SequenceTree, sequence, PartTrees, no_part, more_parts, ShapeTree, fork, loop, switch, land, overlapped, SideTree, no_side, side, ArmTrees, no_arm, more_arms}
+use Rattle.passes.specs.Numbering.Constants.{computed}
+use Rattle.passes.specs.Numbering.{Scope, Value, Numbered, operand_or, standing_for, renamed, renamed_op, first_bits, earlier, with_earlier, with_word, makes_out, numbered_op, numbered_ops, nothing, ops_of, renamed_out, renamed_exit, numbered_block, in_loop, numbered_sequence, numbered_parts, numbered_shape, numbered_side, numbered_arms}
 use Rattle.sound_trees.specs.Trees.{SequenceHas, PartsHave, ShapeHas, SideHas, ArmsHave}
 use Rattle.sound_trees.proofs.NumberedBlocks.{stays_same, ops_append}
 use Rattle.compiled_plans.specs.Operations.{AllNamed, OutsNamed, ExitNamed, BlockNamed}

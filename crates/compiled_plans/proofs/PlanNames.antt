@@ -21,23 +21,23 @@ use Rattle.ir_core.specs.declared.cfg.Memory.{Memory}
 use Rattle.ir_core.specs.declared.cfg.Node.{Node}
 use Rattle.ir_core.specs.declared.cfg.Node.TheVariants as node
 use Rattle.ir_core.specs.declared.stamp.Untimed.{Untimed}
-use Rattle.ir_operation.specs.Timing.{result_bits}
-use Rattle.ir_operation.specs.Value.{count_of}
-use Rattle.clock_ir.specs.declared.timed.Timed.{Timed}
-use Rattle.block_meaning.specs.Bodies.{OpTree, op_of}
-use Rattle.body_times.specs.Copies.{IsTimedCopy, AreTimedCopies}
+use Rattle.ir_core.specs.Timing.{result_bits}
+use Rattle.ir_core.specs.Value.{count_of}
+use Rattle.ir_core.specs.declared.timed.Timed.{Timed}
+use Rattle.ir_core.specs.Bodies.{OpTree, op_of}
+use Rattle.unit_binding.specs.Copies.{IsTimedCopy, AreTimedCopies}
 use Rattle.dep_graph.specs.Offsets as graph
 use Rattle.dep_graph.specs.Offsets.{maker}
 use Rattle.dep_graph.specs.Dependences.{maker_by, maker_of}
-use Rattle.conversion.specs.Outs.{is_set}
+use Rattle.passes.specs.Conversion.Outs.{is_set}
 use Rattle.convert_runs.specs.Typed.{HasBits, OutsAreTyped}
 use Rattle.convert_runs.specs.Blocks.{Once}
 use Rattle.convert_runs.proofs.Opening.{same_number, itself_number, left_false, right_false}
 use Rattle.ir_layout.specs.Nodes.{case_of, end_of, node_of}
 use Rattle.reg_binding.specs.declared.registers.Registers.{Registers}
-use Rattle.clock_meaning.specs.Flows.{TimedOp, TimedBody, timed_op}
-use Rattle.clock_meaning.specs.ClockRuns.{TimedNode, timed_node}
-use Rattle.clock_meaning.specs.WellTimed.{IsWellTimedNode, AreWellTimed, IsWellTimed}
+use Rattle.clock_ir.specs.Flows.{TimedOp, TimedBody, timed_op}
+use Rattle.clock_ir.specs.ClockRuns.{TimedNode, timed_node}
+use Rattle.clock_ir.specs.WellTimed.{IsWellTimedNode, AreWellTimed, IsWellTimed}
 use Rattle.clock_runs.specs.Premises as premises
 use Rattle.clock_runs.specs.Premises.{Each}
 use Rattle.clock_runs.proofs.Lists.{some_same, no_some}

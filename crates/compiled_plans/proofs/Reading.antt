@@ -12,12 +12,12 @@ use Rattle.ir_core.specs.declared.cfg.End.{End}
 use Rattle.ir_core.specs.declared.cfg.End.TheVariants as end
 use Rattle.ir_core.specs.declared.cfg.Node.{Node}
 use Rattle.ir_core.specs.declared.cfg.Node.TheVariants as node
-use Rattle.clock_ir.specs.declared.timed.Timed.{Timed}
+use Rattle.ir_core.specs.declared.timed.Timed.{Timed}
 use Rattle.convert_runs.proofs.Opening.{same_number}
 use Rattle.clock_runs.proofs.Lists.{no_some}
-use Rattle.live_variables.specs.Liveness.{is_among, operand_reads, op_reads, body_reads, out_reads, case_reads, end_reads, case_node, next_nodes, is_return, summary_of, is_set}
-use Rattle.clock_meaning.specs.Flows.{TimedOp, timed_op, timed_body}
-use Rattle.clock_meaning.specs.ClockRuns.{timed_node}
+use Rattle.reg_binding.specs.Liveness.{is_among, operand_reads, op_reads, body_reads, out_reads, case_reads, end_reads, case_node, next_nodes, is_return, summary_of, is_set}
+use Rattle.clock_ir.specs.Flows.{TimedOp, timed_op, timed_body}
+use Rattle.clock_ir.specs.ClockRuns.{timed_node}
 use Rattle.datapath.specs.Blocks.{EndReads}
 use Rattle.datapath.specs.Savings as savings
 use Rattle.datapath.specs.Savings.{NodeReads, EndReadsIn, EndLeads, LeadsTo, EndReturns, Returns, SetsNot, Passes}

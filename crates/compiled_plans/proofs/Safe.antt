@@ -7,14 +7,14 @@ use Rattle.hls_base.specs.declared.number.VarId.{VarId}
 use Rattle.ir_core.specs.declared.cfg.Cfg.{Cfg}
 use Rattle.ir_core.specs.declared.cfg.Node.{Node}
 use Rattle.ir_core.specs.declared.cfg.Node.TheVariants as node
-use Rattle.clock_ir.specs.declared.timed.Timed.{Timed}
+use Rattle.ir_core.specs.declared.timed.Timed.{Timed}
 use Rattle.convert_runs.proofs.Opening.{itself_number}
 use Rattle.clock_runs.proofs.Lists.{no_some}
-use Rattle.live_variables.specs.declared.live.Live.{Live}
-use Rattle.live_variables.specs.Liveness as lv
-use Rattle.live_variables.specs.Liveness.{Flow, flow_of, summary_of, is_among, out_reads, is_behind, goes_by, IsLiveness}
+use Rattle.reg_binding.specs.declared.live.Live.{Live}
+use Rattle.reg_binding.specs.Liveness as lv
+use Rattle.reg_binding.specs.Liveness.{Flow, flow_of, summary_of, is_among, out_reads, is_behind, goes_by, IsLiveness}
 use Rattle.reg_binding.specs.declared.registers.Registers.{Registers}
-use Rattle.clock_meaning.specs.ClockRuns.{TimedNode, timed_node}
+use Rattle.clock_ir.specs.ClockRuns.{TimedNode, timed_node}
 use Rattle.datapath.specs.Plans.{Plan, plan_of}
 use Rattle.datapath.specs.Savings as savings
 use Rattle.datapath.specs.Savings.{NodeReads, LeadsTo, Returns, Passes, StaysForNextRun, Moves, IsLive, IsLiveBehind}

@@ -6,11 +6,11 @@ use Rattle.hls_base.specs.ArrayAddress.{addresses}
 use Rattle.hls_base.specs.declared.number.Kept.{Kept}
 use Rattle.hls_base.specs.declared.number.VarId.{VarId}
 use Rattle.pieces.specs.Program.{ArrayTree}
-use Rattle.piece_meaning.specs.Runs.{variables_of}
+use Rattle.c_meaning.specs.PieceRuns.Runs.{variables_of}
 use Rattle.clock_runs.proofs.Lists.{some_same, no_some}
 use Rattle.sound_trees.proofs.Renamed.{length_map}
-use Rattle.started_words.specs.FirstWords.{HasOneSource, FillsIfAny, IsNotIn, Differ, AreApart}
-use Rattle.started_words.proofs.Places.{address_count}
+use Rattle.timed_pieces.specs.StartedWords.FirstWords.{HasOneSource, FillsIfAny, IsNotIn, Differ, AreApart}
+use Rattle.timed_pieces.proofs.StartedWords.Places.{address_count}
 use Rattle.datapath.specs.Plans.{Array}
 use Rattle.compiled_plans.specs.Frames.{plan_array}
 use Rattle.compiled_plans.specs.Laws.{FramesAreSound}

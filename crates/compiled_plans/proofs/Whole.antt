@@ -8,21 +8,21 @@ use Rattle.ir_core.specs.declared.cfg.Memory.{Memory}
 use Rattle.ir_core.specs.declared.cfg.Node.{Node}
 use Rattle.ir_core.specs.declared.stamp.Untimed.{Untimed}
 use Rattle.ir_lower.specs.Frames.{MemoryView, FrameView, memory_view, frame_view}
-use Rattle.clock_ir.specs.declared.timed.Timed.{Timed}
-use Rattle.schedule_runs.proofs.Programs.{scheduled_well}
-use Rattle.sound_programs.proofs.Whole as programs
+use Rattle.ir_core.specs.declared.timed.Timed.{Timed}
+use Rattle.timed_pieces.proofs.ScheduleRuns.Programs.{scheduled_well}
+use Rattle.timed_pieces.proofs.SoundPrograms.Whole as programs
 use Rattle.sound_trees.proofs.Renamed.{length_map}
-use Rattle.block_meaning.specs.Bodies.{Shapes}
+use Rattle.ir_core.specs.Bodies.{Shapes}
 use Rattle.datapath.specs.Plans.{Array, Savings, array_of, plan_of}
 use Rattle.datapath.specs.Savings.{StaysForNextRun}
 use Rattle.hls_base.specs.declared.number.VarId.{VarId}
 use Rattle.c_token.specs.declared.ctype.CType.{CType}
-use Rattle.started_words.specs.Contents.{ResultIsThere}
-use Rattle.piece_meaning.specs.Runs.{frame_of}
+use Rattle.timed_pieces.specs.StartedWords.Contents.{ResultIsThere}
+use Rattle.c_meaning.specs.PieceRuns.Runs.{frame_of}
 use Rattle.ir_layout.specs.Nodes.{node_of}
 use Rattle.lower_runs.specs.Suits.{scope_of}
-use Rattle.lowered_conversions.specs.Suiting.{widths_of, words_of}
-use Rattle.clock_meaning.specs.WellTimed.{IsWellTimed}
+use Rattle.convert_runs.specs.LoweredConversions.Suiting.{widths_of, words_of}
+use Rattle.clock_ir.specs.WellTimed.{IsWellTimed}
 use Rattle.compiled_plans.specs.Operations.{NodeNamed, NodeDivides}
 use Rattle.clock_runs.proofs.Lists.{some_same, no_some}
 use Rattle.datapath.specs.LeftOut.{behind_if, is_exclusive, savings_of}

@@ -3,19 +3,19 @@ use Rattle.std.specs.Prelude.{◌≡◌, ◌^◌, ◌<◌, Bool, List, length}
 use Rattle.hls_base.specs.declared.point.Point.{Point}
 use Rattle.hls_base.specs.declared.settings.Units.{Units}
 use Rattle.pieces.specs.Program.{ExpandedTree}
-use Rattle.piece_meaning.specs.Runs.{frame_of}
+use Rattle.c_meaning.specs.PieceRuns.Runs.{frame_of}
 use Rattle.ir_core.specs.declared.cfg.Cfg.{Cfg}
 use Rattle.ir_core.specs.declared.stamp.Untimed.{Untimed}
-use Rattle.clock_ir.specs.declared.timed.Timed.{Timed}
+use Rattle.ir_core.specs.declared.timed.Timed.{Timed}
 use Rattle.report_rows.specs.Initial.{AreAddressed}
 use Rattle.cycle_report.specs.PlainReport.{PlainLoop}
-use Rattle.flat_runs.specs.Laws.{Choice, IsFine, IsLaidOut}
+use Rattle.timed_pieces.specs.FlatRuns.{Choice, IsFine, IsLaidOut}
 use Rattle.timed_pieces.specs.Laws.{HasTimes}
 use Rattle.sound_trees.specs.Subscripts.{PiecesSubscriptsFit}
-use Rattle.started_words.specs.Contents.{ResultIsThere, KeptAreThere}
-use Rattle.started_words.specs.FirstWords.{HasFirstContents}
-use Rattle.live_variables.specs.declared.live.Live.{Live}
-use Rattle.live_variables.specs.Liveness.{IsLiveness, flow_of}
+use Rattle.timed_pieces.specs.StartedWords.Contents.{ResultIsThere, KeptAreThere}
+use Rattle.timed_pieces.specs.StartedWords.FirstWords.{HasFirstContents}
+use Rattle.reg_binding.specs.declared.live.Live.{Live}
+use Rattle.reg_binding.specs.Liveness.{IsLiveness, flow_of}
 use Rattle.reg_binding.specs.declared.registers.Registers.{Registers}
 use Rattle.reg_binding.specs.Assigned.{IsAssignment}
 use Rattle.datapath.specs.Plans.{Plan, plan_of}
@@ -23,7 +23,7 @@ use Rattle.datapath.specs.Savings.{AreSafe}
 use Rattle.circuit_flow.specs.Compiled.{HasSoundFrame, IsCompiled}
 use Rattle.datapath.specs.LeftOut.{savings_of}
 use Rattle.compiled_plans.specs.Frames.{HasFrame, HostsComeFirst}
-use Rattle.small_numbers.specs.Small.{HasSmallNumbers}
+use Rattle.ir_core.specs.Small.{HasSmallNumbers}
 use Rattle.compiled_plans.specs.Names.{NamesVariables}
 use Rattle.compiled_plans.specs.Operations.{PutNoTables}
 

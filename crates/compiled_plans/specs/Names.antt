@@ -3,7 +3,7 @@ use Rattle.std.specs.Prelude.{◌≡◌, ℕ, ◌<◌, length, slice_get, Some}
 use Rattle.hls_base.specs.declared.number.VarId.{VarId}
 use Rattle.ir_core.specs.declared.body.Operand.{Operand}
 use Rattle.ir_core.specs.declared.body.Source.TheVariants as source
-use Rattle.clock_meaning.specs.ClockRuns.{TimedNode}
+use Rattle.clock_ir.specs.ClockRuns.{TimedNode}
 use Rattle.datapath.specs.Plans.{Plan}
 use Rattle.datapath.specs.Savings.{NodeReads, Moves}
 

@@ -10,8 +10,8 @@ use Rattle.ir_core.specs.declared.body.Source.TheVariants as source
 use Rattle.pieces.specs.Trees as tree
 use Rattle.pieces.specs.Trees.{PieceTree, PieceTrees}
 use Rattle.pieces.specs.Program.{ArrayTree}
-use Rattle.block_meaning.specs.Bodies.{OpTree}
-use Rattle.block_meaning.specs.Trees.{ExitTree, branch, choose, BlockTree, BodyTree}
+use Rattle.ir_core.specs.Bodies.{OpTree}
+use Rattle.ir_core.specs.Trees.{ExitTree, branch, choose, BlockTree, BodyTree}
 use Rattle.convert_runs.specs.Typed.{HasBits, OutsAreTyped}
 use Rattle.convert_runs.specs.Blocks.{Once}
 use Rattle.clock_runs.specs.Premises.{AreApart}

@@ -13,16 +13,16 @@ use Rattle.ir_core.specs.declared.body.Operand.{Operand}
 use Rattle.ir_core.specs.declared.body.Out.{Out}
 use Rattle.ir_core.specs.declared.body.Source.{Source}
 use Rattle.ir_core.specs.declared.body.Source.TheVariants as source
-use Rattle.ir_operation.specs.Value.{value}
-use Rattle.ir_operation.specs.Timing.{result_bits}
-use Rattle.run_steps.specs.Valued.{Valued, is, faulty, and_then}
-use Rattle.block_meaning.specs.Bodies as b
-use Rattle.block_meaning.specs.Bodies.{OpTree, Shapes, Words, Performed, performed, Ranged, word, operand, bits_in, operand_bits, first_bits, loaded, with_stored, with_element, effect, fault, fault_if, is_allowed, perform, operations}
-use Rattle.numbering.specs.Numbering as n
-use Rattle.numbering.specs.Numbering.{Value, constant, result_of, operand_or, source_bits}
-use Rattle.numbering.specs.Constants.{word_of}
-use Rattle.conversion.specs.Outs.{entry_value, held}
-use Rattle.conversion.specs.Joining.{Joined, standing_for, renamed, renamed_op, is_conversion, converted, first_word, by_word, joined_ops, with_value, with_op}
+use Rattle.ir_core.specs.Value.{value}
+use Rattle.ir_core.specs.Timing.{result_bits}
+use Rattle.hls_base.specs.Valued.{Valued, is, faulty, and_then}
+use Rattle.ir_core.specs.Bodies as b
+use Rattle.ir_core.specs.Bodies.{OpTree, Shapes, Words, Performed, performed, Ranged, word, operand, bits_in, operand_bits, first_bits, loaded, with_stored, with_element, effect, fault, fault_if, is_allowed, perform, operations}
+use Rattle.passes.specs.Numbering as n
+use Rattle.passes.specs.Numbering.{Value, constant, result_of, operand_or, source_bits}
+use Rattle.passes.specs.Numbering.Constants.{word_of}
+use Rattle.passes.specs.Conversion.Outs.{entry_value, held}
+use Rattle.passes.specs.Conversion.Joining.{Joined, standing_for, renamed, renamed_op, is_conversion, converted, first_word, by_word, joined_ops, with_value, with_op}
 use Rattle.convert_runs.specs.Typed.{IsEarly, AreEarly, HasBits, GuardIsTyped, OpsAreTyped}
 use Rattle.convert_runs.proofs.Lists.{there, within, left_of, last_or}
 use Rattle.convert_runs.proofs.Joining.{has_early, Sound, joined_sound, all_sound}

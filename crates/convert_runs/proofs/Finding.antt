@@ -2,11 +2,11 @@
 use Rattle.std.proofs.Common.{◌≡◌, ◌∙◌, ℕ, Bool, true, false, ◌&&◌, refl, ap, sym, List, Option, Some, None}
 use Rattle.std.specs.Prelude.{if◌then◌else◌}
 use Rattle.ir_core.specs.declared.body.Operand.{Operand}
-use Rattle.block_meaning.specs.Bodies.{Shapes, Words}
-use Rattle.block_meaning.specs.Trees.{ExitTree, next, branch, choose, break_, continue_, leave, BlockTree, SequenceTree, sequence, PartTrees, no_part, more_parts, ShapeTree, fork, loop, switch, land, overlapped, SideTree, no_side, side}
-use Rattle.block_meaning.specs.TreeRuns.{left, parts_run}
-use Rattle.conversion.specs.Merging.{Branches, test_of, is_only, is_only_side, leads_on, first_block, first_of, branches_of}
-use Rattle.conversion.specs.Overlapping.{is_test, test_if, test_alone, overlapped_test, loop_by}
+use Rattle.ir_core.specs.Bodies.{Shapes, Words}
+use Rattle.ir_core.specs.Trees.{ExitTree, next, branch, choose, break_, continue_, leave, BlockTree, SequenceTree, sequence, PartTrees, no_part, more_parts, ShapeTree, fork, loop, switch, land, overlapped, SideTree, no_side, side}
+use Rattle.ir_core.specs.TreeRuns.{left, parts_run}
+use Rattle.passes.specs.Conversion.Merging.{Branches, test_of, is_only, is_only_side, leads_on, first_block, first_of, branches_of}
+use Rattle.passes.specs.Conversion.Overlapping.{is_test, test_if, test_alone, overlapped_test, loop_by}
 
 some_same : {A : Type 0} {x y : A} → Some x ≡ Some y → x ≡ y
 some_same e = cc

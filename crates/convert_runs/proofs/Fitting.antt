@@ -13,11 +13,11 @@ use Rattle.ir_core.specs.declared.body.Out.{Out}
 use Rattle.ir_core.specs.declared.body.Simple.TheVariants as s
 use Rattle.ir_core.specs.declared.body.Source.{Source}
 use Rattle.ir_core.specs.declared.body.Source.TheVariants as source
-use Rattle.ir_operation.specs.Value as v
-use Rattle.ir_operation.specs.Value.{count_of, pattern, value}
-use Rattle.ir_operation.specs.Timing.{result_bits}
-use Rattle.run_steps.specs.Valued.{Valued, is, faulty, and_then}
-use Rattle.block_meaning.specs.Bodies.{OpTree, Shapes, Words, Performed, performed, Ranged, word, operand, with_word, with_memory_word, loaded, with_stored, stored, subscripts, address_of, dims_of, effect, fault, fault_if, is_allowed, first_bits, perform, operations, outs, with_outs}
+use Rattle.ir_core.specs.Value as v
+use Rattle.ir_core.specs.Value.{count_of, pattern, value}
+use Rattle.ir_core.specs.Timing.{result_bits}
+use Rattle.hls_base.specs.Valued.{Valued, is, faulty, and_then}
+use Rattle.ir_core.specs.Bodies.{OpTree, Shapes, Words, Performed, performed, Ranged, word, operand, with_word, with_memory_word, loaded, with_stored, stored, subscripts, address_of, dims_of, effect, fault, fault_if, is_allowed, first_bits, perform, operations, outs, with_outs}
 use Rattle.convert_runs.specs.Typed.{HasBits, LastHas, AccessIsTyped, OpIsTyped, OpsAreTyped, OutsAreTyped, Fits}
 use Rattle.convert_runs.proofs.Lists.{last_or, within}
 use Rattle.convert_runs.proofs.Opening.{same_number}

@@ -1,7 +1,7 @@
 -- Parts of a run one after another, and what comes of them.
 use Rattle.std.proofs.Common.{◌≡◌, ◌∙◌, ℕ, ◌+◌, ap, sym, subst, arith, List, ◌++◌, append_assoc, append-nil, length, length-append}
 use Rattle.hls_base.specs.declared.point.Point.{Point}
-use Rattle.run_steps.specs.Steps.{Outcome, went, undefined, waiting, Ran, ran, after, then_}
+use Rattle.hls_base.specs.Steps.{Outcome, went, undefined, waiting, Ran, ran, after, then_}
 use Rattle.convert_runs.specs.Kept.{Matches}
 
 module _ (R : List Point → List Point → Type 0) (more : (a b c d : List Point) → R a b → R c d → R (a ++ c) (b ++ d)) {S B : Type 0} (L : B → S → Type 0) where

@@ -3,13 +3,13 @@ use Rattle.std.proofs.Common.{◌≡◌, ◌∙◌, Bool, true, false, ◌&&◌,
 use Rattle.std.specs.Prelude.{◌==◌, drop, if◌then◌else◌}
 use Rattle.ir_core.specs.declared.body.Operand.{Operand}
 use Rattle.ir_core.specs.declared.body.Out.{Out}
-use Rattle.block_meaning.specs.Trees.{ExitTree, branch, BlockTree, SequenceTree, sequence, PartTrees, no_part, more_parts, fork, loop, switch, land, overlapped, SideTree, no_side, side}
-use Rattle.block_meaning.specs.TreeRuns.{tested_by}
-use Rattle.conversion.specs.Outs.{with_outs}
-use Rattle.conversion.specs.Joining.{renamed, renamed_exit}
-use Rattle.conversion.specs.Merging.{Branches, test_of, leads_on, is_only, is_only_side, first_block, opened, branches_of, merged, joined}
-use Rattle.conversion.specs.Overlapping.{none_needs_guard, is_test, test_if, overlapped_test, loop_by}
-use Rattle.conversion.specs.Conversion.{Scope, going_on, behind, converted_sequence, converted_behind, converted_side}
+use Rattle.ir_core.specs.Trees.{ExitTree, branch, BlockTree, SequenceTree, sequence, PartTrees, no_part, more_parts, fork, loop, switch, land, overlapped, SideTree, no_side, side}
+use Rattle.ir_core.specs.TreeRuns.{tested_by}
+use Rattle.passes.specs.Conversion.Outs.{with_outs}
+use Rattle.passes.specs.Conversion.Joining.{renamed, renamed_exit}
+use Rattle.passes.specs.Conversion.Merging.{Branches, test_of, leads_on, is_only, is_only_side, first_block, opened, branches_of, merged, joined}
+use Rattle.passes.specs.Conversion.Overlapping.{none_needs_guard, is_test, test_if, overlapped_test, loop_by}
+use Rattle.passes.specs.Conversion.{Scope, going_on, behind, converted_sequence, converted_behind, converted_side}
 use Rattle.convert_runs.proofs.Tests.{sets_nothing}
 use Rattle.convert_runs.specs.Forks.{HoldsForks, ForksBehind, SideHoldsForks, ForksAreMerged, LoopsAreOverlapped}
 

@@ -5,9 +5,9 @@ use Rattle.hls_base.specs.declared.place.Place.{Place}
 use Rattle.hls_base.specs.declared.refusal.UbRule.{UbRule}
 use Rattle.ir_core.specs.declared.body.OpKind.{OpKind}
 use Rattle.ir_core.specs.declared.body.OpKind.TheVariants as o
-use Rattle.run_steps.specs.Valued.{is}
-use Rattle.block_meaning.specs.Bodies.{OpTree, Shapes, Words, Performed, operand, first_bits, effect, fault, fault_if, is_allowed, perform}
-use Rattle.conversion.specs.Joining.{is_store, needs_guard}
+use Rattle.hls_base.specs.Valued.{is}
+use Rattle.ir_core.specs.Bodies.{OpTree, Shapes, Words, Performed, operand, first_bits, effect, fault, fault_if, is_allowed, perform}
+use Rattle.passes.specs.Conversion.Joining.{is_store, needs_guard}
 
 -- where it may not run, or has no place and stores nothing
 module _ (shapes : Shapes) (op : OpTree) (from : ℕ) (args : List ℕ) (t : Words) where

@@ -7,17 +7,17 @@ use Rattle.ir_core.specs.declared.body.Operand.{Operand}
 use Rattle.ir_core.specs.declared.body.Out.{Out}
 use Rattle.ir_core.specs.declared.body.Source.{Source}
 use Rattle.ir_core.specs.declared.body.Source.TheVariants as source
-use Rattle.run_steps.specs.Steps.{Ran, goes, then_, reached}
-use Rattle.run_steps.specs.Valued.{Valued, is, faulty, and_then, valued}
-use Rattle.block_meaning.specs.Bodies as b
-use Rattle.block_meaning.specs.Bodies.{OpTree, Shapes, Words, Ranged, word, operand, bits_in, operand_bits, first_bits, is_allowed, fault, fault_if, effect, perform, operations, with_word}
-use Rattle.block_meaning.specs.Trees.{next, branch, BlockTree, BodyTree}
-use Rattle.block_meaning.specs.TreeRuns.{Way, Turn, again, over, tested_by, tested, goes_round, iterated, iteration, block_left, is_taken, holds, way_of}
-use Rattle.conversion.specs.Outs as o
-use Rattle.conversion.specs.Outs.{is_set}
-use Rattle.conversion.specs.Merging.{opened, joined}
-use Rattle.conversion.specs.Overlapping as v
-use Rattle.conversion.specs.Overlapping.{is_test, carried_from, carried, carried_op, carried_out}
+use Rattle.hls_base.specs.Steps.{Ran, goes, then_, reached}
+use Rattle.hls_base.specs.Valued.{Valued, is, faulty, and_then, valued}
+use Rattle.ir_core.specs.Bodies as b
+use Rattle.ir_core.specs.Bodies.{OpTree, Shapes, Words, Ranged, word, operand, bits_in, operand_bits, first_bits, is_allowed, fault, fault_if, effect, perform, operations, with_word}
+use Rattle.ir_core.specs.Trees.{next, branch, BlockTree, BodyTree}
+use Rattle.ir_core.specs.TreeRuns.{Way, Turn, again, over, tested_by, tested, goes_round, iterated, iteration, block_left, is_taken, holds, way_of}
+use Rattle.passes.specs.Conversion.Outs as o
+use Rattle.passes.specs.Conversion.Outs.{is_set}
+use Rattle.passes.specs.Conversion.Merging.{opened, joined}
+use Rattle.passes.specs.Conversion.Overlapping as v
+use Rattle.passes.specs.Conversion.Overlapping.{is_test, carried_from, carried, carried_op, carried_out}
 use Rattle.convert_runs.specs.Typed.{IsEarly, OpsAreTyped, BlockIsTyped, Fits}
 use Rattle.convert_runs.specs.Blocks.{IsOpen, naked, turn_of_blocks}
 use Rattle.convert_runs.proofs.Opening.{opened_open}

@@ -9,14 +9,14 @@ use Rattle.ir_core.specs.declared.body.Operand.{Operand}
 use Rattle.ir_core.specs.declared.body.Out.{Out}
 use Rattle.ir_core.specs.declared.body.Source.{Source}
 use Rattle.ir_core.specs.declared.body.Source.TheVariants as source
-use Rattle.ir_operation.specs.Value.{count_of, value}
-use Rattle.ir_operation.specs.Timing.{result_bits}
-use Rattle.block_meaning.specs.Bodies.{OpTree}
-use Rattle.numbering.specs.Equal.{operand_eq}
-use Rattle.numbering.specs.Numbering as n
-use Rattle.numbering.specs.Numbering.{Value, constant, result_of, operand_or}
-use Rattle.conversion.specs.Outs.{entry_value, held}
-use Rattle.conversion.specs.Joining.{Guard, Joined, standing_for, renamed, renamed_op, renamed_out, plain, bit_for, or_constant, bit_in, with_guard, with_taken, with_both, with_bit, needs_guard, with_op, guarded, staying, is_conversion, converted, first_word, by_word, joined_op, joined_ops}
+use Rattle.ir_core.specs.Value.{count_of, value}
+use Rattle.ir_core.specs.Timing.{result_bits}
+use Rattle.ir_core.specs.Bodies.{OpTree}
+use Rattle.passes.specs.Numbering.Equal.{operand_eq}
+use Rattle.passes.specs.Numbering as n
+use Rattle.passes.specs.Numbering.{Value, constant, result_of, operand_or}
+use Rattle.passes.specs.Conversion.Outs.{entry_value, held}
+use Rattle.passes.specs.Conversion.Joining.{Guard, Joined, standing_for, renamed, renamed_op, renamed_out, plain, bit_for, or_constant, bit_in, with_guard, with_taken, with_both, with_bit, needs_guard, with_op, guarded, staying, is_conversion, converted, first_word, by_word, joined_op, joined_ops}
 use Rattle.convert_runs.specs.Typed.{IsEarly, AreEarly, HasBits, GuardIsTyped, LastHas, AccessIsTyped, OpIsTyped, OpsAreTyped, OutsAreTyped}
 use Rattle.convert_runs.proofs.Lists.{there, within, left_of, seam, last_or}
 use Rattle.convert_runs.proofs.Fitting.{is_access, value_fits}

@@ -17,3 +17,6 @@ pub mod Single
 pub mod Trees
 pub mod Whole
 pub mod Forks
+pub mod MergedBlocks
+pub mod ConvertedTrees
+pub mod LoweredConversions

@@ -1,9 +1,9 @@
 -- Loops of which each round does what a round of the other one does.
 use Rattle.std.proofs.Common.{◌≡◌, ◌∙◌, ℕ, zero, suc, ◌+◌, ◌≤◌, Bool, refl, ap, sym, subst, arith, List, [], ◌∷◌, ◌++◌, append-nil, append_assoc, length}
 use Rattle.hls_base.specs.declared.point.Point.{Point}
-use Rattle.run_steps.specs.Steps.{Outcome, went, undefined, waiting, Ran, ran, goes, after, then_, reached}
-use Rattle.block_meaning.specs.Bodies.{Words}
-use Rattle.block_meaning.specs.TreeRuns.{Turn, again, over, out, if_again, repeat}
+use Rattle.hls_base.specs.Steps.{Outcome, went, undefined, waiting, Ran, ran, goes, after, then_, reached}
+use Rattle.ir_core.specs.Bodies.{Words}
+use Rattle.ir_core.specs.TreeRuns.{Turn, again, over, out, if_again, repeat}
 use Rattle.convert_runs.specs.Kept.{Begins, Matches, IsKept, IsKeptOf}
 use Rattle.convert_runs.proofs.Following.{prepend}
 use Rattle.convert_runs.proofs.Sims.{Sim, With, more_kept, more_kept_of}

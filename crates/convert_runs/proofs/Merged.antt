@@ -7,12 +7,12 @@ use Rattle.ir_core.specs.declared.body.Operand.{Operand}
 use Rattle.ir_core.specs.declared.body.Out.{Out}
 use Rattle.ir_core.specs.declared.body.Source.{Source}
 use Rattle.ir_core.specs.declared.body.Source.TheVariants as source
-use Rattle.block_meaning.specs.Bodies.{OpTree}
-use Rattle.block_meaning.specs.Trees.{ExitTree, next, branch, choose, break_, continue_, leave, BlockTree}
-use Rattle.numbering.specs.Numbering.{result_of}
-use Rattle.conversion.specs.Outs.{entry_value, held_or, held, is_set}
-use Rattle.conversion.specs.Joining.{Guard, renamed_out, renamed_exit, plain, bit_for, joined_ops}
-use Rattle.conversion.specs.Merging.{Branches, Branched, Choice, branched, is_taken, choices_for, choices, others, selected_bits, with_selection, with_selections, merged, joined}
+use Rattle.ir_core.specs.Bodies.{OpTree}
+use Rattle.ir_core.specs.Trees.{ExitTree, next, branch, choose, break_, continue_, leave, BlockTree}
+use Rattle.passes.specs.Numbering.{result_of}
+use Rattle.passes.specs.Conversion.Outs.{entry_value, held_or, held, is_set}
+use Rattle.passes.specs.Conversion.Joining.{Guard, renamed_out, renamed_exit, plain, bit_for, joined_ops}
+use Rattle.passes.specs.Conversion.Merging.{Branches, Branched, Choice, branched, is_taken, choices_for, choices, others, selected_bits, with_selection, with_selections, merged, joined}
 use Rattle.convert_runs.specs.Typed.{IsEarly, AreEarly, HasBits, OpsAreTyped, OutsAreTyped, ExitIsTyped, BlockIsTyped}
 use Rattle.convert_runs.specs.Blocks.{IsOpen, BranchIsTyped}
 use Rattle.convert_runs.proofs.Opening.{same_number, typed_with, typed_all, once_with, once_all}

@@ -1,13 +1,13 @@
 -- Blocks without the points that they pass, and the ways in which they are left.
 use Rattle.std.proofs.Common.{◌≡◌, ◌∙◌, ℕ, true, refl, ap, sym, List, []}
 use Rattle.hls_base.specs.declared.point.Point.{Point}
-use Rattle.run_steps.specs.Steps.{Outcome, went, Ran, ran, goes, then_, pass, reached}
-use Rattle.run_steps.specs.Valued.{Valued, is, faulty, valued}
-use Rattle.block_meaning.specs.Bodies.{Shapes, Words, Ranged, operations}
-use Rattle.block_meaning.specs.Trees.{ExitTree, next, branch, choose, break_, continue_, leave, BlockTree, SequenceTree, sequence, PartTrees, no_part, more_parts}
-use Rattle.block_meaning.specs.TreeRuns.{Way, on, taken, cased, broke, continued, left, way_of, block_left, sequence_run, parts_run}
-use Rattle.conversion.specs.Merging.{first_of}
-use Rattle.conversion.specs.Joining.{renamed_exit}
+use Rattle.hls_base.specs.Steps.{Outcome, went, Ran, ran, goes, then_, pass, reached}
+use Rattle.hls_base.specs.Valued.{Valued, is, faulty, valued}
+use Rattle.ir_core.specs.Bodies.{Shapes, Words, Ranged, operations}
+use Rattle.ir_core.specs.Trees.{ExitTree, next, branch, choose, break_, continue_, leave, BlockTree, SequenceTree, sequence, PartTrees, no_part, more_parts}
+use Rattle.ir_core.specs.TreeRuns.{Way, on, taken, cased, broke, continued, left, way_of, block_left, sequence_run, parts_run}
+use Rattle.passes.specs.Conversion.Merging.{first_of}
+use Rattle.passes.specs.Conversion.Joining.{renamed_exit}
 use Rattle.convert_runs.specs.Typed.{leads_on, ends_plain}
 use Rattle.convert_runs.specs.Blocks.{naked}
 use Rattle.convert_runs.proofs.Sims.{then_assoc}

@@ -5,11 +5,11 @@ use Rattle.std.specs.Prelude.{◌==◌, if◌then◌else◌, slice_get}
 use Rattle.hls_base.specs.declared.number.VarId.{VarId}
 use Rattle.ir_core.specs.declared.body.Operand.{Operand}
 use Rattle.ir_core.specs.declared.body.Out.{Out}
-use Rattle.block_meaning.specs.Bodies.{OpTree, Words, operand, with_word}
-use Rattle.block_meaning.specs.Bodies as b
-use Rattle.block_meaning.specs.Trees.{BlockTree}
-use Rattle.conversion.specs.Outs.{out, held_or, is_set, with_out, with_outs}
-use Rattle.conversion.specs.Merging.{opened}
+use Rattle.ir_core.specs.Bodies.{OpTree, Words, operand, with_word}
+use Rattle.ir_core.specs.Bodies as b
+use Rattle.ir_core.specs.Trees.{BlockTree}
+use Rattle.passes.specs.Conversion.Outs.{out, held_or, is_set, with_out, with_outs}
+use Rattle.passes.specs.Conversion.Merging.{opened}
 use Rattle.convert_runs.specs.Blocks.{Once, IsOpen}
 use Rattle.convert_runs.specs.Typed.{BlockIsTyped, OutIsTyped, OutsAreTyped}
 

@@ -3,15 +3,15 @@ use Rattle.std.proofs.Common.{◌≡◌, ◌∙◌, ℕ, ◌+◌, not, refl, ap,
 use Rattle.std.specs.Prelude.{slice_get, ◌==◌, if◌then◌else◌}
 use Rattle.ir_core.specs.declared.body.Operand.{Operand}
 use Rattle.ir_core.specs.declared.body.Out.{Out}
-use Rattle.run_steps.specs.Steps.{goes, fails, then_}
-use Rattle.run_steps.specs.Valued.{Valued, is, faulty, and_then, valued}
-use Rattle.block_meaning.specs.Bodies as b
-use Rattle.block_meaning.specs.Bodies.{OpTree, Shapes, Words, Ranged, operand, operations, with_word}
-use Rattle.block_meaning.specs.Trees.{ExitTree, next, branch, choose, break_, continue_, leave, BlockTree}
-use Rattle.block_meaning.specs.TreeRuns.{taken, cased, first_case, way_of, block_left}
-use Rattle.conversion.specs.Outs.{entry_value, with_outs}
-use Rattle.conversion.specs.Joining.{Joined, renamed, renamed_out, renamed_exit, joined_ops}
-use Rattle.conversion.specs.Merging.{joined}
+use Rattle.hls_base.specs.Steps.{goes, fails, then_}
+use Rattle.hls_base.specs.Valued.{Valued, is, faulty, and_then, valued}
+use Rattle.ir_core.specs.Bodies as b
+use Rattle.ir_core.specs.Bodies.{OpTree, Shapes, Words, Ranged, operand, operations, with_word}
+use Rattle.ir_core.specs.Trees.{ExitTree, next, branch, choose, break_, continue_, leave, BlockTree}
+use Rattle.ir_core.specs.TreeRuns.{taken, cased, first_case, way_of, block_left}
+use Rattle.passes.specs.Conversion.Outs.{entry_value, with_outs}
+use Rattle.passes.specs.Conversion.Joining.{Joined, renamed, renamed_out, renamed_exit, joined_ops}
+use Rattle.passes.specs.Conversion.Merging.{joined}
 use Rattle.convert_runs.specs.Typed.{IsEarly, AreEarly, OutsAreTyped, ExitIsTyped, BlockIsTyped, Fits}
 use Rattle.convert_runs.specs.Blocks.{IsOpen, naked}
 use Rattle.convert_runs.proofs.Lists.{left_of}

@@ -2,8 +2,8 @@
 use Rattle.std.proofs.Common.{◌≡◌, ◌∙◌, ℕ, zero, suc, ◌+◌, Bool, true, false, filter, refl, ap, subst, arith, List, [], ◌∷◌, ◌++◌, append_assoc, length}
 use Rattle.std.specs.Prelude.{if◌then◌else◌}
 use Rattle.hls_base.specs.declared.point.Point.{Point}
-use Rattle.run_steps.specs.Steps.{Outcome, went, undefined, waiting, Ran, ran, goes, fails, after, then_, pass, reached}
-use Rattle.run_steps.specs.Valued.{Valued, is, faulty, valued}
+use Rattle.hls_base.specs.Steps.{Outcome, went, undefined, waiting, Ran, ran, goes, fails, after, then_, pass, reached}
+use Rattle.hls_base.specs.Valued.{Valued, is, faulty, valued}
 use Rattle.convert_runs.specs.Kept.{Matches, IsKept, IsKeptOf}
 use Rattle.convert_runs.proofs.Following.{then_matches}
 

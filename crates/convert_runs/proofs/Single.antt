@@ -1,13 +1,13 @@
 -- What a block does alone, and an open one.
 use Rattle.std.proofs.Common.{◌≡◌, ℕ, ◌+◌, Bool, refl, ap, sym, arith, List, [], length}
 use Rattle.hls_base.specs.declared.point.Point.{Point}
-use Rattle.run_steps.specs.Steps.{goes}
-use Rattle.run_steps.specs.Valued.{Valued, is, faulty, valued}
-use Rattle.block_meaning.specs.Bodies.{Shapes, Words, Ranged, operations}
-use Rattle.block_meaning.specs.Bodies as b
-use Rattle.block_meaning.specs.Trees.{ExitTree, next, branch, choose, break_, continue_, leave, BlockTree}
-use Rattle.block_meaning.specs.TreeRuns.{Way, way_of, block_left}
-use Rattle.conversion.specs.Merging.{opened}
+use Rattle.hls_base.specs.Steps.{goes}
+use Rattle.hls_base.specs.Valued.{Valued, is, faulty, valued}
+use Rattle.ir_core.specs.Bodies.{Shapes, Words, Ranged, operations}
+use Rattle.ir_core.specs.Bodies as b
+use Rattle.ir_core.specs.Trees.{ExitTree, next, branch, choose, break_, continue_, leave, BlockTree}
+use Rattle.ir_core.specs.TreeRuns.{Way, way_of, block_left}
+use Rattle.passes.specs.Conversion.Merging.{opened}
 use Rattle.convert_runs.specs.Kept.{Matches, IsKept, IsKeptOf}
 use Rattle.convert_runs.specs.Typed.{BlockIsTyped, Fits}
 use Rattle.convert_runs.specs.Blocks.{naked}

@@ -6,12 +6,12 @@ use Rattle.ir_core.specs.declared.body.Operand.{Operand}
 use Rattle.ir_core.specs.declared.body.Out.{Out}
 use Rattle.ir_core.specs.declared.body.Source.{Source}
 use Rattle.ir_core.specs.declared.body.Source.TheVariants as source
-use Rattle.run_steps.specs.Valued.{Valued, is, and_then}
-use Rattle.block_meaning.specs.Bodies.{OpTree, Shapes, Words, Performed, operations}
-use Rattle.block_meaning.specs.Trees.{branch, BlockTree}
-use Rattle.block_meaning.specs.TreeRuns.{tested_by}
-use Rattle.conversion.specs.Joining.{needs_guard}
-use Rattle.conversion.specs.Overlapping.{none_needs_guard, is_test}
+use Rattle.hls_base.specs.Valued.{Valued, is, and_then}
+use Rattle.ir_core.specs.Bodies.{OpTree, Shapes, Words, Performed, operations}
+use Rattle.ir_core.specs.Trees.{branch, BlockTree}
+use Rattle.ir_core.specs.TreeRuns.{tested_by}
+use Rattle.passes.specs.Conversion.Joining.{needs_guard}
+use Rattle.passes.specs.Conversion.Overlapping.{none_needs_guard, is_test}
 use Rattle.convert_runs.specs.Typed.{IsEarly, HasBits, OpsAreTyped, ExitIsTyped, BlockIsTyped}
 use Rattle.convert_runs.proofs.Lists.{within}
 use Rattle.convert_runs.proofs.Idle.{harmless}

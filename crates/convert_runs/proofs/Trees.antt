@@ -3,16 +3,16 @@ use Rattle.std.proofs.Common.{◌≡◌, ◌∙◌, ℕ, zero, suc, ◌+◌, Boo
 use Rattle.std.specs.Prelude.{◌==◌, if◌then◌else◌, is_some, take}
 use Rattle.hls_base.specs.declared.point.Point.{Point}
 use Rattle.ir_core.specs.declared.body.Operand.{Operand}
-use Rattle.run_steps.specs.Steps.{Outcome, went, undefined, waiting, Ran, ran, goes, after, then_, pass, reached}
-use Rattle.run_steps.specs.Valued.{Valued, is, faulty, valued}
-use Rattle.block_meaning.specs.Bodies.{Shapes, Words, Ranged, operations}
-use Rattle.block_meaning.specs.Trees.{ExitTree, next, branch, BlockTree, SequenceTree, sequence, PartTrees, no_part, more_parts, ShapeTree, fork, loop, switch, land, overlapped, SideTree, no_side, side, ArmTrees, no_arm, more_arms}
-use Rattle.block_meaning.specs.TreeRuns.{Way, on, taken, cased, broke, continued, left, Turn, again, over, out, turn_of, turned, if_again, repeat, way_behind, is_taken, test_first, test_last, iteration, iterated, tested, goes_round, overlapped_run, arm_target, behind_switch, cases_of, block_run, block_then, behind_shape, next_arm, from_target, sequence_run, parts_run, shape_run, side_run, from_arm}
-use Rattle.conversion.specs.Merging as m
-use Rattle.conversion.specs.Merging.{Branches, branches_of, opened, merged, joined, is_only, is_only_side, first_block, first_of}
-use Rattle.conversion.specs.Overlapping as v
-use Rattle.conversion.specs.Overlapping.{is_test, overlapped_test, overlapping, loop_by}
-use Rattle.conversion.specs.Conversion.{Scope, going_on, part_before, behind, converted_sequence, converted_behind, converted_shape, converted_side, converted_arms}
+use Rattle.hls_base.specs.Steps.{Outcome, went, undefined, waiting, Ran, ran, goes, after, then_, pass, reached}
+use Rattle.hls_base.specs.Valued.{Valued, is, faulty, valued}
+use Rattle.ir_core.specs.Bodies.{Shapes, Words, Ranged, operations}
+use Rattle.ir_core.specs.Trees.{ExitTree, next, branch, BlockTree, SequenceTree, sequence, PartTrees, no_part, more_parts, ShapeTree, fork, loop, switch, land, overlapped, SideTree, no_side, side, ArmTrees, no_arm, more_arms}
+use Rattle.ir_core.specs.TreeRuns.{Way, on, taken, cased, broke, continued, left, Turn, again, over, out, turn_of, turned, if_again, repeat, way_behind, is_taken, test_first, test_last, iteration, iterated, tested, goes_round, overlapped_run, arm_target, behind_switch, cases_of, block_run, block_then, behind_shape, next_arm, from_target, sequence_run, parts_run, shape_run, side_run, from_arm}
+use Rattle.passes.specs.Conversion.Merging as m
+use Rattle.passes.specs.Conversion.Merging.{Branches, branches_of, opened, merged, joined, is_only, is_only_side, first_block, first_of}
+use Rattle.passes.specs.Conversion.Overlapping as v
+use Rattle.passes.specs.Conversion.Overlapping.{is_test, overlapped_test, overlapping, loop_by}
+use Rattle.passes.specs.Conversion.{Scope, going_on, part_before, behind, converted_sequence, converted_behind, converted_shape, converted_side, converted_arms}
 use Rattle.convert_runs.specs.Kept.{Matches, IsKept, IsKeptOf}
 use Rattle.convert_runs.specs.Typed.{EndsPlain, BlockIsTyped, SequenceIsTyped, PartsAreTyped, ShapeIsTyped, SideIsTyped, ArmsAreTyped, Fits}
 use Rattle.convert_runs.specs.Points.{loop_test, Keeps, BehindKeeps, ShapeKeeps, SideKeeps, ArmsKeep}

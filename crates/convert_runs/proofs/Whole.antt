@@ -1,12 +1,12 @@
 -- The law.
 use Rattle.std.proofs.Common.{◌≡◌, ◌∙◌, ap, sym, ℕ, Bool, List}
 use Rattle.hls_base.specs.declared.point.Point.{Point}
-use Rattle.run_steps.specs.Steps.{Outcome, went, undefined, waiting, Ran, then_}
-use Rattle.block_meaning.specs.Bodies.{Shapes, Words}
-use Rattle.block_meaning.specs.Trees.{BlockTree, next, branch, sequence}
-use Rattle.block_meaning.specs.TreeRuns.{Way}
+use Rattle.hls_base.specs.Steps.{Outcome, went, undefined, waiting, Ran, then_}
+use Rattle.ir_core.specs.Bodies.{Shapes, Words}
+use Rattle.ir_core.specs.Trees.{BlockTree, next, branch, sequence}
+use Rattle.ir_core.specs.TreeRuns.{Way}
 use Rattle.convert_runs.specs.Kept.{Matches, IsKept, IsKeptOf}
-use Rattle.conversion.specs.Merging.{Branches, merged, joined}
+use Rattle.passes.specs.Conversion.Merging.{Branches, merged, joined}
 use Rattle.convert_runs.specs.Typed.{BlockIsTyped, Fits}
 use Rattle.convert_runs.specs.Blocks.{IsOpen, BranchIsTyped, naked, branch_part, MergesKeepBlocks}
 use Rattle.convert_runs.specs.Laws.{TreesKeepRuns}

@@ -2,13 +2,13 @@
 use Rattle.std.specs.Prelude.{◌≡◌, ℕ, false, List, [], ◌∷◌, Option, Some, None, if◌then◌else◌}
 use Rattle.hls_base.specs.declared.point.Point.{Point}
 use Rattle.ir_core.specs.declared.body.Out.{Out}
-use Rattle.run_steps.specs.Steps.{Ran, goes, then_, reached}
-use Rattle.run_steps.specs.Valued.{valued}
-use Rattle.block_meaning.specs.Bodies.{Shapes, Words, operations}
-use Rattle.block_meaning.specs.Trees.{next, branch, BlockTree}
-use Rattle.block_meaning.specs.TreeRuns.{Way, on, Turn, again, over, block_left, is_taken}
-use Rattle.conversion.specs.Outs.{is_set}
-use Rattle.conversion.specs.Merging.{Branches, merged}
+use Rattle.hls_base.specs.Steps.{Ran, goes, then_, reached}
+use Rattle.hls_base.specs.Valued.{valued}
+use Rattle.ir_core.specs.Bodies.{Shapes, Words, operations}
+use Rattle.ir_core.specs.Trees.{next, branch, BlockTree}
+use Rattle.ir_core.specs.TreeRuns.{Way, on, Turn, again, over, block_left, is_taken}
+use Rattle.passes.specs.Conversion.Outs.{is_set}
+use Rattle.passes.specs.Conversion.Merging.{Branches, merged}
 use Rattle.convert_runs.specs.Typed.{BlockIsTyped, Fits}
 
 -- each variable once

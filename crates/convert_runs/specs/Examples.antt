@@ -9,12 +9,12 @@ use Rattle.ir_core.specs.declared.body.OpKind.TheVariants as o
 use Rattle.ir_core.specs.declared.body.Operand.{Operand}
 use Rattle.ir_core.specs.declared.body.Out.{Out}
 use Rattle.ir_core.specs.declared.body.Source.TheVariants as source
-use Rattle.run_steps.specs.Steps.{Outcome, went, undefined, waiting}
-use Rattle.block_meaning.specs.Bodies.{OpTree, Shapes, Words, with_word}
-use Rattle.block_meaning.specs.Trees.{ExitTree, next, branch, BlockTree, SequenceTree, sequence, no_part, more_parts, fork, loop, no_side, side}
-use Rattle.block_meaning.specs.TreeRuns.{Way, sequence_run}
-use Rattle.numbering.specs.Numbering.{constant, result_of}
-use Rattle.conversion.specs.Conversion.{converted_sequence}
+use Rattle.hls_base.specs.Steps.{Outcome, went, undefined, waiting}
+use Rattle.ir_core.specs.Bodies.{OpTree, Shapes, Words, with_word}
+use Rattle.ir_core.specs.Trees.{ExitTree, next, branch, BlockTree, SequenceTree, sequence, no_part, more_parts, fork, loop, no_side, side}
+use Rattle.ir_core.specs.TreeRuns.{Way, sequence_run}
+use Rattle.passes.specs.Numbering.{constant, result_of}
+use Rattle.passes.specs.Conversion.{converted_sequence}
 use Rattle.convert_runs.specs.Typed.{AccessIsTyped, OpIsTyped, BlockIsTyped, SequenceIsTyped}
 use Rattle.convert_runs.specs.Points.{Keeps}
 

@@ -1,10 +1,10 @@
 -- Which forks are merged and which loops are overlapped in trees of the form that lowering gives.
 use Rattle.std.specs.Prelude.{◌≡◌, true, false}
 use Rattle.ir_core.specs.declared.body.Operand.{Operand}
-use Rattle.block_meaning.specs.Trees.{ExitTree, next, branch, BlockTree, SequenceTree, sequence, PartTrees, no_part, more_parts, ShapeTree, fork, loop, SideTree, no_side, side}
-use Rattle.conversion.specs.Merging.{is_only, first_of, opened}
-use Rattle.conversion.specs.Overlapping.{is_test, overlapping}
-use Rattle.conversion.specs.Conversion.{Scope, converted_sequence, converted_shape}
+use Rattle.ir_core.specs.Trees.{ExitTree, next, branch, BlockTree, SequenceTree, sequence, PartTrees, no_part, more_parts, ShapeTree, fork, loop, SideTree, no_side, side}
+use Rattle.passes.specs.Conversion.Merging.{is_only, first_of, opened}
+use Rattle.passes.specs.Conversion.Overlapping.{is_test, overlapping}
+use Rattle.passes.specs.Conversion.{Scope, converted_sequence, converted_shape}
 
 -- Blocks with convertible forks between them, each behind a block that ends by a test, and the last one leads on.
 abbrev mutual

@@ -2,7 +2,7 @@
 use Rattle.std.specs.Prelude.{◌≡◌, ℕ, ◌+◌, Bool, List, ◌++◌, length}
 use Rattle.std.specs.List.{filter}
 use Rattle.hls_base.specs.declared.point.Point.{Point}
-use Rattle.run_steps.specs.Steps.{Outcome, went, undefined, waiting, Ran, ran}
+use Rattle.hls_base.specs.Steps.{Outcome, went, undefined, waiting, Ran, ran}
 
 abbrev pub Begins : List Point → List Point → Type 0
 Begins xs ys = (more : List Point) × (ys ≡ xs ++ more)

@@ -1,10 +1,10 @@
 -- What conversion keeps.
 use Rattle.std.specs.Prelude.{ℕ, Bool, true, List}
 use Rattle.hls_base.specs.declared.point.Point.{Point}
-use Rattle.block_meaning.specs.Bodies.{Shapes, Words}
-use Rattle.block_meaning.specs.Trees.{SequenceTree}
-use Rattle.block_meaning.specs.TreeRuns.{sequence_run}
-use Rattle.conversion.specs.Conversion.{converted_sequence}
+use Rattle.ir_core.specs.Bodies.{Shapes, Words}
+use Rattle.ir_core.specs.Trees.{SequenceTree}
+use Rattle.ir_core.specs.TreeRuns.{sequence_run}
+use Rattle.passes.specs.Conversion.{converted_sequence}
 use Rattle.convert_runs.specs.Kept.{IsSameRun}
 use Rattle.convert_runs.specs.Typed.{SequenceIsTyped, Fits}
 use Rattle.convert_runs.specs.Points.{Keeps}

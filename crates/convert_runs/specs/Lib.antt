@@ -5,3 +5,6 @@ pub mod Blocks
 pub mod Laws
 pub mod Examples
 pub mod Forks
+pub mod MergedBlocks
+pub mod ConvertedTrees
+pub mod LoweredConversions

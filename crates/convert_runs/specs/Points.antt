@@ -2,10 +2,10 @@
 use Rattle.std.specs.Prelude.{◌≡◌, Bool, true, not, ◌&&◌, Option, None, is_some, if◌then◌else◌}
 use Rattle.hls_base.specs.declared.point.Point.{Point}
 use Rattle.ir_core.specs.declared.body.Operand.{Operand}
-use Rattle.block_meaning.specs.Trees.{BlockTree, SequenceTree, sequence, PartTrees, no_part, more_parts, ShapeTree, fork, loop, switch, land, overlapped, SideTree, no_side, side, ArmTrees, no_arm, more_arms}
-use Rattle.conversion.specs.Merging.{opened, branches_of}
-use Rattle.conversion.specs.Overlapping.{overlapped_test}
-use Rattle.conversion.specs.Conversion.{Scope, going_on, converted_sequence, converted_shape, converted_side}
+use Rattle.ir_core.specs.Trees.{BlockTree, SequenceTree, sequence, PartTrees, no_part, more_parts, ShapeTree, fork, loop, switch, land, overlapped, SideTree, no_side, side, ArmTrees, no_arm, more_arms}
+use Rattle.passes.specs.Conversion.Merging.{opened, branches_of}
+use Rattle.passes.specs.Conversion.Overlapping.{overlapped_test}
+use Rattle.passes.specs.Conversion.{Scope, going_on, converted_sequence, converted_shape, converted_side}
 
 -- the test of a loop that is overlapped
 abbrev pub loop_test : Scope → Bool → SequenceTree → SequenceTree → SideTree → Bool → Option Operand

@@ -7,10 +7,10 @@ use Rattle.ir_core.specs.declared.body.Operand.{Operand}
 use Rattle.ir_core.specs.declared.body.Out.{Out}
 use Rattle.ir_core.specs.declared.body.Source.{Source}
 use Rattle.ir_core.specs.declared.body.Source.TheVariants as source
-use Rattle.ir_operation.specs.Value.{count_of}
-use Rattle.ir_operation.specs.Timing.{result_bits}
-use Rattle.block_meaning.specs.Bodies.{OpTree, Words}
-use Rattle.block_meaning.specs.Trees.{ExitTree, branch, choose, BlockTree, SequenceTree, sequence, PartTrees, no_part, more_parts, ShapeTree, fork, loop, switch, land, overlapped, SideTree, no_side, side, ArmTrees, no_arm, more_arms}
+use Rattle.ir_core.specs.Value.{count_of}
+use Rattle.ir_core.specs.Timing.{result_bits}
+use Rattle.ir_core.specs.Bodies.{OpTree, Words}
+use Rattle.ir_core.specs.Trees.{ExitTree, branch, choose, BlockTree, SequenceTree, sequence, PartTrees, no_part, more_parts, ShapeTree, fork, loop, switch, land, overlapped, SideTree, no_side, side, ArmTrees, no_arm, more_arms}
 
 -- ---- ways out
 

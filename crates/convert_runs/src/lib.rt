@@ -1,4 +1,7 @@
-//! Conversion keeps runs: a tree of blocks in which forks became selections and loops became loop nodes runs as before.
+//! Conversion keeps runs, and what it takes for granted and keeps of trees.
 #![tactic(auto)]
 
+pub mod converted_trees;
 pub mod laws;
+pub mod lowered_conversions;
+pub mod merged_blocks;

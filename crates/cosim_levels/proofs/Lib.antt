@@ -1,4 +1,13 @@
+pub mod OneAnswer
+pub mod PinsLemmas
+pub mod TextLines
+pub mod Digits
+pub mod Numerals
+pub mod Rows
+pub mod Taking
+pub mod Fitting
 pub mod Elements
 pub mod ArrayParameters
 pub mod RunInC
 pub mod FewCycles
+pub mod Drawing

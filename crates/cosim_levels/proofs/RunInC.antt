@@ -6,7 +6,7 @@ use Rattle.c_meaning.specs.declared.outcome.Outcome.TheVariants as o
 use Rattle.c_meaning.specs.Points.{tally_of}
 use Rattle.c_meaning.specs.Run as run
 use Rattle.c_meaning.specs.Run.{Answer}
-use Rattle.c_execution.specs.Progress.{Begun, answer_within, outcome_of}
+use Rattle.c_interpreter.specs.Execution.Progress.{Begun, answer_within, outcome_of}
 use Rattle.hls_base.specs.declared.place.Place.{Place}
 use Rattle.hls_base.specs.declared.refusal.UbRule.{UbRule}
 use Rattle.cosim_levels.specs.declared.verdict.Level.TheVariants.{C}

@@ -6,7 +6,7 @@ use Rattle.c_token.specs.declared.ctype.CType.{CType}
 use Rattle.c_tree.specs.Tree.{ObjectTree, ParamTree, FunctionTree}
 use Rattle.c_value.specs.Values.{number_of}
 use Rattle.c_meaning.specs.Run.{is_array_parameter}
-use Rattle.cosim_pins.specs.declared.drive.Shown.{Shown as ShownByModule}
+use Rattle.cosim_levels.specs.declared.pins.drive.Shown.{Shown as ShownByModule}
 use Rattle.cosim_levels.specs.declared.verdict.Item.{Item}
 use Rattle.cosim_levels.specs.declared.verdict.Item.TheVariants as item
 use Rattle.cosim_levels.specs.declared.verdict.Difference.{Difference}

@@ -8,7 +8,7 @@ use Rattle.c_meaning.specs.Run as run
 use Rattle.c_meaning.specs.Run.{Answer}
 use Rattle.rtl_core.specs.Netlist.{Netlist}
 use Rattle.rtl_core.specs.Interface.{Interface}
-use Rattle.cosim_pins.specs.ModuleRun.{module_run}
+use Rattle.cosim_levels.specs.Pins.ModuleRun.{module_run}
 use Rattle.cosim_levels.specs.declared.verdict.Level.TheVariants.{C, Verilog}
 use Rattle.cosim_levels.specs.Verdicts.{PlainVerdict, undefined, waiting}
 

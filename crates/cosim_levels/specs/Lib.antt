@@ -1,3 +1,10 @@
+pub mod CAnswers
+pub mod Laws
+pub mod Pins
+pub mod Numerals
+pub mod Rows
+pub mod RunFile
 pub mod Verdicts
 pub mod Comparison
 pub mod Levels
+pub mod SoakProgram

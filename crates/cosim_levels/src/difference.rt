@@ -7,13 +7,13 @@ ghost use Rattle.c_meaning.specs.Run.{is_array_parameter};
 ghost use Rattle.cosim_levels.specs.declared.verdict.Item.TheVariants as item;
 ghost use Rattle.cosim_levels.specs.Comparison as compare;
 
+use crate::pins::drive::Shown as ShownByModule;
 use crate::shown::result_number;
 use crate::verdict::{Difference, Item};
 use c_meaning::outcome::Final;
 use c_tree::function::{Function, Param};
 use c_tree::object::Object;
 use c_value::convert::number_of;
-use cosim_pins::drive::Shown as ShownByModule;
 use hls_base::words::Words;
 use std::alloc::{AllocError, Global};
 

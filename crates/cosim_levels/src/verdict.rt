@@ -5,21 +5,21 @@ use hls_base::text::Text;
 use std::alloc::{AllocError, AllocFailed};
 
 /// The elements of an array parameter, row by row.
-#[derive(Debug, Drop)]
+#[derive(Drop)]
 pub struct Shown {
     pub name: Text,
     pub values: Vec<i128>,
 }
 
 /// A level at which a program runs.
-#[derive(Clone, Copy, Debug, PartialEq, Eq)]
+#[derive(Clone, Copy, PartialEq, Eq)]
 pub enum Level {
     C,
     Verilog,
 }
 
 /// A number that two levels have: the result, an element of an array parameter by its number, counted row by row, or the cycles.
-#[derive(Debug, Drop)]
+#[derive(Drop)]
 pub enum Item {
     Ret,
     Element { name: Text, index: u32 },
@@ -27,7 +27,7 @@ pub enum Item {
 }
 
 /// A number in which two levels differ.
-#[derive(Debug, Drop)]
+#[derive(Drop)]
 pub struct Difference {
     pub item: Item,
     pub expected: i128,
@@ -35,7 +35,7 @@ pub struct Difference {
 }
 
 /// What a comparison comes to. `Waiting` says that a level did not end within its limit.
-#[derive(Debug, Drop)]
+#[derive(Drop)]
 pub enum Verdict {
     Agree {
         ret: Option<i128>,
@@ -59,7 +59,7 @@ pub enum Verdict {
 }
 
 /// Why a comparison goes on no further: it has its verdict, or there was no memory.
-#[derive(Debug, Drop)]
+#[derive(Drop)]
 pub enum Stop {
     Answer(Verdict),
     Memory,

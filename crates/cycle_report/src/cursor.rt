@@ -14,7 +14,7 @@ use std::marker::Model;
 const NAME_LIMIT: usize = 64;
 
 /// Why a reader stops: at the next byte no text goes on, or there is no memory.
-#[derive(Clone, Copy, Debug, PartialEq, Eq)]
+#[derive(Clone, Copy, PartialEq, Eq)]
 pub enum Stop {
     Refused,
     Memory,

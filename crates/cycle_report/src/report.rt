@@ -4,21 +4,21 @@ use hls_base::text::Text;
 use std::alloc::Global;
 
 /// What each passing of a point costs, in cycles.
-#[derive(Debug, Drop)]
+#[derive(Drop)]
 pub struct Cost {
     pub point: Point,
     pub cost: u64,
 }
 
 /// The number of cycles of a run: the base, and the cost of each point as often as the run passes it.
-#[derive(Debug, Drop)]
+#[derive(Drop)]
 pub struct Formula {
     pub base: u64,
     pub rows: Vec<Cost>,
 }
 
 /// A loop whose iterations overlap: one begins each `ii` cycles, and the exit takes `exit` more. The cycle is why a smaller interval is impossible, and is empty at interval 1.
-#[derive(Debug, Drop)]
+#[derive(Drop)]
 pub struct LoopRow {
     pub point: Point,
     pub ii: u32,
@@ -27,7 +27,7 @@ pub struct LoopRow {
 }
 
 /// That one node waits for another, `latency` cycles and `distance` iterations.
-#[derive(Clone, Copy, Debug, PartialEq, Eq)]
+#[derive(Clone, Copy, PartialEq, Eq)]
 pub struct Edge4 {
     pub from: u32,
     pub to: u32,
@@ -36,7 +36,7 @@ pub struct Edge4 {
 }
 
 /// A memory of the circuit, under the name that the program declares.
-#[derive(Debug, Drop)]
+#[derive(Drop)]
 pub struct MemoryRow {
     pub name: Text,
     pub bits: u8,
@@ -45,7 +45,7 @@ pub struct MemoryRow {
 }
 
 /// What `init` counts is the cycles of the initial sequence after reset. The units are counted for each width.
-#[derive(Debug, Drop)]
+#[derive(Drop)]
 pub struct Report {
     pub settings: Settings,
     pub formula: Formula,

@@ -8,12 +8,12 @@ use Rattle.ir_core.specs.declared.body.Operand.{Operand}
 use Rattle.ir_core.specs.declared.body.Source.{Source}
 use Rattle.ir_core.specs.declared.body.Source.TheVariants as source
 use Rattle.ir_core.specs.declared.cfg.End.{End}
-use Rattle.ir_operation.specs.Value.{value}
+use Rattle.ir_core.specs.Value.{value}
 use Rattle.reg_binding.specs.declared.registers.Held.{Held}
-use Rattle.block_meaning.specs.Bodies.{Words, word, first_bits}
+use Rattle.ir_core.specs.Bodies.{Words, word, first_bits}
 use Rattle.dep_graph.specs.Dependences.{maker_by, maker_of}
-use Rattle.clock_meaning.specs.Flows.{TimedOp, TimedBody, Flow, ready, ready_in, latency, is_at, place, pushed, held, operand_at, given, chain_behind, first_flow, tick}
-use Rattle.clock_meaning.specs.ClockRuns.{inside, node_step, clock_step}
+use Rattle.clock_ir.specs.Flows.{TimedOp, TimedBody, Flow, ready, ready_in, latency, is_at, place, pushed, held, operand_at, given, chain_behind, first_flow, tick}
+use Rattle.clock_ir.specs.ClockRuns.{inside, node_step, clock_step}
 use Rattle.datapath.specs.Plans.{Plan, Placed, body_at, span, numbered}
 use Rattle.datapath.specs.Cycles.{Ready, Initial, Time, Active, Load, Variable, Value, Contents, Cycle, in_cycle, holds}
 use Rattle.rtl_logic.specs.Choosing.{where_, is_any_wanted, AllWant}

@@ -5,8 +5,8 @@ use Rattle.std.specs.List.{list_any}
 use Rattle.std.proofs.lemmas.Bool.{and_from, and_left, and_right, or_from, or_left, or_right, not_from_true, not_from_false, ne_eqb, eq-eqb, cases_eq, cond-true, cond-false, lt-leb, lt-ltb}
 use Rattle.ir_core.specs.declared.cfg.End.{End}
 use Rattle.rtl_core.specs.Interface.{reset_of}
-use Rattle.clock_meaning.specs.Flows.{TimedBody, known}
-use Rattle.clock_meaning.specs.ClockRuns.{TimedNode, block, overlapped}
+use Rattle.clock_ir.specs.Flows.{TimedBody, known}
+use Rattle.clock_ir.specs.ClockRuns.{TimedNode, block, overlapped}
 use Rattle.datapath.specs.Plans.{Plan, span, numbered, body_at, initial_cycles}
 use Rattle.datapath.specs.Cycles.{Register, Ready, Done, Initial, Time, Active, Load, Contents, Cycle, in_cycle, holds, resets, starts, bit}
 use Rattle.rtl_logic.specs.Choosing.{Takes}

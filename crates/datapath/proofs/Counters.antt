@@ -4,7 +4,7 @@ use Rattle.std.specs.Prelude.{nat_le, cond, max, fold, slice_get}
 use Rattle.std.specs.List.{range_with_len, enumerate_from}
 use Rattle.std.proofs.lemmas.Bool.{cases_Bool, leb-false, cond-true, cond-false, cases_eq}
 use Rattle.std.proofs.lemmas.Nat.{pow_below}
-use Rattle.clock_meaning.specs.ClockRuns.{TimedNode}
+use Rattle.clock_ir.specs.ClockRuns.{TimedNode}
 use Rattle.datapath.specs.Plans.{Plan, span, initial_cycles, bits_of, numbered}
 use Rattle.datapath.specs.Control.{greatest_time, time_bits}
 

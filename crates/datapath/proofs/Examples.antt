@@ -9,8 +9,8 @@ use Rattle.ir_core.specs.declared.body.Out.{Out}
 use Rattle.ir_core.specs.declared.body.Source.TheVariants as source
 use Rattle.ir_core.specs.declared.cfg.End.TheVariants as end
 use Rattle.reg_binding.specs.declared.registers.Held.{Held}
-use Rattle.clock_meaning.specs.Flows.{TimedOp}
-use Rattle.clock_meaning.specs.ClockRuns.{block, overlapped}
+use Rattle.clock_ir.specs.Flows.{TimedOp}
+use Rattle.clock_ir.specs.ClockRuns.{block, overlapped}
 use Rattle.datapath.specs.Plans.{Plan, Savings}
 use Rattle.datapath.specs.Cycles.{Register, Ready, Done, Initial, Time, Active, Load, Gate, Passed, Waited, Variable, Value, Result, Left, Right, Product, Steps, Dividend, Remainder, Divisor, QuotientSign, RemainderSign, Word, Named, Contents}
 use Rattle.datapath.proofs.Evaluating.{first_after}

@@ -11,11 +11,11 @@ use Rattle.ir_core.specs.declared.body.Source.{Source}
 use Rattle.ir_core.specs.declared.body.Source.TheVariants as source
 use Rattle.ir_core.specs.declared.cfg.End.{End}
 use Rattle.ir_core.specs.declared.cfg.End.TheVariants as end
-use Rattle.block_meaning.specs.Bodies.{word, with_word}
-use Rattle.block_meaning.specs.FlatRuns.{to, ends}
+use Rattle.ir_core.specs.Bodies.{word, with_word}
+use Rattle.ir_core.specs.FlatRuns.{to, ends}
 use Rattle.dep_graph.specs.Dependences.{maker_by, maker_of}
-use Rattle.clock_meaning.specs.Flows.{TimedOp, TimedBody, Flow, ready, place, held, operand_at, tick, taken}
-use Rattle.clock_meaning.specs.ClockRuns.{TimedNode, block, overlapped, inside, node_step, goes_to, going_by, chosen_by, clock_step}
+use Rattle.clock_ir.specs.Flows.{TimedOp, TimedBody, Flow, ready, place, held, operand_at, tick, taken}
+use Rattle.clock_ir.specs.ClockRuns.{TimedNode, block, overlapped, inside, node_step, goes_to, going_by, chosen_by, clock_step}
 use Rattle.datapath.specs.Plans.{Plan, body_at, span}
 use Rattle.datapath.specs.Cycles.{Ready, Initial, Time, Active, Variable, Result, Contents, Cycle, in_cycle, holds}
 use Rattle.rtl_logic.specs.Choosing.{where_, is_any_wanted, AllWant}

@@ -6,9 +6,9 @@ use Rattle.std.proofs.lemmas.Bool.{and_from, and_left, and_right, or_from, or_le
 use Rattle.ir_core.specs.declared.body.Operand.{Operand}
 use Rattle.ir_core.specs.declared.cfg.End.{End}
 use Rattle.ir_core.specs.declared.cfg.End.TheVariants as end
-use Rattle.block_meaning.specs.FlatRuns.{to, ends}
-use Rattle.clock_meaning.specs.Flows.{TimedBody}
-use Rattle.clock_meaning.specs.ClockRuns.{TimedNode, block, going_by}
+use Rattle.ir_core.specs.FlatRuns.{to, ends}
+use Rattle.clock_ir.specs.Flows.{TimedBody}
+use Rattle.clock_ir.specs.ClockRuns.{TimedNode, block, going_by}
 use Rattle.datapath.specs.Plans.{Plan, span, numbered, body_at, initial_cycles}
 use Rattle.datapath.specs.Cycles.{Ready, Done, Initial, Time, Active, Load, Contents, Cycle, in_cycle, holds, resets, starts}
 use Rattle.datapath.specs.Reading.{operand}

@@ -11,3 +11,8 @@ pub mod Reducing
 pub mod LastCycles
 pub mod Loops
 pub mod Sequence
+pub mod Carrying
+pub mod Combining
+pub mod Noting
+pub mod Numbers
+pub mod Programs

@@ -4,7 +4,7 @@ use Rattle.std.specs.Prelude.{◌==◌, nat_lt, slice_get}
 use Rattle.std.specs.List.{list_any}
 use Rattle.std.proofs.lemmas.Bool.{and_from, and_left, and_right, or_from, or_right, not_from_true, not_from_false, ne_eqb, eq-eqb, cases_eq, cond-true, cond-false, lt-ltb}
 use Rattle.std.proofs.lemmas.Nat.{div-mul-add}
-use Rattle.clock_meaning.specs.ClockRuns.{TimedNode, overlapped}
+use Rattle.clock_ir.specs.ClockRuns.{TimedNode, overlapped}
 use Rattle.datapath.specs.Plans.{Plan, span, numbered, initial_cycles}
 use Rattle.datapath.specs.Cycles.{Ready, Done, Initial, Time, Active, Load, Cycle, in_cycle, holds, resets, starts}
 use Rattle.datapath.specs.Control.{leaves_as, leaves, leads_as, is_taken, returns_as, is_ending, waits_on, leaves_if, begins, stays_as, is_within, goes_on, greatest_time, next_time, time_bits}

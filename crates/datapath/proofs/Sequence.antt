@@ -3,7 +3,7 @@ use Rattle.std.proofs.Common.{◌≡◌, ◌≢◌, ℕ, ◌+◌, ◌-◌, ◌%�
 use Rattle.std.specs.Prelude.{◌==◌, ◌||◌, nat_lt}
 use Rattle.std.proofs.lemmas.Bool.{and_from, and_left, and_right, or_from, or_left, not_from_true, not_from_false, ne_eqb, eq-eqb, cond-true, cond-false, lt-ltb}
 use Rattle.std.specs.List.{list_any}
-use Rattle.clock_meaning.specs.ClockRuns.{TimedNode}
+use Rattle.clock_ir.specs.ClockRuns.{TimedNode}
 use Rattle.datapath.specs.Plans.{Plan, span, numbered, initial_cycles}
 use Rattle.datapath.specs.Cycles.{Ready, Done, Initial, Time, Active, Load, Contents, Cycle, in_cycle, holds, resets, starts}
 use Rattle.datapath.specs.Control.{is_entered, is_ending, last_initial, next_initial, waits_on, next_ready, stays_as, is_within, goes_on, greatest_time, time_bits}

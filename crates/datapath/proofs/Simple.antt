@@ -2,9 +2,9 @@
 use Rattle.std.proofs.Common.{◌≡◌, ℕ, Bool, List, refl}
 use Rattle.ir_core.specs.declared.body.OpKind.{OpKind}
 use Rattle.ir_core.specs.declared.body.OpKind.TheVariants as o
-use Rattle.ir_operation.specs.Timing as timing
-use Rattle.ir_operation.specs.Value as v
-use Rattle.block_meaning.specs.Bodies.{OpTree, Shapes, Words, effect}
+use Rattle.ir_core.specs.Timing as timing
+use Rattle.ir_core.specs.Value as v
+use Rattle.ir_core.specs.Bodies.{OpTree, Shapes, Words, effect}
 use Rattle.datapath.specs.Plans.{Plan, Placed}
 use Rattle.datapath.specs.Cycles.{Cycle}
 use Rattle.datapath.specs.Values.{arriving_as, computed}

@@ -4,9 +4,9 @@ use Rattle.hls_base.specs.ArrayAddress.{addresses}
 use Rattle.hls_base.specs.FileScope.{FileScope}
 use Rattle.hls_base.specs.declared.number.Kept.{Kept}
 use Rattle.hls_base.specs.declared.number.VarId.{VarId}
-use Rattle.block_meaning.specs.Bodies.{Words}
-use Rattle.block_meaning.specs.FirstContents.{given_at, elements_or_none}
-use Rattle.clock_meaning.specs.ClockRuns.{Phase, ended}
+use Rattle.ir_core.specs.Bodies.{Words}
+use Rattle.ir_core.specs.FirstContents.{given_at, elements_or_none}
+use Rattle.clock_ir.specs.ClockRuns.{Phase, ended}
 use Rattle.datapath.specs.Plans.{Plan, Array, array_at, depth, host_arrays}
 
 -- ---- contents

@@ -13,16 +13,16 @@ use Rattle.ir_core.specs.declared.cfg.End.{End}
 use Rattle.ir_core.specs.declared.cfg.End.TheVariants as end
 use Rattle.reg_binding.specs.declared.registers.Held.{Held}
 use Rattle.rtl_core.specs.Interface.{reset_of}
-use Rattle.block_meaning.specs.Bodies.{Words}
-use Rattle.clock_meaning.specs.Flows.{TimedOp, TimedBody, Flow, ready, first_flow, tick, operand_at, taken}
-use Rattle.clock_meaning.specs.ClockRuns.{block, inside, clock_step, goes_to}
+use Rattle.ir_core.specs.Bodies.{Words}
+use Rattle.clock_ir.specs.Flows.{TimedOp, TimedBody, Flow, ready, first_flow, tick, operand_at, taken}
+use Rattle.clock_ir.specs.ClockRuns.{block, inside, clock_step, goes_to}
 use Rattle.datapath.specs.Plans.{Plan, body_at}
 use Rattle.datapath.specs.Cycles.{Variable, Value, Contents, Result, Cycle, in_cycle}
 use Rattle.datapath.specs.Reading.{is_place}
 use Rattle.datapath.specs.Control.{greatest_time}
 use Rattle.datapath.specs.Circuits.{Step}
 use Rattle.datapath.specs.Standing.{IsInside}
-use Rattle.block_meaning.specs.FlatRuns.{ends}
+use Rattle.ir_core.specs.FlatRuns.{ends}
 use Rattle.datapath.specs.Laws.{leads_to}
 
 -- an operation with a unit of its own, whose result is there in the next cycle

@@ -1,6 +1,6 @@
 -- The circuit of a timed program: for each register and each signal the guarded writes to it, and so which contents follow in a cycle on which, whatever the pins.
 use Rattle.std.specs.Prelude.{◌≡◌, ℕ, zero, suc, ◌%◌, ◌^◌, ◌<◌, ◌-◌, List, [], ◌∷◌, length, slice_index, Option, Some, None, true}
-use Rattle.ir_operation.specs.declared.timing.UnitClass.TheVariants as u
+use Rattle.ir_core.specs.declared.timing.UnitClass.TheVariants as u
 use Rattle.rtl_core.specs.Interface.{select_of, ready_of, done_of, read_data_of, ret_of}
 use Rattle.datapath.specs.Plans.{Plan, array_at, host_arrays, bits_of}
 use Rattle.datapath.specs.Cycles as c

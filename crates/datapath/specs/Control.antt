@@ -7,9 +7,9 @@ use Rattle.ir_core.specs.declared.body.Source.{Source}
 use Rattle.ir_core.specs.declared.body.Source.TheVariants as source
 use Rattle.ir_core.specs.declared.cfg.End.{End}
 use Rattle.ir_core.specs.declared.cfg.End.TheVariants as end
-use Rattle.block_meaning.specs.FlatRuns.{Going, to, ends}
-use Rattle.clock_meaning.specs.Flows.{TimedBody, known}
-use Rattle.clock_meaning.specs.ClockRuns.{TimedNode, block, overlapped, going_by}
+use Rattle.ir_core.specs.FlatRuns.{Going, to, ends}
+use Rattle.clock_ir.specs.Flows.{TimedBody, known}
+use Rattle.clock_ir.specs.ClockRuns.{TimedNode, block, overlapped, going_by}
 use Rattle.datapath.specs.Plans.{Plan, Placed, body_at, span, numbered, initial_cycles, bits_of}
 use Rattle.datapath.specs.Cycles.{Register, Ready, Done, Initial, Time, Active, Load, Gate, Waited, Cycle, holds, resets, starts, bit}
 use Rattle.rtl_logic.specs.Choosing.{Write, where_}

@@ -1,6 +1,6 @@
 -- What a circuit holds, and what is seen in one of its cycles.
 use Rattle.std.specs.Prelude.{ℕ, ◌==◌, Bool, true, false, List}
-use Rattle.ir_operation.specs.declared.timing.UnitClass.{UnitClass}
+use Rattle.ir_core.specs.declared.timing.UnitClass.{UnitClass}
 use Rattle.rtl_core.specs.Interface.{reset_of, start_of}
 
 -- ---- registers

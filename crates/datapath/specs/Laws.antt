@@ -2,9 +2,9 @@
 use Rattle.std.specs.Prelude.{◌-◌, true, ◌≡◌, ◌≢◌, ℕ, ◌+◌, ◌^◌, ◌<◌, Bool, false, List, slice_get, Option, Some, ◌%◌}
 use Rattle.ir_core.specs.declared.cfg.End.{End}
 use Rattle.rtl_core.specs.Interface.{reset_of, start_of}
-use Rattle.clock_meaning.specs.Flows.{TimedBody}
-use Rattle.block_meaning.specs.FlatRuns.{Going, to, ends}
-use Rattle.clock_meaning.specs.ClockRuns.{going_by, block, overlapped}
+use Rattle.clock_ir.specs.Flows.{TimedBody}
+use Rattle.ir_core.specs.FlatRuns.{Going, to, ends}
+use Rattle.clock_ir.specs.ClockRuns.{going_by, block, overlapped}
 use Rattle.datapath.specs.Plans.{Plan, span, initial_cycles}
 use Rattle.datapath.specs.Cycles.{Contents, Cycle, in_cycle}
 use Rattle.datapath.specs.Reading.{operand}

@@ -11,12 +11,12 @@ use Rattle.ir_core.specs.declared.cfg.Cfg.{Cfg}
 use Rattle.ir_core.specs.declared.cfg.End.{End}
 use Rattle.ir_core.specs.declared.cfg.End.TheVariants as end
 use Rattle.ir_core.specs.declared.cfg.Node.{Node}
-use Rattle.clock_ir.specs.declared.timed.Timed.{Timed}
-use Rattle.numbering.specs.Equal.{operand_eq}
-use Rattle.live_variables.specs.declared.live.Live.{Live}
-use Rattle.live_variables.specs.Liveness.{is_among, goes_by, is_behind, summary_of}
-use Rattle.clock_meaning.specs.Flows.{TimedOp, TimedBody}
-use Rattle.clock_meaning.specs.ClockRuns.{TimedNode, block, overlapped, timed_program}
+use Rattle.ir_core.specs.declared.timed.Timed.{Timed}
+use Rattle.passes.specs.Numbering.Equal.{operand_eq}
+use Rattle.reg_binding.specs.declared.live.Live.{Live}
+use Rattle.reg_binding.specs.Liveness.{is_among, goes_by, is_behind, summary_of}
+use Rattle.clock_ir.specs.Flows.{TimedOp, TimedBody}
+use Rattle.clock_ir.specs.ClockRuns.{TimedNode, block, overlapped, timed_program}
 use Rattle.datapath.specs.Plans.{Savings}
 
 -- ---- variables

@@ -13,3 +13,7 @@ pub mod Blocks
 pub mod Answers
 pub mod Savings
 pub mod LeftOut
+pub mod CircuitWires
+pub mod Held
+pub mod Tables
+pub mod Pins

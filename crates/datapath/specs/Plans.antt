@@ -10,13 +10,13 @@ use Rattle.ir_core.specs.declared.cfg.Cfg.{Cfg}
 use Rattle.ir_core.specs.declared.cfg.Memory.{Memory}
 use Rattle.ir_core.specs.declared.cfg.Node.{Node}
 use Rattle.ir_core.specs.declared.cfg.Node.TheVariants as node
-use Rattle.clock_ir.specs.declared.timed.Timed.{Timed}
+use Rattle.ir_core.specs.declared.timed.Timed.{Timed}
 use Rattle.reg_binding.specs.declared.registers.Held.{Held}
 use Rattle.reg_binding.specs.declared.registers.Registers.{Registers}
 use Rattle.rtl_core.specs.Interface.{Interface}
-use Rattle.host_pins.specs.FramePins.{result_bits}
-use Rattle.clock_meaning.specs.Flows.{TimedOp, TimedBody}
-use Rattle.clock_meaning.specs.ClockRuns.{TimedNode, block, overlapped, TimedProgram, timed_program}
+use Rattle.rtl_core.specs.FramePins.{result_bits}
+use Rattle.clock_ir.specs.Flows.{TimedOp, TimedBody}
+use Rattle.clock_ir.specs.ClockRuns.{TimedNode, block, overlapped, TimedProgram, timed_program}
 
 -- an array: a table of constants has its words, an array of file scope the elements with which it begins after a reset
 pub record Array : Type 0 where

@@ -6,9 +6,9 @@ use Rattle.hls_base.specs.declared.number.ArrayId.{ArrayId}
 use Rattle.ir_core.specs.declared.body.OpKind.{OpKind}
 use Rattle.ir_core.specs.declared.body.OpKind.TheVariants as o
 use Rattle.rtl_core.specs.Interface.{enable_of, write_of, select_of, address_of, data_of}
-use Rattle.block_meaning.specs.Bodies.{address_of as address_in, subscripts, stored, with_word}
-use Rattle.block_meaning.specs.FirstContents.{given_at, elements_or_none}
-use Rattle.clock_meaning.specs.Flows.{TimedOp}
+use Rattle.ir_core.specs.Bodies.{address_of as address_in, subscripts, stored, with_word}
+use Rattle.ir_core.specs.FirstContents.{given_at, elements_or_none}
+use Rattle.clock_ir.specs.Flows.{TimedOp}
 use Rattle.datapath.specs.Plans.{Plan, Placed, Array, array_at, depth, span, body_at, all_ops, unit_of}
 use Rattle.datapath.specs.Cycles.{Ready, Initial, Time, AddressOf, StoredOf, Cycle, holds, resets, starts}
 use Rattle.rtl_logic.specs.Choosing.{Write, where_}

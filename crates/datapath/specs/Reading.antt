@@ -6,7 +6,7 @@ use Rattle.ir_core.specs.declared.body.Source.{Source}
 use Rattle.ir_core.specs.declared.body.Source.TheVariants as source
 use Rattle.reg_binding.specs.declared.registers.Held.{Held}
 use Rattle.dep_graph.specs.Dependences.{maker_of}
-use Rattle.clock_meaning.specs.Flows.{place, ready}
+use Rattle.clock_ir.specs.Flows.{place, ready}
 use Rattle.datapath.specs.Plans.{Plan, Placed, body_at, span}
 use Rattle.datapath.specs.Cycles.{Time, Active, Passed, Variable, Value, Cycle, holds}
 

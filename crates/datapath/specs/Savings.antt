@@ -10,8 +10,8 @@ use Rattle.ir_core.specs.declared.body.Out.{Out}
 use Rattle.ir_core.specs.declared.body.Source.TheVariants as source
 use Rattle.ir_core.specs.declared.cfg.End.{End}
 use Rattle.ir_core.specs.declared.cfg.End.TheVariants as end
-use Rattle.clock_meaning.specs.Flows.{TimedOp, TimedBody}
-use Rattle.clock_meaning.specs.ClockRuns.{TimedNode, block, overlapped}
+use Rattle.clock_ir.specs.Flows.{TimedOp, TimedBody}
+use Rattle.clock_ir.specs.ClockRuns.{TimedNode, block, overlapped}
 use Rattle.datapath.specs.Plans.{Plan, body_of}
 use Rattle.datapath.specs.Blocks.{EndReads}
 

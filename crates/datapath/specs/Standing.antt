@@ -1,6 +1,6 @@
 -- What the registers of the controller hold: where a run is.
 use Rattle.std.specs.Prelude.{◌≡◌, ◌≢◌, ℕ, ◌%◌, Bool, true, slice_get, Option, Some, None}
-use Rattle.clock_meaning.specs.ClockRuns.{TimedNode, block, overlapped, Phase, starting, loading, inside, ended}
+use Rattle.clock_ir.specs.ClockRuns.{TimedNode, block, overlapped, Phase, starting, loading, inside, ended}
 use Rattle.datapath.specs.Plans.{Plan, span}
 use Rattle.datapath.specs.Cycles.{Ready, Done, Initial, Time, Active, Load, Contents, bit}
 

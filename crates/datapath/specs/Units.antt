@@ -3,8 +3,8 @@ use Rattle.std.specs.Prelude.{ℕ, ◌+◌, ◌-◌, ◌*◌, ◌/◌, ◌%◌, 
 use Rattle.std.specs.List.{list_any}
 use Rattle.ir_core.specs.declared.body.OpKind.{OpKind}
 use Rattle.ir_core.specs.declared.body.OpKind.TheVariants as o
-use Rattle.ir_operation.specs.declared.timing.UnitClass.{UnitClass}
-use Rattle.ir_operation.specs.declared.timing.UnitClass.TheVariants as u
+use Rattle.ir_core.specs.declared.timing.UnitClass.{UnitClass}
+use Rattle.ir_core.specs.declared.timing.UnitClass.TheVariants as u
 use Rattle.datapath.specs.Plans.{Plan, Placed, all_ops, unit_of}
 use Rattle.datapath.specs.Cycles.{Left, Right, Steps, Dividend, Remainder, Divisor, QuotientSign, RemainderSign, LeftOf, RightOf, SignedOf, Cycle, holds, bit}
 use Rattle.rtl_logic.specs.Choosing.{Write, where_}

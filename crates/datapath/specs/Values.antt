@@ -11,11 +11,11 @@ use Rattle.ir_core.specs.declared.body.Out.{Out}
 use Rattle.ir_core.specs.declared.body.Source.{Source}
 use Rattle.ir_core.specs.declared.body.Source.TheVariants as source
 use Rattle.ir_core.specs.declared.cfg.End.TheVariants as end
-use Rattle.ir_operation.specs.Value.{value}
+use Rattle.ir_core.specs.Value.{value}
 use Rattle.reg_binding.specs.declared.registers.Held.{Held}
-use Rattle.block_meaning.specs.Bodies.{first_bits}
-use Rattle.clock_meaning.specs.Flows.{TimedOp, ready, is_result}
-use Rattle.clock_meaning.specs.ClockRuns.{TimedNode, block, overlapped, later}
+use Rattle.ir_core.specs.Bodies.{first_bits}
+use Rattle.clock_ir.specs.Flows.{TimedOp, ready, is_result}
+use Rattle.clock_ir.specs.ClockRuns.{TimedNode, block, overlapped, later}
 use Rattle.datapath.specs.Plans.{Plan, Placed, body_at, span, numbered, unit_of}
 use Rattle.datapath.specs.Cycles.{Initial, Load, Variable, Word, Cycle, holds}
 use Rattle.rtl_logic.specs.Choosing.{Write, where_}

@@ -1,4 +1,7 @@
-//! The circuit that a timed program stands for, as definitions: what each register takes in each cycle, and which netlists are this circuit.
+//! The circuit that a timed program stands for, as definitions, and the numbers and places that its plan has.
 #![tactic(auto)]
 
+pub mod circuit_wires;
 pub mod laws;
+pub mod places;
+pub mod plan_sizes;

@@ -8,7 +8,7 @@ use Rattle.ir_core.specs.declared.body.Out.{Out}
 use Rattle.ir_core.specs.declared.body.Source.{Source}
 use Rattle.ir_core.specs.declared.body.Source.TheVariants as s
 use Rattle.ir_core.specs.declared.stamp.Untimed.{Untimed}
-use Rattle.ir_operation.specs.Timing.{latency}
+use Rattle.ir_core.specs.Timing.{latency}
 use Rattle.dep_graph.specs.declared.access.Meeting.{Meeting}
 use Rattle.dep_graph.specs.declared.access.Meeting.TheVariants as m
 use Rattle.dep_graph.specs.declared.edge.Edge.{Edge}

@@ -12,7 +12,7 @@ use Rattle.ir_core.specs.declared.body.Out.{Out}
 use Rattle.ir_core.specs.declared.body.Source.{Source}
 use Rattle.ir_core.specs.declared.body.Source.TheVariants as s
 use Rattle.ir_core.specs.declared.stamp.Untimed.{Untimed}
-use Rattle.ir_operation.specs.Value.{number_of}
+use Rattle.ir_core.specs.Value.{number_of}
 use Rattle.dep_graph.specs.declared.counter.Addition.{Addition}
 use Rattle.dep_graph.specs.declared.counter.Offset.{Offset}
 use Rattle.dep_graph.specs.declared.counter.Sum.{Sum}

@@ -11,7 +11,7 @@ use ir_core::stamp::Untimed;
 use std::alloc::{AllocError, Global};
 
 /// What is known of a subscript.
-#[derive(Clone, Copy, Debug, PartialEq, Eq)]
+#[derive(Clone, Copy, PartialEq, Eq)]
 pub enum Subscript {
     Constant(u64),
     Counted(Offset),
@@ -28,7 +28,7 @@ pub struct Access {
 }
 
 /// The distances from one access to another at which they may meet.
-#[derive(Clone, Copy, Debug, PartialEq, Eq)]
+#[derive(Clone, Copy, PartialEq, Eq)]
 pub enum Meeting {
     Never,
     At(i128),

@@ -6,7 +6,7 @@ ghost use Rattle.dep_graph.specs.Sizes.{IsSmallBody, IsNear, IsNearSum, AreNear}
 use hls_base::number::{OpId, VarId};
 use ir_core::body::{Body, Op, OpKind, Operand, Out, Source};
 use ir_core::stamp::Untimed;
-use ir_operation::value::number_of;
+use ir_core::value::number_of;
 use std::alloc::{AllocError, Global};
 
 /// The operation whose result the variable takes as the body is left.
@@ -31,7 +31,7 @@ pub fn result_of(source: Source) -> Option<OpId>
 }
 
 /// What a counter holds as the iteration begins, and a constant; the counter grows by `step` with each iteration.
-#[derive(Clone, Copy, Debug, PartialEq, Eq)]
+#[derive(Clone, Copy, PartialEq, Eq)]
 pub struct Offset {
     pub counter: VarId,
     pub step: i128,
@@ -39,14 +39,14 @@ pub struct Offset {
 }
 
 /// The result of operations that add constants to a counter. Those that have a guard have this one.
-#[derive(Clone, Copy, Debug, PartialEq, Eq)]
+#[derive(Clone, Copy, PartialEq, Eq)]
 pub struct Sum {
     pub offset: Offset,
     pub guard: Option<Operand>,
 }
 
 /// An operand to which a constant is added.
-#[derive(Clone, Copy, Debug, PartialEq, Eq)]
+#[derive(Clone, Copy, PartialEq, Eq)]
 pub struct Addition {
     pub operand: Operand,
     pub constant: i128,

@@ -1,5 +1,5 @@
 /// Why one operation waits for another: it reads its result, both access one array, it is a store behind the test, both share a unit, the test must be known within the interval, or no operation starts before the iteration.
-#[derive(Clone, Copy, Debug, PartialEq, Eq)]
+#[derive(Clone, Copy, PartialEq, Eq)]
 pub enum Why {
     Data,
     Memory,
@@ -10,7 +10,7 @@ pub enum Why {
 }
 
 /// `to` starts at least `latency` cycles after `from` of the iteration `distance` before. Node 0 is the beginning of the iteration, and node k + 1 is operation k.
-#[derive(Clone, Copy, Debug, PartialEq, Eq)]
+#[derive(Clone, Copy, PartialEq, Eq)]
 pub struct Edge {
     pub from: u32,
     pub to: u32,

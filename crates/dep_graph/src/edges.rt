@@ -12,7 +12,7 @@ use crate::edge::{Edge, Why};
 use hls_base::number::OpId;
 use ir_core::body::{Body, Op, Operand, Out, Source};
 use ir_core::stamp::Untimed;
-use ir_operation::timing::latency;
+use ir_core::timing::latency;
 use std::alloc::{AllocError, Global};
 
 const MAX_DISTANCE: i128 = 65_536;

@@ -9,7 +9,7 @@ use hls_base::words::Words;
 use std::alloc::{AllocError, Global};
 
 /// The time of `to` is at least `weight` after the time of `from`.
-#[derive(Clone, Copy, Debug, PartialEq, Eq)]
+#[derive(Clone, Copy, PartialEq, Eq)]
 pub struct Constraint {
     pub from: u32,
     pub to: u32,
@@ -17,7 +17,7 @@ pub struct Constraint {
 }
 
 /// What came of a system of constraints.
-#[derive(Debug, Drop)]
+#[derive(Drop)]
 pub enum Solved {
     /// The least time of each node.
     Least(Words),

@@ -13,8 +13,8 @@ use Rattle.rtl_core.specs.Box.{Answers, initial}
 use Rattle.rtl_core.specs.Agreement.{Agrees, held_arrays}
 use Rattle.verilog_cycle.specs.Simulation.{reduced_pins, words_modulo, powered_words, powered_up, contents_count}
 use Rattle.verilog_cycle.proofs.Powered.{powered_is_state}
-use Rattle.cosim_pins.specs.Host.{reset_row}
-use Rattle.cosim_pins.specs.ModuleRun.{begun}
+use Rattle.cosim_levels.specs.Pins.Host.{reset_row}
+use Rattle.cosim_levels.specs.Pins.ModuleRun.{begun}
 use Rattle.driven_circuits.specs.Fitting.{ArraysAreShort}
 use Rattle.driven_circuits.proofs.Rows.{row_pins, row_kept, reset_fits}
 use Rattle.driven_circuits.proofs.Standing.{Stands}

@@ -6,8 +6,8 @@ use Rattle.std.proofs.Math.Nat.{mod-eq_of_lt}
 use Rattle.c_token.specs.declared.ctype.CType.{CType}
 use Rattle.c_tree.specs.Tree.{ObjectTree, ParamTree, FunctionTree}
 use Rattle.c_value.specs.Values.{width, number_of}
-use Rattle.cosim_pins.specs.declared.drive.Shown.{Shown}
-use Rattle.cosim_pins.specs.FunctionPins.{interface_of}
+use Rattle.cosim_levels.specs.declared.pins.drive.Shown.{Shown}
+use Rattle.cosim_levels.specs.Pins.FunctionPins.{interface_of}
 use Rattle.cosim_levels.specs.declared.verdict.Item.{Item}
 use Rattle.cosim_levels.specs.declared.verdict.Item.TheVariants as item
 use Rattle.cosim_levels.specs.Comparison.{result_number, difference_at, in_result, in_elements, in_arrays, array_parameters, first_difference}

@@ -9,16 +9,16 @@ use Rattle.hls_base.specs.declared.point.Point.{Point}
 use Rattle.c_token.specs.declared.ctype.CType.{CType}
 use Rattle.c_tree.specs.Tree.{ObjectTree, ParamTree, FunctionTree, ProgramTree}
 use Rattle.c_value.specs.Values.{width, number_of}
-use Rattle.c_checked.specs.Limits.{file_objects}
+use Rattle.c_meaning.specs.Checks.Limits.{file_objects}
 use Rattle.c_meaning.specs.Store.{Object, lengths_in}
 use Rattle.c_meaning.specs.Steps as steps
 use Rattle.c_meaning.specs.Steps.{Outcome}
 use Rattle.c_meaning.specs.Run as run
 use Rattle.c_meaning.specs.Run.{Answer, element_pattern, patterns, first_object, filled, head_or_none, kept_object, kept_rest, file_store, host_arrays, is_array_parameter, file_names, result_pattern, answer_of, started, calls, function_meaning, top_arguments, run_of, function_at, c_run}
-use Rattle.operator_results.proofs.Ranges.{pattern_below}
-use Rattle.stored_numbers.proofs.Keeping.{Follows, AllFollow, Follow}
-use Rattle.stored_numbers.proofs.Calls.{function_meaning_ends, calls_steady}
-use Rattle.cosim_pins.specs.FunctionPins.{array_shape, array_shapes}
+use Rattle.c_meaning.proofs.Ranges.{pattern_below}
+use Rattle.elaborated_programs.proofs.StoredNumbers.Keeping.{Follows, AllFollow, Follow}
+use Rattle.elaborated_programs.proofs.StoredNumbers.Calls.{function_meaning_ends, calls_steady}
+use Rattle.cosim_levels.specs.Pins.FunctionPins.{array_shape, array_shapes}
 use Rattle.driven_circuits.specs.Fitting.{WordsFit, IsArray, AreArrays}
 
 -- no result, or one within the width of the function's type

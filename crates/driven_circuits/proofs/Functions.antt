@@ -9,20 +9,20 @@ use Rattle.c_token.specs.declared.ctype.CType.{CType}
 use Rattle.c_tree.specs.Tree as tree
 use Rattle.c_tree.specs.Tree.{ObjectTree, ParamTree, FunctionTree, ItemTree, ProgramTree}
 use Rattle.c_value.specs.Values.{width}
-use Rattle.c_checked.specs.Names.{Declared}
-use Rattle.c_checked.specs.Lengths as lengths
-use Rattle.c_checked.specs.Lengths.{Length, usable, with_first, all_usable, lengths_of}
-use Rattle.c_checked.specs.Calls.{with_function, declaration_faults}
-use Rattle.c_checked.specs.Limits.{limit_faults, param_places}
-use Rattle.c_checked.specs.Statements.{function_faults}
-use Rattle.c_checked.specs.Programs.{body_names, with_body, with_item, item_faults, items_faults, program_faults}
+use Rattle.c_meaning.specs.Checks.Names.{Declared}
+use Rattle.c_meaning.specs.Checks.Lengths as lengths
+use Rattle.c_meaning.specs.Checks.Lengths.{Length, usable, with_first, all_usable, lengths_of}
+use Rattle.c_meaning.specs.Checks.Calls.{with_function, declaration_faults}
+use Rattle.c_meaning.specs.Checks.Limits.{limit_faults, param_places}
+use Rattle.c_meaning.specs.Checks.Statements.{function_faults}
+use Rattle.c_meaning.specs.Checks.Programs.{body_names, with_body, with_item, item_faults, items_faults, program_faults}
 use Rattle.c_meaning.specs.Store.{within_limits, lengths_in}
 use Rattle.c_meaning.specs.Run.{is_array_parameter, function_at}
 use Rattle.c_meaning.specs.FittingInputs.{word_fits, words_fit, array_fits, first_fits, scalars_fit, arrays_fit}
 use Rattle.rtl_core.specs.ClockStep.{Fit, fit_none, fit_one}
-use Rattle.array_address.specs.AddressWords.{AreShort}
-use Rattle.cosim_pins.specs.FunctionPins.{scalar_bits, array_shape, array_shapes, interface_of}
-use Rattle.elaborate_runs.proofs.Sizes.{left_nil, right_nil}
+use Rattle.ir_core.specs.AddressWords.{AreShort}
+use Rattle.cosim_levels.specs.Pins.FunctionPins.{scalar_bits, array_shape, array_shapes, interface_of}
+use Rattle.c_elaborate.proofs.ElaborateRuns.Sizes.{left_nil, right_nil}
 use Rattle.driven_circuits.specs.Fitting.{ArraysAreShort, IsReached, WordsFit, IsArray, AreArrays}
 
 -- ---- what fits a function fits its interface

@@ -7,8 +7,8 @@ use Rattle.std.proofs.lemmas.Bool.{eq-eqb, ne_eqb, cond-true, cond-false}
 use Rattle.std.proofs.lemmas.Iterator.Adapters.{position_from-zero}
 use Rattle.std.proofs.lemmas.List.{length-map, length-append}
 use Rattle.hls_base.specs.ArrayAddress.{row_addresses, addresses, address_bits, element_count, element_at}
-use Rattle.array_address.specs.AddressWords.{AreShort, AreRising}
-use Rattle.array_address.proofs.Rising.{rising-bound, addresses-rise}
+use Rattle.ir_core.specs.AddressWords.{AreShort, AreRising}
+use Rattle.ir_core.proofs.Rising.{rising-bound, addresses-rise}
 
 -- ---- what stands behind so many others
 

@@ -7,7 +7,7 @@ use Rattle.rtl_core.specs.Interface.{Interface, HasPins, argument_pins}
 use Rattle.rtl_core.specs.ClockStep.{input_widths, Fit, fit_none, fit_one, ArePins}
 use Rattle.verilog_cycle.specs.Simulation.{modulo_widths, reduced_pins}
 use Rattle.verilog_cycle.proofs.Powered.{zeros_fit}
-use Rattle.cosim_pins.specs.Host.{low_row, reset_row, start_row, write_row, read_row}
+use Rattle.cosim_levels.specs.Pins.Host.{low_row, reset_row, start_row, write_row, read_row}
 
 argument_widths : (k : ℕ) (scalars : List ℕ) → map (λ (p : Pin). p.bits) (argument_pins k scalars) ≡ scalars
 argument_widths k [] = refl

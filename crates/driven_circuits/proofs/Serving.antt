@@ -6,11 +6,11 @@ use Rattle.std.proofs.lemmas.List.{length-append}
 use Rattle.std.proofs.Math.Nat.{mod-eq_of_lt, pow-le-pow_right}
 use Rattle.hls_base.specs.FileScope.{FileScope}
 use Rattle.hls_base.specs.ArrayAddress.{addresses, address_bits}
-use Rattle.array_address.specs.AddressWords.{AreShort}
+use Rattle.ir_core.specs.AddressWords.{AreShort}
 use Rattle.rtl_core.specs.Interface.{ArrayShape, Interface, read_data_of}
 use Rattle.rtl_core.specs.Box.{Answers, Idle, Done, Box, BoxStep, Element, element_in, named, elements_of, with_element, accessed, served}
-use Rattle.cosim_pins.specs.Host.{Driven, clocked, clocked_all, write_row, read_row, asked}
-use Rattle.cosim_pins.specs.ModuleRun.{write_rows, all_write_rows, read_words, behind_reads, read_arrays}
+use Rattle.cosim_levels.specs.Pins.Host.{Driven, clocked, clocked_all, write_row, read_row, asked}
+use Rattle.cosim_levels.specs.Pins.ModuleRun.{write_rows, all_write_rows, read_words, behind_reads, read_arrays}
 use Rattle.driven_circuits.specs.Fitting.{WordsFit, AreArrays}
 use Rattle.driven_circuits.proofs.Places.{there, set_there, got_there, one_longer, element_there, address_below, address_count}
 use Rattle.driven_circuits.proofs.Rows.{write_fits, read_fits}

@@ -7,15 +7,15 @@ use Rattle.std.proofs.lemmas.List.Elements.{All-nil, All-cons}
 use Rattle.std.proofs.lemmas.Option.{same_Some}
 use Rattle.hls_base.specs.ArrayAddress.{addresses, element_count}
 use Rattle.c_tree.specs.Tree.{ParamTree, FunctionTree}
-use Rattle.c_checked.specs.Lengths.{usable, all_usable, lengths_of}
+use Rattle.c_meaning.specs.Checks.Lengths.{usable, all_usable, lengths_of}
 use Rattle.c_meaning.specs.Store.{within_limits}
 use Rattle.c_meaning.specs.Run.{is_array_parameter}
 use Rattle.rtl_core.specs.Netlist.{Netlist}
 use Rattle.rtl_core.specs.Interface.{ArrayShape, Interface, ready_of, done_of}
-use Rattle.cosim_pins.specs.declared.drive.Shown.{Shown}
-use Rattle.cosim_pins.specs.Host.{Driven, asked, waited, first_high}
-use Rattle.cosim_pins.specs.ModuleRun.{read_words, behind_reads, read_arrays, begun, started, shown_from, shown_when, run_when, module_run}
-use Rattle.cosim_pins.specs.FunctionPins.{array_shape, array_shapes, interface_of}
+use Rattle.cosim_levels.specs.declared.pins.drive.Shown.{Shown}
+use Rattle.cosim_levels.specs.Pins.Host.{Driven, asked, waited, first_high}
+use Rattle.cosim_levels.specs.Pins.ModuleRun.{read_words, behind_reads, read_arrays, begun, started, shown_from, shown_when, run_when, module_run}
+use Rattle.cosim_levels.specs.Pins.FunctionPins.{array_shape, array_shapes, interface_of}
 use Rattle.driven_circuits.proofs.Places.{address_count}
 
 -- ---- how many elements the arrays of a function have

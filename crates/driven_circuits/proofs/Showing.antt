@@ -10,8 +10,8 @@ use Rattle.rtl_core.specs.Valid.{IsValid}
 use Rattle.rtl_core.specs.Interface.{ArrayShape, Interface, ready_of, done_of, ret_of}
 use Rattle.rtl_core.specs.Box.{Answers, Ended, Idle, Busy, Done, Box, BoxStep}
 use Rattle.rtl_core.specs.Agreement.{Agrees, ShowsValue, held_arrays}
-use Rattle.cosim_pins.specs.Host.{Driven, clocked_all, start_row, waited, first_high}
-use Rattle.cosim_pins.specs.ModuleRun.{all_write_rows, read_arrays, begun, started, shown_from, shown_when, run_when, module_run}
+use Rattle.cosim_levels.specs.Pins.Host.{Driven, clocked_all, start_row, waited, first_high}
+use Rattle.cosim_levels.specs.Pins.ModuleRun.{all_write_rows, read_arrays, begun, started, shown_from, shown_when, run_when, module_run}
 use Rattle.driven_circuits.specs.Fitting.{IsReached, WordsFit, AreArrays}
 use Rattle.driven_circuits.specs.Driven.{IsShownResult, RunShows}
 use Rattle.driven_circuits.proofs.Places.{there, one_longer, address_count}

@@ -7,7 +7,7 @@ use Rattle.rtl_core.specs.Interface.{Interface, HasPins, reset_of}
 use Rattle.rtl_core.specs.ClockStep.{ArePins, stepped, outputs}
 use Rattle.rtl_core.specs.Box.{Answers, Box, BoxStep}
 use Rattle.rtl_core.specs.Agreement.{Shows, IsBroken, Follows}
-use Rattle.cosim_pins.specs.Host.{Driven, clocked}
+use Rattle.cosim_levels.specs.Pins.Host.{Driven, clocked}
 use Rattle.driven_circuits.proofs.Rows.{IsRow, row_pins, row_kept}
 
 -- values that the pins can have, with reset low

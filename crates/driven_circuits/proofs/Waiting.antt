@@ -7,7 +7,7 @@ use Rattle.rtl_core.specs.Interface.{Interface, ready_of, done_of}
 use Rattle.rtl_core.specs.Box.{Answers, Phase, Init, Idle, Busy, Done, Box, BoxStep, Waits, initial, in_phase}
 use Rattle.rtl_core.specs.Box as box
 use Rattle.rtl_core.specs.Agreement.{IsBroken}
-use Rattle.cosim_pins.specs.Host.{Driven, clocked, low_row, waited, first_high}
+use Rattle.cosim_levels.specs.Pins.Host.{Driven, clocked, low_row, waited, first_high}
 use Rattle.driven_circuits.proofs.Rows.{low_fits}
 use Rattle.driven_circuits.proofs.Standing.{Stands, Goes, goes}
 

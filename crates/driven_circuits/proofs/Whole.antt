@@ -9,10 +9,10 @@ use Rattle.cycle_report.specs.PlainReport.{PlainReport}
 use Rattle.rtl_core.specs.Netlist.{Netlist}
 use Rattle.rtl_core.specs.ClockStep.{Fit}
 use Rattle.rtl_core.specs.Box.{Ended}
-use Rattle.c_box.specs.CAnswers.{c_answers, ends}
-use Rattle.cosim_pins.specs.declared.drive.Shown.{Shown}
-use Rattle.cosim_pins.specs.ModuleRun.{module_run}
-use Rattle.cosim_pins.specs.FunctionPins.{scalar_bits, array_shapes, interface_of}
+use Rattle.cosim_levels.specs.CAnswers.{c_answers, ends}
+use Rattle.cosim_levels.specs.declared.pins.drive.Shown.{Shown}
+use Rattle.cosim_levels.specs.Pins.ModuleRun.{module_run}
+use Rattle.cosim_levels.specs.Pins.FunctionPins.{scalar_bits, array_shapes, interface_of}
 use Rattle.cosim_levels.specs.Comparison.{first_difference}
 use Rattle.driven_circuits.specs.Fitting.{IsReached, AreArrays}
 use Rattle.driven_circuits.specs.Driven.{RunShows, AgreesWithC, EndsInC, RunAgrees}

@@ -4,21 +4,21 @@ use Rattle.std.specs.Option.{option_map}
 use Rattle.hls_base.specs.FileScope.{FileScope}
 use Rattle.hls_base.specs.declared.point.Point.{Point}
 use Rattle.c_tree.specs.Tree.{FunctionTree, ProgramTree}
-use Rattle.c_checked.specs.Programs.{program_faults}
+use Rattle.c_meaning.specs.Checks.Programs.{program_faults}
 use Rattle.c_meaning.specs.Points.{tally_of}
 use Rattle.c_meaning.specs.FittingInputs.{inputs_fit}
 use Rattle.c_meaning.specs.Run as c
 use Rattle.c_meaning.specs.Run.{function_at, first_contents, c_run}
-use Rattle.c_box.specs.CAnswers.{c_answers}
+use Rattle.cosim_levels.specs.CAnswers.{c_answers}
 use Rattle.cycle_report.specs.PlainReport.{PlainReport}
 use Rattle.cycle_report.specs.FormulaValue.{cycles}
 use Rattle.rtl_core.specs.Netlist.{Netlist}
 use Rattle.rtl_core.specs.Valid.{IsValid}
 use Rattle.rtl_core.specs.Interface.{Interface}
 use Rattle.rtl_core.specs.Agreement.{Agrees}
-use Rattle.cosim_pins.specs.declared.drive.Shown.{Shown}
-use Rattle.cosim_pins.specs.ModuleRun.{module_run}
-use Rattle.cosim_pins.specs.FunctionPins.{interface_of}
+use Rattle.cosim_levels.specs.declared.pins.drive.Shown.{Shown}
+use Rattle.cosim_levels.specs.Pins.ModuleRun.{module_run}
+use Rattle.cosim_levels.specs.Pins.FunctionPins.{interface_of}
 use Rattle.cosim_levels.specs.Comparison.{first_difference}
 
 -- ---- any answers

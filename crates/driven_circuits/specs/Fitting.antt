@@ -2,7 +2,7 @@
 use Rattle.std.specs.Prelude.{◌≡◌, ℕ, ◌^◌, ◌<◌, ◌≤◌, List, [], ◌∷◌, length}
 use Rattle.hls_base.specs.ArrayAddress.{element_count}
 use Rattle.rtl_core.specs.Interface.{ArrayShape, Interface}
-use Rattle.array_address.specs.AddressWords.{AreShort}
+use Rattle.ir_core.specs.AddressWords.{AreShort}
 
 -- each dimension of each array has at most 65,536 places
 abbrev pub ArraysAreShort : List ArrayShape → Type 0

@@ -9,9 +9,9 @@ use Rattle.rtl_core.specs.Valid.{IsValid}
 use Rattle.rtl_core.specs.Interface.{Interface}
 use Rattle.rtl_core.specs.Box.{Answer, Answers, Ended}
 use Rattle.rtl_core.specs.Agreement.{Agrees}
-use Rattle.cosim_pins.specs.declared.drive.Shown.{Shown}
-use Rattle.cosim_pins.specs.ModuleRun.{module_run}
-use Rattle.cosim_pins.specs.FunctionPins.{interface_of}
+use Rattle.cosim_levels.specs.declared.pins.drive.Shown.{Shown}
+use Rattle.cosim_levels.specs.Pins.ModuleRun.{module_run}
+use Rattle.cosim_levels.specs.Pins.FunctionPins.{interface_of}
 use Rattle.cosim_levels.specs.Comparison.{first_difference}
 use Rattle.driven_circuits.specs.Fitting.{IsReached, AreArrays}
 use Rattle.driven_circuits.specs.Driven.{RunShows, AgreesWithC, EndsInC, RunAgrees}

@@ -6,18 +6,18 @@ use Rattle.hls_base.specs.declared.place.Place.{Place}
 use Rattle.c_token.specs.declared.ctype.CType.{CType}
 use Rattle.c_tree.specs.Tree as tree
 use Rattle.c_tree.specs.Tree.{Tree, Trees, ItemTree}
-use Rattle.c_checked.specs.Names.{Declared, sense_of, count}
-use Rattle.c_checked.specs.Conflicts.{Access, read, change, name_of, is_access, one_if, read_of, change_of, accesses, target_accesses, all_accesses, names_it, clash, clashes, between, conflicts_among}
-use Rattle.core_program.specs.declared.expression.Cell.{Cell}
-use Rattle.core_program.specs.Core as core
-use Rattle.core_program.specs.Core.{CoreTree, CoreTrees}
+use Rattle.c_meaning.specs.Checks.Names.{Declared, sense_of, count}
+use Rattle.c_meaning.specs.Checks.Conflicts.{Access, read, change, name_of, is_access, one_if, read_of, change_of, accesses, target_accesses, all_accesses, names_it, clash, clashes, between, conflicts_among}
+use Rattle.pieces.specs.declared.resolved.expression.Cell.{Cell}
+use Rattle.pieces.specs.Resolved.Core as core
+use Rattle.pieces.specs.Resolved.Core.{CoreTree, CoreTrees}
 use Rattle.c_elaborate.specs.declared.names.Known.{Known}
 use Rattle.c_elaborate.specs.declared.names.Binding.{Binding}
 use Rattle.c_elaborate.specs.declared.functions.Signature.{Signature}
 use Rattle.c_elaborate.specs.Names.{object_found, object_named, known_or_int}
 use Rattle.c_elaborate.specs.Expressions.{array_given, argument_of, elaborated, target_elaborated, all_elaborated, arguments_elaborated}
-use Rattle.elaborate_runs.specs.Known.{KnowsObject, KnowsSense, Knows}
-use Rattle.elaborate_runs.proofs.Sizes.{left_nil, right_nil, unbroken}
+use Rattle.c_elaborate.specs.Known.{KnowsObject, KnowsSense, Knows}
+use Rattle.c_elaborate.proofs.ElaborateRuns.Sizes.{left_nil, right_nil, unbroken}
 use Rattle.expand_runs.specs.Sound.{Reads, AnyReads, Changes, TargetChanges, AnyChanges, ArgumentChanges, ArgumentsChange, ArgumentReads}
 use Rattle.elaborated_programs.proofs.Lists.{IsIn, in_left, in_right, in_either}
 use Rattle.elaborated_programs.proofs.Naming.{Apart}

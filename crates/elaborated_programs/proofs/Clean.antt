@@ -6,21 +6,21 @@ use Rattle.c_token.specs.declared.ctype.CType.{CType}
 use Rattle.c_token.specs.Replacement.{is_in}
 use Rattle.c_tree.specs.Tree as tree
 use Rattle.c_tree.specs.Tree.{Tree, TargetTree, Trees, ParamTree, FunctionTree, ItemTree, ObjectTree}
-use Rattle.c_checked.specs.Faults.{fault, fault_if}
-use Rattle.c_checked.specs.Names.{Shape, is_array, Sense, object, function, Declared, sense_of, count, same_flag, use_faults, target_faults, is_constant_object}
-use Rattle.c_checked.specs.Calls.{called_faults, call_faults, void_faults, params_of}
-use Rattle.c_checked.specs.Conflicts.{Access, accesses, all_accesses, read_of, change_of, between, operand_conflicts, conflicts_among, conflicts_inside}
-use Rattle.c_checked.specs.Expressions.{is_given, name_given_faults, expression_faults, changed_faults, operand_faults}
+use Rattle.c_meaning.specs.Checks.Faults.{fault, fault_if}
+use Rattle.c_meaning.specs.Checks.Names.{Shape, is_array, Sense, object, function, Declared, sense_of, count, same_flag, use_faults, target_faults, is_constant_object}
+use Rattle.c_meaning.specs.Checks.Calls.{called_faults, call_faults, void_faults, params_of}
+use Rattle.c_meaning.specs.Checks.Conflicts.{Access, accesses, all_accesses, read_of, change_of, between, operand_conflicts, conflicts_among, conflicts_inside}
+use Rattle.c_meaning.specs.Checks.Expressions.{is_given, name_given_faults, expression_faults, changed_faults, operand_faults}
 use Rattle.c_meaning.specs.Run.{function_named}
-use Rattle.core_program.specs.declared.expression.Cell.{Cell}
+use Rattle.pieces.specs.declared.resolved.expression.Cell.{Cell}
 use Rattle.c_elaborate.specs.declared.names.Known.{Known}
 use Rattle.c_elaborate.specs.declared.names.Binding.{Binding}
 use Rattle.c_elaborate.specs.Names.{object_found, object_named}
 use Rattle.c_elaborate.specs.Expressions.{array_given}
-use Rattle.elaborate_runs.specs.Resolved.{array_named, Fits, AllFit, Takes}
-use Rattle.elaborate_runs.specs.Known.{AreAlike, KnowsSense, KnowsFunction, Knows}
-use Rattle.elaborate_runs.proofs.Sizes.{left_nil, right_nil, unbroken, holds}
-use Rattle.elaborate_runs.proofs.Faultless.{fourth, drop_one, resolved}
+use Rattle.c_elaborate.specs.Resolved.{array_named, Fits, AllFit, Takes}
+use Rattle.c_elaborate.specs.Known.{AreAlike, KnowsSense, KnowsFunction, Knows}
+use Rattle.c_elaborate.proofs.ElaborateRuns.Sizes.{left_nil, right_nil, unbroken, holds}
+use Rattle.c_elaborate.proofs.ElaborateRuns.Faultless.{fourth, drop_one, resolved}
 
 module _ (items : List ItemTree) (bodies : List (List ℕ)) (names : List Declared) (rs : List Binding) where
   -- a scalar without subscripts, or an array with some

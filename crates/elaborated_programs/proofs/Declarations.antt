@@ -6,16 +6,16 @@ use Rattle.std.proofs.lemmas.List.{map-append, length-map}
 use Rattle.hls_base.specs.ArrayAddress.{element_count}
 use Rattle.c_tree.specs.Tree as tree
 use Rattle.c_tree.specs.Tree.{Tree, ActionTree, InitTree, InitTrees, ObjectTree, ItemTree}
-use Rattle.c_checked.specs.Names.{Declared}
-use Rattle.c_checked.specs.Lengths.{lengths_of, usable, all_usable, form_faults}
-use Rattle.c_checked.specs.Faults.{fault_if}
-use Rattle.c_checked.specs.Names.{is_declared_since}
-use Rattle.c_checked.specs.Expressions.{expression_faults, actions_faults, optional_faults, lengths_faults, init_faults, inits_faults, optional_init_faults}
-use Rattle.c_checked.specs.Statements.{with_object, with_objects, object_faults, objects_faults}
-use Rattle.c_checked.specs.Recursion.{calls, optional_calls, actions_calls, init_calls, inits_calls, optional_init_calls, lengths_calls, object_calls, objects_calls}
+use Rattle.c_meaning.specs.Checks.Names.{Declared}
+use Rattle.c_meaning.specs.Checks.Lengths.{lengths_of, usable, all_usable, form_faults}
+use Rattle.c_meaning.specs.Checks.Faults.{fault_if}
+use Rattle.c_meaning.specs.Checks.Names.{is_declared_since}
+use Rattle.c_meaning.specs.Checks.Expressions.{expression_faults, actions_faults, optional_faults, lengths_faults, init_faults, inits_faults, optional_init_faults}
+use Rattle.c_meaning.specs.Checks.Statements.{with_object, with_objects, object_faults, objects_faults}
+use Rattle.c_meaning.specs.Checks.Recursion.{calls, optional_calls, actions_calls, init_calls, inits_calls, optional_init_calls, lengths_calls, object_calls, objects_calls}
 use Rattle.c_meaning.specs.Store.{lengths_in, within_limits}
 use Rattle.c_meaning.specs.Statement.{items_of, rows_of}
-use Rattle.core_program.specs.Core.{CoreTree, CoreObjectTree, CoreStmtTree, stmt_row}
+use Rattle.pieces.specs.Resolved.Core.{CoreTree, CoreObjectTree, CoreStmtTree, stmt_row}
 use Rattle.c_elaborate.specs.declared.names.Binding.{Binding}
 use Rattle.c_elaborate.specs.declared.blocks.Scene.{Scene}
 use Rattle.c_elaborate.specs.declared.functions.Signature.{Signature}
@@ -23,12 +23,12 @@ use Rattle.c_elaborate.specs.Objects.{object_elaborated}
 use Rattle.c_elaborate.specs.Scenes.{declared, all_declared}
 use Rattle.c_elaborate.specs.Expressions.{elaborated, action_elaborated}
 use Rattle.c_elaborate.specs.Statements.{written, init_elaborated, declarations}
-use Rattle.elaborate_runs.specs.Homes.{Each}
-use Rattle.elaborate_runs.specs.Resolved.{InitResolved, IsInitResolved, DeclarationsResolved}
-use Rattle.elaborate_runs.proofs.Lists.{each-front}
-use Rattle.elaborate_runs.proofs.Sizes.{left_nil, right_nil}
-use Rattle.elaborate_runs.proofs.Initialisers.{count_items}
-use Rattle.expand_statements.specs.Scopes.{Setting, Reach, reach, behind_all, BeginsLoop, IsSoundIn, TestSound, ActionsSound, ItemsSound, InitSound, StmtsSound}
+use Rattle.c_elaborate.specs.Homes.{Each}
+use Rattle.c_elaborate.specs.Resolved.{InitResolved, IsInitResolved, DeclarationsResolved}
+use Rattle.c_elaborate.proofs.ElaborateRuns.Lists.{each-front}
+use Rattle.c_elaborate.proofs.ElaborateRuns.Sizes.{left_nil, right_nil}
+use Rattle.c_elaborate.proofs.ElaborateRuns.Initialisers.{count_items}
+use Rattle.expanded_programs.specs.Statements.Scopes.{Setting, Reach, reach, behind_all, BeginsLoop, IsSoundIn, TestSound, ActionsSound, ItemsSound, InitSound, StmtsSound}
 use Rattle.elaborated_programs.specs.Written.{IsWritten, OptionWritten, ActionsWritten, InitWritten, InitsWritten, OptionInitWritten, ObjectsWritten}
 use Rattle.elaborated_programs.proofs.Lists.{each_back}
 use Rattle.elaborated_programs.proofs.Naming.{some_lengths}

@@ -13,16 +13,16 @@ use Rattle.c_tree.specs.Tree as tree
 use Rattle.c_tree.specs.Tree.{Tree, Trees, ActionTree, ObjectTree, ParamTree, FunctionTree, ItemTree}
 use Rattle.c_value.specs.Values.{IsOf, bits_of, number_of}
 use Rattle.c_value.specs.Operators.{unary_kind, binary_kind}
-use Rattle.c_checked.specs.Names.{is_array, function, Declared, sense_of, count, same_flag}
-use Rattle.c_checked.specs.Conflicts as conflicts
-use Rattle.c_checked.specs.Conflicts.{Access, accesses, all_accesses, between, operand_conflicts, conflicts_among}
-use Rattle.c_checked.specs.Recursion.{Called, function_called, calls, all_calls}
+use Rattle.c_meaning.specs.Checks.Names.{is_array, function, Declared, sense_of, count, same_flag}
+use Rattle.c_meaning.specs.Checks.Conflicts as conflicts
+use Rattle.c_meaning.specs.Checks.Conflicts.{Access, accesses, all_accesses, between, operand_conflicts, conflicts_among}
+use Rattle.c_meaning.specs.Checks.Recursion.{Called, function_called, calls, all_calls}
 use Rattle.c_meaning.specs.Run.{function_named}
-use Rattle.core_program.specs.declared.expression.Cell.{Cell}
-use Rattle.core_program.specs.declared.expression.Scope.{Scope}
-use Rattle.core_program.specs.declared.expression.Scope.TheVariants as scope
-use Rattle.core_program.specs.Core as core
-use Rattle.core_program.specs.Core.{CoreTree, CoreObjectTree, CoreFunctionTree, ArgumentTrees}
+use Rattle.pieces.specs.declared.resolved.expression.Cell.{Cell}
+use Rattle.pieces.specs.declared.resolved.expression.Scope.{Scope}
+use Rattle.pieces.specs.declared.resolved.expression.Scope.TheVariants as scope
+use Rattle.pieces.specs.Resolved.Core as core
+use Rattle.pieces.specs.Resolved.Core.{CoreTree, CoreObjectTree, CoreFunctionTree, ArgumentTrees}
 use Rattle.c_elaborate.specs.declared.names.Known.{Known}
 use Rattle.c_elaborate.specs.declared.names.Binding.{Binding}
 use Rattle.c_elaborate.specs.declared.functions.Signature.{Signature}
@@ -31,17 +31,17 @@ use Rattle.c_elaborate.specs.Objects.{object_elaborated}
 use Rattle.c_elaborate.specs.Expressions.{array_given, argument_of, elaborated, all_elaborated, arguments_elaborated}
 use Rattle.c_elaborate.specs.Programs.{objects_of_params}
 use Rattle.piece_making.specs.Saving as saving
-use Rattle.elaborate_runs.specs.Homes.{Each}
-use Rattle.elaborate_runs.specs.Resolved.{HasLengths, array_named, Fits, AllFit, Takes}
-use Rattle.elaborate_runs.specs.Known.{Knows}
-use Rattle.elaborate_runs.proofs.Lists.{each-front}
-use Rattle.elaborate_runs.proofs.Sizes.{right_nil}
-use Rattle.elaborate_runs.proofs.Expressions.{same_kind}
-use Rattle.operator_results.proofs.Ranges.{number_in}
+use Rattle.c_elaborate.specs.Homes.{Each}
+use Rattle.c_elaborate.specs.Resolved.{HasLengths, array_named, Fits, AllFit, Takes}
+use Rattle.c_elaborate.specs.Known.{Knows}
+use Rattle.c_elaborate.proofs.ElaborateRuns.Lists.{each-front}
+use Rattle.c_elaborate.proofs.ElaborateRuns.Sizes.{right_nil}
+use Rattle.c_elaborate.proofs.ElaborateRuns.Expressions.{same_kind}
+use Rattle.c_meaning.proofs.Ranges.{number_in}
 use Rattle.expand_runs.specs.Reading.{IsNumber}
 use Rattle.expand_runs.specs.Laws.{OneOf}
 use Rattle.expand_runs.specs.Sound.{IsTarget, IsSound, AreSound, ArgumentSound, ArgumentsSound}
-use Rattle.expand_statements.specs.Scopes.{Setting, Reach, ScalarIn, VariableIn, ArrayIn, TakesAll, objects_in}
+use Rattle.expanded_programs.specs.Statements.Scopes.{Setting, Reach, ScalarIn, VariableIn, ArrayIn, TakesAll, objects_in}
 use Rattle.elaborated_programs.specs.Written.{HasSubscript, IsWritten, AreWritten}
 use Rattle.elaborated_programs.proofs.Lists.{each_back}
 use Rattle.elaborated_programs.proofs.Naming.{Stands, MayChange, Standing, Changeable, Apart, is_scalar, is_array as is_array_object}

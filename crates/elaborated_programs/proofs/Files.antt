@@ -8,35 +8,35 @@ use Rattle.c_token.specs.declared.ctype.CType.{CType}
 use Rattle.c_tree.specs.Tree as tree
 use Rattle.c_tree.specs.Tree.{ObjectTree, InitTree, FunctionTree, ItemTree}
 use Rattle.c_value.specs.Values.{width}
-use Rattle.c_checked.specs.Faults.{fault_if}
-use Rattle.c_checked.specs.Names.{Shape, object, function, Declared, sense_of, is_declared_since}
-use Rattle.c_checked.specs.Lengths.{lengths_of, usable, has_bad_shape, shape_of, form_faults}
-use Rattle.c_checked.specs.Calls.{param_shapes, with_function, declaration_faults}
-use Rattle.c_checked.specs.Limits.{file_objects}
-use Rattle.c_checked.specs.Expressions.{lengths_faults, optional_init_faults}
-use Rattle.c_checked.specs.Statements.{with_object, with_objects, object_faults, objects_faults, function_faults}
-use Rattle.c_checked.specs.Programs.{body_names, with_body, items_faults}
+use Rattle.c_meaning.specs.Checks.Faults.{fault_if}
+use Rattle.c_meaning.specs.Checks.Names.{Shape, object, function, Declared, sense_of, is_declared_since}
+use Rattle.c_meaning.specs.Checks.Lengths.{lengths_of, usable, has_bad_shape, shape_of, form_faults}
+use Rattle.c_meaning.specs.Checks.Calls.{param_shapes, with_function, declaration_faults}
+use Rattle.c_meaning.specs.Checks.Limits.{file_objects}
+use Rattle.c_meaning.specs.Checks.Expressions.{lengths_faults, optional_init_faults}
+use Rattle.c_meaning.specs.Checks.Statements.{with_object, with_objects, object_faults, objects_faults, function_faults}
+use Rattle.c_meaning.specs.Checks.Programs.{body_names, with_body, items_faults}
 use Rattle.c_meaning.specs.Store.{lengths_in}
 use Rattle.c_meaning.specs.Run.{constant_item, file_items, first_object, element_pattern, patterns}
-use Rattle.core_program.specs.declared.expression.Cell.{Cell}
-use Rattle.core_program.specs.declared.expression.Scope.TheVariants as scope
-use Rattle.core_program.specs.Core.{FileObjectTree}
+use Rattle.pieces.specs.declared.resolved.expression.Cell.{Cell}
+use Rattle.pieces.specs.declared.resolved.expression.Scope.TheVariants as scope
+use Rattle.pieces.specs.Resolved.Core.{FileObjectTree}
 use Rattle.c_elaborate.specs.declared.names.Known.{Known}
 use Rattle.c_elaborate.specs.declared.names.Binding.{Binding}
 use Rattle.c_elaborate.specs.Names.{object_found, binding_of, cell_of}
 use Rattle.c_elaborate.specs.Objects.{object_elaborated}
 use Rattle.c_elaborate.specs.Programs.{file_object, file_names}
-use Rattle.elaborate_runs.specs.Homes.{Each}
-use Rattle.elaborate_runs.specs.Resolved.{HasLengths, IsInitResolved}
-use Rattle.elaborate_runs.proofs.Lists.{each-append, each-get, get-behind, last-length}
-use Rattle.elaborate_runs.proofs.Sizes.{left_nil, right_nil, sized, shaped}
-use Rattle.elaborate_runs.proofs.Faultless.{init_resolved}
-use Rattle.elaborate_runs.proofs.FaultlessStatements.{form_of}
-use Rattle.elaborate_runs.proofs.FaultlessPrograms.{names_all, Keeps, keeps_both, keeps_objects, keeps_items, final, resolutions, knows_before}
-use Rattle.elaborate_runs.proofs.Initialisers.{count_items}
-use Rattle.operator_results.proofs.Ranges.{pattern_below}
+use Rattle.c_elaborate.specs.Homes.{Each}
+use Rattle.c_elaborate.specs.Resolved.{HasLengths, IsInitResolved}
+use Rattle.c_elaborate.proofs.ElaborateRuns.Lists.{each-append, each-get, get-behind, last-length}
+use Rattle.c_elaborate.proofs.ElaborateRuns.Sizes.{left_nil, right_nil, sized, shaped}
+use Rattle.c_elaborate.proofs.ElaborateRuns.Faultless.{init_resolved}
+use Rattle.c_elaborate.proofs.ElaborateRuns.FaultlessStatements.{form_of}
+use Rattle.c_elaborate.proofs.ElaborateRuns.FaultlessPrograms.{names_all, Keeps, keeps_both, keeps_objects, keeps_items, final, resolutions, knows_before}
+use Rattle.c_elaborate.proofs.ElaborateRuns.Initialisers.{count_items}
+use Rattle.c_meaning.proofs.Ranges.{pattern_below}
 use Rattle.expand_runs.specs.Laws.{OneOf, AreWords, FillsObject}
-use Rattle.expand_statements.specs.Scopes.{Setting, Reach, ScalarIn, ArrayIn}
+use Rattle.expanded_programs.specs.Statements.Scopes.{Setting, Reach, ScalarIn, ArrayIn}
 use Rattle.elaborated_programs.proofs.Naming.{Stands, MayChange, Standing, Changeable, Apart, apart_new, object_shapes, is_scalar, is_array}
 
 -- ---- names

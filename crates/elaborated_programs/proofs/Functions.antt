@@ -6,17 +6,17 @@ use Rattle.std.proofs.lemmas.Slice.Eq.{bytes_eq-Decides}
 use Rattle.c_token.specs.Replacement.{is_in}
 use Rattle.c_tree.specs.Tree as tree
 use Rattle.c_tree.specs.Tree.{ObjectTree, StmtTrees, FunctionTree, ItemTree}
-use Rattle.c_checked.specs.Names.{Declared}
-use Rattle.c_checked.specs.Calls.{with_function, declaration_faults}
-use Rattle.c_checked.specs.Labels.{in_function}
-use Rattle.c_checked.specs.Limits.{limit_faults, param_places, function_arrays, file_objects}
-use Rattle.c_checked.specs.Recursion.{Called, Caller, caller_of, callers, recursion_faults, params_calls, statements_calls, body_calls, function_calls}
-use Rattle.c_checked.specs.Statements.{with_object, with_objects, with_params, objects_faults, params_faults, body_faults, function_faults}
-use Rattle.c_checked.specs.Programs.{body_names, with_body, items_faults}
+use Rattle.c_meaning.specs.Checks.Names.{Declared}
+use Rattle.c_meaning.specs.Checks.Calls.{with_function, declaration_faults}
+use Rattle.c_meaning.specs.Checks.Labels.{in_function}
+use Rattle.c_meaning.specs.Checks.Limits.{limit_faults, param_places, function_arrays, file_objects}
+use Rattle.c_meaning.specs.Checks.Recursion.{Called, Caller, caller_of, callers, recursion_faults, params_calls, statements_calls, body_calls, function_calls}
+use Rattle.c_meaning.specs.Checks.Statements.{with_object, with_objects, with_params, objects_faults, params_faults, body_faults, function_faults}
+use Rattle.c_meaning.specs.Checks.Programs.{body_names, with_body, items_faults}
 use Rattle.c_meaning.specs.Store.{declared_in}
 use Rattle.c_meaning.specs.Run.{function_named, first_of}
-use Rattle.core_program.specs.declared.expression.Scope.TheVariants as scope
-use Rattle.core_program.specs.Core.{CoreFunctionTree, CoreProgramTree}
+use Rattle.pieces.specs.declared.resolved.expression.Scope.TheVariants as scope
+use Rattle.pieces.specs.Resolved.Core.{CoreFunctionTree, CoreProgramTree}
 use Rattle.c_elaborate.specs.declared.names.Binding.{Binding}
 use Rattle.c_elaborate.specs.declared.names.Known.{Known}
 use Rattle.c_elaborate.specs.declared.blocks.Scene.{Scene}
@@ -25,16 +25,16 @@ use Rattle.c_elaborate.specs.Names.{binding_of, cell_of, function_number, result
 use Rattle.c_elaborate.specs.Objects.{object_elaborated, objects_within}
 use Rattle.c_elaborate.specs.Scenes.{declared, opened, all_declared}
 use Rattle.c_elaborate.specs.Programs.{file_object, objects_of_params, function_elaborated, function_of_item, functions_elaborated, signature_of, signatures}
-use Rattle.elaborate_runs.specs.Homes.{Each, Has}
-use Rattle.elaborate_runs.specs.Grammatical.{AllDeclareInBlocks, BodyDeclaresInBlocks, ItemDeclaresInBlocks}
-use Rattle.elaborate_runs.specs.Resolved.{HasLengths, ItemResolved, file_scene_of}
-use Rattle.elaborate_runs.proofs.Sizes.{left_nil, right_nil}
-use Rattle.elaborate_runs.proofs.Faultless.{knows_declared}
-use Rattle.elaborate_runs.proofs.FaultlessStatements.{params_named}
-use Rattle.elaborate_runs.proofs.FaultlessPrograms.{names_all, Keeps, keeps_items, final, resolutions, knows_before}
-use Rattle.elaborate_runs.proofs.Functions.{params_first, has_body, Numbered, numbered}
-use Rattle.expand_statements.specs.Scopes.{Setting}
-use Rattle.expand_calls.specs.Programs.{setting_of, at_start, IsFunctionSound}
+use Rattle.c_elaborate.specs.Homes.{Each, Has}
+use Rattle.c_elaborate.specs.Grammatical.{AllDeclareInBlocks, BodyDeclaresInBlocks, ItemDeclaresInBlocks}
+use Rattle.c_elaborate.specs.Resolved.{HasLengths, ItemResolved, file_scene_of}
+use Rattle.c_elaborate.proofs.ElaborateRuns.Sizes.{left_nil, right_nil}
+use Rattle.c_elaborate.proofs.ElaborateRuns.Faultless.{knows_declared}
+use Rattle.c_elaborate.proofs.ElaborateRuns.FaultlessStatements.{params_named}
+use Rattle.c_elaborate.proofs.ElaborateRuns.FaultlessPrograms.{names_all, Keeps, keeps_items, final, resolutions, knows_before}
+use Rattle.c_elaborate.proofs.ElaborateRuns.Functions.{params_first, has_body, Numbered, numbered}
+use Rattle.expanded_programs.specs.Statements.Scopes.{Setting}
+use Rattle.expanded_programs.specs.Calls.Programs.{setting_of, at_start, IsFunctionSound}
 use Rattle.elaborated_programs.specs.Written.{StmtsWritten, BodyWritten, ItemWritten}
 use Rattle.elaborated_programs.proofs.Lists.{IsIn, each_in, in_right}
 use Rattle.elaborated_programs.proofs.Naming.{IsLow, AreLow, standing_new, low_new, apart_new, changeable_new, fresh_cell, stands_new, all_low_more}

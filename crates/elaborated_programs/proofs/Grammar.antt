@@ -9,8 +9,8 @@ use Rattle.c_tree.specs.Tree as tree
 use Rattle.c_tree.specs.Tree.{Tree, TargetTree, Trees, ActionTree, InitTree, InitTrees, ObjectTree, StmtTree, FirstTree, StmtTrees, ItemTree, ProgramTree}
 use Rattle.c_tree.specs.Grammar as g
 use Rattle.c_tree.specs.Grammar.{Derives, DerivesTarget, DerivesSubscripts, DerivesArguments, DerivesList, DerivesOptional, DerivesChange, DerivesAction, DerivesActionList, DerivesActions, DerivesInit, DerivesInits, DerivesInitialiser, DerivesObject, DerivesObjects, DerivesDeclaration, DerivesStatement, DerivesFirst, DerivesBlock, DerivesBody, DerivesDefinition, DerivesItem, DerivesItems, DerivesProgram}
-use Rattle.elaborate_runs.specs.Homes.{Each}
-use Rattle.elaborate_runs.proofs.Lists.{each-front}
+use Rattle.c_elaborate.specs.Homes.{Each}
+use Rattle.c_elaborate.proofs.ElaborateRuns.Lists.{each-front}
 use Rattle.expand_runs.specs.Sound.{IsPlain}
 use Rattle.elaborated_programs.specs.Written.{NumberFits, NumbersFit, IsWritten, AreWritten, OptionWritten, ActionsWritten, InitWritten, InitsWritten, OptionInitWritten, ObjectsWritten, StmtWritten, HeadWritten, StmtsWritten, BodyWritten, ItemWritten, ProgramWritten}
 use Rattle.elaborated_programs.proofs.Lists.{each_back}

@@ -2,7 +2,7 @@
 use Rattle.std.proofs.Common.{◌≡◌, ℕ, zero, suc, ◌<◌, ◌≤◌, ◌==◌, ◌&&◌, ◌||◌, ◌⊎◌, inl, inr, ◌∙◌, sym, refl, ap, subst, Bool, true, false, true≢false, List, [], ◌∷◌, arith}
 use Rattle.std.specs.List.{list_any}
 use Rattle.std.proofs.lemmas.Bool.{eqb-true, eq-eqb, cases_Bool}
-use Rattle.c_checked.specs.Recursion.{reaches}
+use Rattle.c_meaning.specs.Checks.Recursion.{reaches}
 use Rattle.elaborated_programs.proofs.Counts.{count, count_low, Implies, count_less, search}
 
 -- an edge from one node to another

@@ -5,20 +5,20 @@ use Rattle.hls_base.specs.ArrayAddress.{element_count}
 use Rattle.c_token.specs.declared.ctype.CType.{CType}
 use Rattle.c_tree.specs.Tree.{ObjectTree, ParamTree}
 use Rattle.c_value.specs.Values.{width}
-use Rattle.c_checked.specs.Limits.{file_objects}
+use Rattle.c_meaning.specs.Checks.Limits.{file_objects}
 use Rattle.c_meaning.specs.Store.{lengths_in}
 use Rattle.c_meaning.specs.Run.{is_array_parameter}
 use Rattle.c_meaning.specs.FittingInputs.{word_fits, words_fit, array_fits, first_fits, scalars_fit, arrays_fit, inputs_fit}
 use Rattle.c_elaborate.specs.Objects.{object_elaborated}
 use Rattle.c_elaborate.specs.Programs.{file_object, objects_of_params, signatures, program_elaborated}
-use Rattle.elaborate_runs.specs.Homes.{Each}
-use Rattle.elaborate_runs.specs.Resolved.{HasLengths, file_scene_of}
-use Rattle.elaborate_runs.proofs.Sizes.{both_true}
-use Rattle.elaborate_runs.proofs.Files.{file_lengths}
-use Rattle.elaborate_runs.proofs.FaultlessPrograms.{faultless_resolved}
-use Rattle.elaborate_runs.proofs.Functions.{params_first}
-use Rattle.elaborate_runs.proofs.Grammar.{grammar_blocks}
-use Rattle.elaborate_runs.proofs.Runs.{topped}
+use Rattle.c_elaborate.specs.Homes.{Each}
+use Rattle.c_elaborate.specs.Resolved.{HasLengths, file_scene_of}
+use Rattle.c_elaborate.proofs.ElaborateRuns.Sizes.{both_true}
+use Rattle.c_elaborate.proofs.ElaborateRuns.Files.{file_lengths}
+use Rattle.c_elaborate.proofs.ElaborateRuns.FaultlessPrograms.{faultless_resolved}
+use Rattle.c_elaborate.proofs.ElaborateRuns.Functions.{params_first}
+use Rattle.c_elaborate.proofs.ElaborateRuns.Grammar.{grammar_blocks}
+use Rattle.c_elaborate.proofs.ElaborateRuns.Runs.{topped}
 use Rattle.expand_runs.specs.Laws.{OneOf, AreWords, FillsObject, FillObjects, kept_objects, params_in}
 use Rattle.elaborated_programs.specs.Inputs.{given_objects, params_at}
 use Rattle.elaborated_programs.specs.Laws.{ElaboratedInputsFit}

@@ -15,3 +15,4 @@ pub mod Grammar
 pub mod Tokens
 pub mod Inputs
 pub mod Whole
+pub mod StoredNumbers

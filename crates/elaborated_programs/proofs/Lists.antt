@@ -1,6 +1,6 @@
 -- What is in a list.
 use Rattle.std.proofs.Common.{◌≡◌, ◌⊎◌, inl, inr, refl, List, [], ◌∷◌, ◌++◌}
-use Rattle.elaborate_runs.specs.Homes.{Each}
+use Rattle.c_elaborate.specs.Homes.{Each}
 
 abbrev pub IsIn : {A : Type 0} → A → List A → Type 0
 IsIn x [] = ⊥

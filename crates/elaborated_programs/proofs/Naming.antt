@@ -5,21 +5,21 @@ use Rattle.std.proofs.lemmas.Option.{same_Some}
 use Rattle.std.proofs.lemmas.Slice.Eq.{bytes_eq-Decides}
 use Rattle.c_token.specs.declared.ctype.CType.{CType}
 use Rattle.c_tree.specs.Tree.{ObjectTree}
-use Rattle.c_checked.specs.Names.{Shape, object, Declared, sense_of}
-use Rattle.c_checked.specs.Lengths.{shape_of}
-use Rattle.c_checked.specs.Statements.{with_object}
+use Rattle.c_meaning.specs.Checks.Names.{Shape, object, Declared, sense_of}
+use Rattle.c_meaning.specs.Checks.Lengths.{shape_of}
+use Rattle.c_meaning.specs.Checks.Statements.{with_object}
 use Rattle.c_meaning.specs.Store.{lengths_in}
-use Rattle.core_program.specs.declared.expression.Cell.{Cell}
-use Rattle.core_program.specs.declared.expression.Scope.{Scope}
-use Rattle.core_program.specs.declared.expression.Scope.TheVariants as scope
-use Rattle.core_program.specs.Core.{FileObjectTree}
+use Rattle.pieces.specs.declared.resolved.expression.Cell.{Cell}
+use Rattle.pieces.specs.declared.resolved.expression.Scope.{Scope}
+use Rattle.pieces.specs.declared.resolved.expression.Scope.TheVariants as scope
+use Rattle.pieces.specs.Resolved.Core.{FileObjectTree}
 use Rattle.c_elaborate.specs.declared.names.Known.{Known}
 use Rattle.c_elaborate.specs.declared.names.Binding.{Binding}
 use Rattle.c_elaborate.specs.Names.{object_found, binding_of, cell_of}
 use Rattle.c_elaborate.specs.Objects.{object_elaborated}
-use Rattle.elaborate_runs.specs.Resolved.{HasLengths}
+use Rattle.c_elaborate.specs.Resolved.{HasLengths}
 use Rattle.expand_runs.specs.Laws.{OneOf}
-use Rattle.expand_statements.specs.Scopes.{Setting, Reach, IsScalar, IsArray, ScalarIn, ArrayIn}
+use Rattle.expanded_programs.specs.Statements.Scopes.{Setting, Reach, IsScalar, IsArray, ScalarIn, ArrayIn}
 
 -- ---- one name
 

@@ -5,16 +5,16 @@ use Rattle.std.proofs.lemmas.Bool.{cases_lt, le-leb, lt-ltb, ltb-true}
 use Rattle.std.proofs.lemmas.Slice.Eq.{bytes_eq-Decides}
 use Rattle.c_tree.specs.Tree as tree
 use Rattle.c_tree.specs.Tree.{StmtTrees, FunctionTree, ItemTree}
-use Rattle.c_checked.specs.Faults.{fault_if}
-use Rattle.c_checked.specs.Names.{Declared}
-use Rattle.c_checked.specs.Calls.{with_function}
-use Rattle.c_checked.specs.Statements.{with_objects}
-use Rattle.c_checked.specs.Recursion.{Called, Caller, callers, number_of, body_of, call_links, links, reaches, stands_first, round_faults, recursion_faults}
+use Rattle.c_meaning.specs.Checks.Faults.{fault_if}
+use Rattle.c_meaning.specs.Checks.Names.{Declared}
+use Rattle.c_meaning.specs.Checks.Calls.{with_function}
+use Rattle.c_meaning.specs.Checks.Statements.{with_objects}
+use Rattle.c_meaning.specs.Checks.Recursion.{Called, Caller, callers, number_of, body_of, call_links, links, reaches, stands_first, round_faults, recursion_faults}
 use Rattle.c_elaborate.specs.declared.functions.Signature.{Signature}
 use Rattle.c_elaborate.specs.Names.{function_number}
 use Rattle.c_elaborate.specs.Programs.{signature_of, signatures}
-use Rattle.elaborate_runs.proofs.Lists.{bytes_turned}
-use Rattle.elaborate_runs.proofs.Sizes.{left_nil, right_nil, unbroken}
+use Rattle.c_elaborate.proofs.ElaborateRuns.Lists.{bytes_turned}
+use Rattle.c_elaborate.proofs.ElaborateRuns.Sizes.{left_nil, right_nil, unbroken}
 use Rattle.elaborated_programs.proofs.Lists.{IsIn}
 use Rattle.elaborated_programs.proofs.Graphs.{IsEdge, Comes, comes_mapped, rank, rank_falls, rank_low}
 

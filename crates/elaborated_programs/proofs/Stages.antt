@@ -1,19 +1,19 @@
 -- Where a statement stands: what is visible there, and which objects live.
 use Rattle.std.proofs.Common.{◌≡◌, ℕ, zero, suc, ◌+◌, ◌<◌, ◌≤◌, inl, inr, refl, subst, List, [], ◌∷◌, ◌++◌, length, slice_get, Some, arith}
 use Rattle.c_tree.specs.Tree.{ObjectTree, ItemTree}
-use Rattle.c_checked.specs.Names.{Declared}
-use Rattle.c_checked.specs.Statements.{with_object}
-use Rattle.core_program.specs.declared.expression.Scope.TheVariants as scope
-use Rattle.core_program.specs.Core.{CoreObjectTree}
+use Rattle.c_meaning.specs.Checks.Names.{Declared}
+use Rattle.c_meaning.specs.Checks.Statements.{with_object}
+use Rattle.pieces.specs.declared.resolved.expression.Scope.TheVariants as scope
+use Rattle.pieces.specs.Resolved.Core.{CoreObjectTree}
 use Rattle.c_elaborate.specs.declared.names.Binding.{Binding}
 use Rattle.c_elaborate.specs.Names.{binding_of, cell_of}
 use Rattle.c_elaborate.specs.Objects.{object_elaborated, from}
 use Rattle.c_elaborate.specs.declared.blocks.Scene.{Scene}
 use Rattle.c_elaborate.specs.Scenes.{declared, all_declared}
-use Rattle.elaborate_runs.specs.Homes.{Has}
-use Rattle.elaborate_runs.specs.Resolved.{HasLengths}
-use Rattle.elaborate_runs.proofs.Faultless.{knows_declared}
-use Rattle.expand_statements.specs.Scopes.{Setting, Reach, Among, enter, reach, AreNew}
+use Rattle.c_elaborate.specs.Homes.{Has}
+use Rattle.c_elaborate.specs.Resolved.{HasLengths}
+use Rattle.c_elaborate.proofs.ElaborateRuns.Faultless.{knows_declared}
+use Rattle.expanded_programs.specs.Statements.Scopes.{Setting, Reach, Among, enter, reach, AreNew}
 use Rattle.elaborated_programs.proofs.Naming.{AreLow, IsMore, standing_more, all_low_more, standing_new, low_new, apart_new, changeable_new, fresh_cell, stands_new}
 use Rattle.elaborated_programs.proofs.Expressions.{Visible}
 

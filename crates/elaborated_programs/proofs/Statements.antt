@@ -6,15 +6,15 @@ use Rattle.c_token.specs.declared.ctype.CType.{CType}
 use Rattle.c_tree.specs.Tree as tree
 use Rattle.c_tree.specs.Tree.{Tree, ObjectTree, StmtTree, ElseTree, FirstTree, StmtTrees, ItemTree}
 use Rattle.c_value.specs.Values.{promoted}
-use Rattle.c_checked.specs.Faults.{fault_if}
-use Rattle.c_checked.specs.Names.{Declared, kind_of}
-use Rattle.c_checked.specs.Labels.{Around, in_part, in_loop, in_switch, is_mismatched, return_faults, outside_faults, has_no_value, repeated_faults, block_labels}
-use Rattle.c_checked.specs.Expressions.{expression_faults, actions_faults, optional_faults}
-use Rattle.c_checked.specs.Statements.{with_objects, objects_faults, names_behind, names_in_for, statement_faults, else_faults, first_faults, block_faults}
-use Rattle.c_checked.specs.Recursion.{Called, calls, optional_calls, actions_calls, objects_calls, statement_calls, else_calls, first_calls, statements_calls}
+use Rattle.c_meaning.specs.Checks.Faults.{fault_if}
+use Rattle.c_meaning.specs.Checks.Names.{Declared, kind_of}
+use Rattle.c_meaning.specs.Checks.Labels.{Around, in_part, in_loop, in_switch, is_mismatched, return_faults, outside_faults, has_no_value, repeated_faults, block_labels}
+use Rattle.c_meaning.specs.Checks.Expressions.{expression_faults, actions_faults, optional_faults}
+use Rattle.c_meaning.specs.Checks.Statements.{with_objects, objects_faults, names_behind, names_in_for, statement_faults, else_faults, first_faults, block_faults}
+use Rattle.c_meaning.specs.Checks.Recursion.{Called, calls, optional_calls, actions_calls, objects_calls, statement_calls, else_calls, first_calls, statements_calls}
 use Rattle.c_meaning.specs.Store.{declared_by, declared_in, declared_first}
-use Rattle.core_program.specs.Core as core
-use Rattle.core_program.specs.Core.{CoreStmtTree, stmt_row}
+use Rattle.pieces.specs.Resolved.Core as core
+use Rattle.pieces.specs.Resolved.Core.{CoreStmtTree, stmt_row}
 use Rattle.c_elaborate.specs.declared.blocks.Scene.{Scene}
 use Rattle.c_elaborate.specs.declared.names.Binding.{Binding}
 use Rattle.c_elaborate.specs.declared.functions.Signature.{Signature}
@@ -23,14 +23,14 @@ use Rattle.c_elaborate.specs.Scenes.{opened, labelled_by, all_declared}
 use Rattle.c_elaborate.specs.Expressions as ee
 use Rattle.c_elaborate.specs.Expressions.{elaborated}
 use Rattle.c_elaborate.specs.Statements.{declarations, item, statement, else_statement, first_statements, statements}
-use Rattle.elaborate_runs.specs.Homes.{Each, Has}
-use Rattle.elaborate_runs.specs.Grammatical.{DeclaresInBlocks, ElseDeclaresInBlocks, AllDeclareInBlocks}
-use Rattle.elaborate_runs.specs.Resolved.{DeclarationsResolved}
-use Rattle.elaborate_runs.proofs.Lists.{each-front}
-use Rattle.elaborate_runs.proofs.Sizes.{left_nil, right_nil, unbroken, holds}
-use Rattle.elaborate_runs.proofs.FaultlessStatements.{behind, statement_resolved}
-use Rattle.expand_statements.specs.Scopes as scopes
-use Rattle.expand_statements.specs.Scopes.{Setting, Reach, Among, enter, behind_all, AreNew, BeginsLoop, ReturnSound, StmtSound, ElseSound, StmtsSound}
+use Rattle.c_elaborate.specs.Homes.{Each, Has}
+use Rattle.c_elaborate.specs.Grammatical.{DeclaresInBlocks, ElseDeclaresInBlocks, AllDeclareInBlocks}
+use Rattle.c_elaborate.specs.Resolved.{DeclarationsResolved}
+use Rattle.c_elaborate.proofs.ElaborateRuns.Lists.{each-front}
+use Rattle.c_elaborate.proofs.ElaborateRuns.Sizes.{left_nil, right_nil, unbroken, holds}
+use Rattle.c_elaborate.proofs.ElaborateRuns.FaultlessStatements.{behind, statement_resolved}
+use Rattle.expanded_programs.specs.Statements.Scopes as scopes
+use Rattle.expanded_programs.specs.Statements.Scopes.{Setting, Reach, Among, enter, behind_all, AreNew, BeginsLoop, ReturnSound, StmtSound, ElseSound, StmtsSound}
 use Rattle.elaborated_programs.specs.Written.{StmtWritten, ElseWritten, HeadWritten, StmtsWritten, ObjectsWritten}
 use Rattle.elaborated_programs.proofs.Lists.{each_back}
 use Rattle.elaborated_programs.proofs.Expressions.{Visible, AreThere, MayCall}

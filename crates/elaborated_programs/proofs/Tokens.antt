@@ -20,8 +20,8 @@ use Rattle.c_token.specs.Replacement as replacement
 use Rattle.c_token.specs.Replacement.{Table, find_word, without, body_of, hide, StandsFor, exact_types, typed_kind, numbered, placed, TokenBecomes, Reading, refuse, is_word, names_stdint, has_parameters, may_be_defined, agrees, defined, define_limit, define, undefine, obey, Part, Divides, token_limit, word_limit, count, AndThen, behind, Outcome, beginning}
 use Rattle.c_tree.specs.Terminals.{terminals}
 use Rattle.c_value.specs.Values.{IsOf}
-use Rattle.elaborate_runs.specs.Homes.{Each}
-use Rattle.elaborate_runs.proofs.Lists.{each-front, each-append}
+use Rattle.c_elaborate.specs.Homes.{Each}
+use Rattle.c_elaborate.proofs.ElaborateRuns.Lists.{each-front, each-append}
 use Rattle.elaborated_programs.specs.Written.{NumberFits, NumbersFit}
 use Rattle.elaborated_programs.specs.Laws.{SourceNumbersFit}
 use Rattle.elaborated_programs.proofs.Lists.{each_back}

@@ -3,18 +3,18 @@ use Rattle.std.proofs.Common.{◌≡◌, ℕ, zero, suc, ◌<◌, ◌∙◌, sym
 use Rattle.std.proofs.lemmas.Option.{none-some}
 use Rattle.c_tree.specs.Tree as tree
 use Rattle.c_tree.specs.Tree.{StmtTrees, FunctionTree, ItemTree, ProgramTree}
-use Rattle.c_checked.specs.Limits.{limit_faults, new_function_places, file_arrays, file_objects, kept_faults}
-use Rattle.c_checked.specs.Recursion.{callers, recursion_faults}
-use Rattle.c_checked.specs.Programs.{body_names, items_faults, top_faults}
+use Rattle.c_meaning.specs.Checks.Limits.{limit_faults, new_function_places, file_arrays, file_objects, kept_faults}
+use Rattle.c_meaning.specs.Checks.Recursion.{callers, recursion_faults}
+use Rattle.c_meaning.specs.Checks.Programs.{body_names, items_faults, top_faults}
 use Rattle.c_elaborate.specs.declared.blocks.Scene.{Scene}
 use Rattle.c_elaborate.specs.declared.functions.Signature.{Signature}
 use Rattle.c_elaborate.specs.Programs.{function_elaborated, function_of_item, functions_elaborated, signature_of, signatures, program_elaborated}
-use Rattle.elaborate_runs.specs.Resolved.{file_scene_of}
-use Rattle.elaborate_runs.proofs.Sizes.{left_nil, right_nil}
-use Rattle.elaborate_runs.proofs.Files.{file_lengths}
-use Rattle.elaborate_runs.proofs.Grammar.{grammar_blocks}
-use Rattle.elaborate_runs.proofs.FaultlessPrograms.{faultless_resolved, elaboration_kept}
-use Rattle.elaborate_runs.proofs.Runs.{topped}
+use Rattle.c_elaborate.specs.Resolved.{file_scene_of}
+use Rattle.c_elaborate.proofs.ElaborateRuns.Sizes.{left_nil, right_nil}
+use Rattle.c_elaborate.proofs.ElaborateRuns.Files.{file_lengths}
+use Rattle.c_elaborate.proofs.ElaborateRuns.Grammar.{grammar_blocks}
+use Rattle.c_elaborate.proofs.ElaborateRuns.FaultlessPrograms.{faultless_resolved, elaboration_kept}
+use Rattle.c_elaborate.proofs.ElaborateRuns.Runs.{topped}
 use Rattle.expand_runs.specs.Laws.{IsDefined}
 use Rattle.expanded_programs.proofs.Whole.{expansion_kept}
 use Rattle.elaborated_programs.specs.Laws.{ElaboratedProgramsAreSound, CheckedProgramsKeepRuns}

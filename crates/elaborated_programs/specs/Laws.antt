@@ -8,15 +8,15 @@ use Rattle.c_token.specs.Replacement.{Becomes}
 use Rattle.c_tree.specs.Tree.{ProgramTree}
 use Rattle.c_tree.specs.Terminals.{Terminal, terminals}
 use Rattle.c_tree.specs.Grammar.{DerivesProgram}
-use Rattle.c_checked.specs.Programs.{top_name, program_faults}
+use Rattle.c_meaning.specs.Checks.Programs.{top_name, program_faults}
 use Rattle.c_meaning.specs.Run.{c_run}
-use Rattle.piece_meaning.specs.Values.{Store}
-use Rattle.piece_meaning.specs.Runs.{frame_of, pieces_answer}
+use Rattle.c_meaning.specs.PieceRuns.Values.{Store}
+use Rattle.c_meaning.specs.PieceRuns.Runs.{frame_of, pieces_answer}
 use Rattle.c_elaborate.specs.Programs.{program_elaborated}
 use Rattle.c_expand.specs.Expansion.{expansion}
 use Rattle.expand_runs.specs.Reading.{IsTyped}
 use Rattle.expand_runs.specs.Laws.{InputsFit, IsDefined}
-use Rattle.expand_calls.specs.Programs.{IsProgramSound}
+use Rattle.expanded_programs.specs.Calls.Programs.{IsProgramSound}
 use Rattle.elaborated_programs.specs.Written.{NumbersFit}
 use Rattle.elaborated_programs.specs.Inputs.{ProgramInputsFit}
 

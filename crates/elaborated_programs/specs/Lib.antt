@@ -1,3 +1,4 @@
 pub mod Written
 pub mod Inputs
 pub mod Laws
+pub mod StoredNumbers

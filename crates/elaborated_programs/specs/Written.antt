@@ -7,7 +7,7 @@ use Rattle.c_tree.specs.Tree as tree
 use Rattle.c_tree.specs.Tree.{Tree, TargetTree, Trees, ActionTree, InitTree, InitTrees, ObjectTree, StmtTree, ElseTree, FirstTree, StmtTrees, ItemTree, ProgramTree}
 use Rattle.c_value.specs.Values.{IsOf}
 use Rattle.c_meaning.specs.Statement.{action_tree}
-use Rattle.elaborate_runs.specs.Homes.{Each}
+use Rattle.c_elaborate.specs.Homes.{Each}
 use Rattle.expand_runs.specs.Sound.{IsPlain}
 
 -- ---- tokens

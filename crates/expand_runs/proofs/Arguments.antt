@@ -5,9 +5,9 @@ use Rattle.std.proofs.lemmas.List.{append-nil, append_assoc}
 use Rattle.hls_base.specs.declared.place.Place.{Place}
 use Rattle.c_token.specs.declared.ctype.CType.{CType}
 use Rattle.c_value.specs.Values.{int_type}
-use Rattle.core_program.specs.declared.expression.Cell.{Cell}
-use Rattle.core_program.specs.Core as core
-use Rattle.core_program.specs.Core.{CoreTree, ArgumentTree, ArgumentTrees}
+use Rattle.pieces.specs.declared.resolved.expression.Cell.{Cell}
+use Rattle.pieces.specs.Resolved.Core as core
+use Rattle.pieces.specs.Resolved.Core.{CoreTree, ArgumentTree, ArgumentTrees}
 use Rattle.pieces.specs.Trees.{PureTree, PieceTree, piece_row}
 use Rattle.piece_making.specs.declared.frame.Home.{Home}
 use Rattle.piece_making.specs.declared.frame.Home.TheVariants as home
@@ -16,16 +16,16 @@ use Rattle.piece_making.specs.Acting.{effects, effects_of_arguments}
 use Rattle.piece_making.specs.Making.{State, Part, gives, then_}
 use Rattle.piece_making.specs.Saving.{save}
 use Rattle.piece_making.specs.Calls.{Call, array, array_in}
-use Rattle.run_steps.specs.Steps as Steps
-use Rattle.run_steps.specs.Steps.{Ran, goes}
-use Rattle.run_steps.specs.Valued.{is}
-use Rattle.run_steps.specs.Same.{Same}
-use Rattle.core_meaning.specs.Cells.{Spot, Cells, Given, number_given, array_given, Here, spot_of}
-use Rattle.core_meaning.specs.Kinds.{kind_of}
-use Rattle.core_meaning.specs.Expressions as ce
-use Rattle.core_meaning.specs.Expressions.{CoreCalls, number_or_zero}
-use Rattle.piece_meaning.specs.Values.{Store, value}
-use Rattle.piece_meaning.specs.Pieces.{Frame, Way, on, kind_at}
+use Rattle.hls_base.specs.Steps as Steps
+use Rattle.hls_base.specs.Steps.{Ran, goes}
+use Rattle.hls_base.specs.Valued.{is}
+use Rattle.hls_base.specs.Same.{Same}
+use Rattle.c_meaning.specs.CoreRuns.Cells.{Spot, Cells, Given, number_given, array_given, Here, spot_of}
+use Rattle.c_meaning.specs.CoreRuns.Kinds.{kind_of}
+use Rattle.c_meaning.specs.CoreRuns.Expressions as ce
+use Rattle.c_meaning.specs.CoreRuns.Expressions.{CoreCalls, number_or_zero}
+use Rattle.c_meaning.specs.PieceRuns.Values.{Store, value}
+use Rattle.c_meaning.specs.PieceRuns.Pieces.{Frame, Way, on, kind_at}
 use Rattle.c_expand.specs.Expressions as e
 use Rattle.c_expand.specs.Expressions.{Callee, value_or_zero, expression, argument, arguments}
 use Rattle.expand_runs.specs.Reading.{IsTyped, AllRead, HasTypes, UnaryFits, BinaryFits}

@@ -4,21 +4,21 @@ use Rattle.std.proofs.lemmas.List.{length-append}
 use Rattle.hls_base.specs.declared.place.Place.{Place}
 use Rattle.c_token.specs.declared.ctype.CType.{CType}
 use Rattle.c_value.specs.Values.{convert}
-use Rattle.core_program.specs.Core as core
-use Rattle.core_program.specs.Core.{CoreTree}
+use Rattle.pieces.specs.Resolved.Core as core
+use Rattle.pieces.specs.Resolved.Core.{CoreTree}
 use Rattle.pieces.specs.Trees as tree
 use Rattle.pieces.specs.Trees.{PureTree, PureTrees, PieceTree}
 use Rattle.piece_making.specs.declared.frame.Home.{Home}
 use Rattle.piece_making.specs.Making.{State, fresh, variable_number}
 use Rattle.piece_making.specs.Calls.{Call}
-use Rattle.run_steps.specs.Steps.{Ran, goes, then_}
-use Rattle.run_steps.specs.Valued.{is}
-use Rattle.run_steps.specs.Same.{Same}
-use Rattle.core_meaning.specs.Kinds.{kind_of}
-use Rattle.core_meaning.specs.Cells.{Spot, Cells, Here}
-use Rattle.core_meaning.specs.Expressions as ce
-use Rattle.piece_meaning.specs.Values.{Store, value, with_variable}
-use Rattle.piece_meaning.specs.Pieces.{Frame, on, type_of}
+use Rattle.hls_base.specs.Steps.{Ran, goes, then_}
+use Rattle.hls_base.specs.Valued.{is}
+use Rattle.hls_base.specs.Same.{Same}
+use Rattle.c_meaning.specs.CoreRuns.Kinds.{kind_of}
+use Rattle.c_meaning.specs.CoreRuns.Cells.{Spot, Cells, Here}
+use Rattle.c_meaning.specs.CoreRuns.Expressions as ce
+use Rattle.c_meaning.specs.PieceRuns.Values.{Store, value, with_variable}
+use Rattle.c_meaning.specs.PieceRuns.Pieces.{Frame, on, type_of}
 use Rattle.expand_runs.specs.Reading.{IsNumber, IsTyped, variable_type, UnaryFits, BinaryFits}
 use Rattle.expand_runs.specs.Growing.{IsWithin}
 use Rattle.expand_runs.specs.Showing.{Known, IsShown}

@@ -4,9 +4,9 @@ use Rattle.std.proofs.lemmas.List.{append-nil}
 use Rattle.hls_base.specs.declared.place.Place.{Place}
 use Rattle.c_token.specs.declared.ctype.CType.{CType}
 use Rattle.c_tree.specs.declared.operator.Binary.{Binary}
-use Rattle.core_program.specs.declared.expression.Cell.{Cell}
-use Rattle.core_program.specs.Core as core
-use Rattle.core_program.specs.Core.{CoreTree, CoreTrees}
+use Rattle.pieces.specs.declared.resolved.expression.Cell.{Cell}
+use Rattle.pieces.specs.Resolved.Core as core
+use Rattle.pieces.specs.Resolved.Core.{CoreTree, CoreTrees}
 use Rattle.pieces.specs.Trees as tree
 use Rattle.pieces.specs.Trees.{PureTree, PureTrees, PieceTree, piece_row, row}
 use Rattle.piece_making.specs.declared.frame.Home.{Home}
@@ -17,16 +17,16 @@ use Rattle.piece_making.specs.Saving.{has_element}
 use Rattle.piece_making.specs.Calls.{Call, variable, variable_in}
 use Rattle.piece_making.specs.Assigning as making
 use Rattle.piece_making.specs.Assigning.{change, step, one, bumped, bumped_behind}
-use Rattle.run_steps.specs.Steps as Steps
-use Rattle.run_steps.specs.Steps.{Ran}
-use Rattle.run_steps.specs.Valued.{is, and_then}
-use Rattle.run_steps.specs.Same.{Same}
-use Rattle.core_meaning.specs.Cells.{Spot, Cells, Here, spot_of}
-use Rattle.core_meaning.specs.Kinds.{kind_of}
-use Rattle.core_meaning.specs.Expressions as ce
-use Rattle.core_meaning.specs.Expressions.{CoreCalls}
-use Rattle.piece_meaning.specs.Values.{Store, value, values, with_variable, with_element}
-use Rattle.piece_meaning.specs.Pieces.{Frame, Way}
+use Rattle.hls_base.specs.Steps as Steps
+use Rattle.hls_base.specs.Steps.{Ran}
+use Rattle.hls_base.specs.Valued.{is, and_then}
+use Rattle.hls_base.specs.Same.{Same}
+use Rattle.c_meaning.specs.CoreRuns.Cells.{Spot, Cells, Here, spot_of}
+use Rattle.c_meaning.specs.CoreRuns.Kinds.{kind_of}
+use Rattle.c_meaning.specs.CoreRuns.Expressions as ce
+use Rattle.c_meaning.specs.CoreRuns.Expressions.{CoreCalls}
+use Rattle.c_meaning.specs.PieceRuns.Values.{Store, value, values, with_variable, with_element}
+use Rattle.c_meaning.specs.PieceRuns.Pieces.{Frame, Way}
 use Rattle.c_expand.specs.Expressions.{Callee, expression, operands}
 use Rattle.expand_runs.specs.Reading.{AllRead, EachReads, EachHasTypes, IsTyped, UnaryFits, BinaryFits}
 use Rattle.expand_runs.specs.Growing.{IsWithin}

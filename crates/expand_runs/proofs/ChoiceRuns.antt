@@ -2,8 +2,8 @@
 use Rattle.std.proofs.Common.{◌≡◌, ℕ, ◌≤◌, sym, ap, subst, ℤ, Bool, true, false, List, [], ◌∷◌, ◌++◌, length, arith, if◌then◌else◌}
 use Rattle.hls_base.specs.declared.place.Place.{Place}
 use Rattle.c_token.specs.declared.ctype.CType.{CType}
-use Rattle.core_program.specs.Core as core
-use Rattle.core_program.specs.Core.{CoreTree, CoreTrees}
+use Rattle.pieces.specs.Resolved.Core as core
+use Rattle.pieces.specs.Resolved.Core.{CoreTree, CoreTrees}
 use Rattle.pieces.specs.Trees as tree
 use Rattle.pieces.specs.Trees.{PureTree, PieceTree, piece_row, row}
 use Rattle.piece_making.specs.declared.frame.Home.{Home}
@@ -12,16 +12,16 @@ use Rattle.piece_making.specs.Acting.{acts, either, effects}
 use Rattle.piece_making.specs.Making.{State, Part, gives, then_, emit, fresh}
 use Rattle.piece_making.specs.Saving.{save}
 use Rattle.piece_making.specs.Calls.{Call}
-use Rattle.run_steps.specs.Steps as Steps
-use Rattle.run_steps.specs.Steps.{Ran, goes}
-use Rattle.run_steps.specs.Same.{Same}
-use Rattle.core_meaning.specs.Kinds.{kind_of}
-use Rattle.core_meaning.specs.Kinds as kinds_of
-use Rattle.core_meaning.specs.Cells.{Spot, Cells, Here}
-use Rattle.core_meaning.specs.Expressions as ce
-use Rattle.core_meaning.specs.Expressions.{CoreCalls}
-use Rattle.piece_meaning.specs.Values.{Store}
-use Rattle.piece_meaning.specs.Pieces.{Frame}
+use Rattle.hls_base.specs.Steps as Steps
+use Rattle.hls_base.specs.Steps.{Ran, goes}
+use Rattle.hls_base.specs.Same.{Same}
+use Rattle.c_meaning.specs.CoreRuns.Kinds.{kind_of}
+use Rattle.c_meaning.specs.CoreRuns.Kinds as kinds_of
+use Rattle.c_meaning.specs.CoreRuns.Cells.{Spot, Cells, Here}
+use Rattle.c_meaning.specs.CoreRuns.Expressions as ce
+use Rattle.c_meaning.specs.CoreRuns.Expressions.{CoreCalls}
+use Rattle.c_meaning.specs.PieceRuns.Values.{Store}
+use Rattle.c_meaning.specs.PieceRuns.Pieces.{Frame}
 use Rattle.c_expand.specs.Expressions.{Callee, expression}
 use Rattle.expand_runs.specs.Reading.{IsTyped, UnaryFits, BinaryFits}
 use Rattle.expand_runs.specs.Growing.{IsWithin}
@@ -44,7 +44,7 @@ use Rattle.expand_runs.proofs.PartRuns.{Does, any_later, save_later, over_later}
 use Rattle.std.proofs.lemmas.List.{length-append}
 use Rattle.c_value.specs.Operators.{is_true}
 use Rattle.piece_making.specs.Making.{variable_number}
-use Rattle.piece_meaning.specs.Pieces.{type_of}
+use Rattle.c_meaning.specs.PieceRuns.Pieces.{type_of}
 use Rattle.expand_runs.proofs.Growing.{last_one}
 
 abbrev chosen_in_branches : Call → CType → Place → Place → PureTree → Effects → (State → Part PureTree) → (State → Part PureTree) → State → Part PureTree

@@ -8,13 +8,13 @@ use Rattle.c_value.specs.Operators.{Computed}
 use Rattle.c_meaning.specs.Store.{element_in, element_place}
 use Rattle.pieces.specs.Trees.{PureTree, PieceTree}
 use Rattle.piece_making.specs.Saving.{has_element}
-use Rattle.run_steps.specs.Steps.{Ran, goes, then_}
-use Rattle.run_steps.specs.Valued.{is}
-use Rattle.run_steps.specs.Same.{Same}
-use Rattle.core_meaning.specs.Cells.{Spot, Cells}
-use Rattle.core_meaning.specs.Expressions as ce
-use Rattle.piece_meaning.specs.Values.{Store, computed, value, with_variable, with_element}
-use Rattle.piece_meaning.specs.Pieces.{Frame, Way, on}
+use Rattle.hls_base.specs.Steps.{Ran, goes, then_}
+use Rattle.hls_base.specs.Valued.{is}
+use Rattle.hls_base.specs.Same.{Same}
+use Rattle.c_meaning.specs.CoreRuns.Cells.{Spot, Cells}
+use Rattle.c_meaning.specs.CoreRuns.Expressions as ce
+use Rattle.c_meaning.specs.PieceRuns.Values.{Store, computed, value, with_variable, with_element}
+use Rattle.c_meaning.specs.PieceRuns.Pieces.{Frame, Way, on}
 use Rattle.expand_runs.specs.Reading.{AllRead}
 use Rattle.expand_runs.proofs.Sames.{goes_same, fails_any, same_as}
 use Rattle.expand_runs.proofs.Rows.{run_of, going_on, row_behind, rows_same}

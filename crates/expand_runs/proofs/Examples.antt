@@ -5,13 +5,13 @@ use Rattle.hls_base.specs.FileScope.{FileScope}
 use Rattle.c_token.specs.declared.ctype.CType.{CType}
 use Rattle.c_tree.specs.declared.operator.Binary.TheVariants as b
 use Rattle.c_value.specs.Values.{int_type, integer}
-use Rattle.core_program.specs.declared.expression.Cell.{Cell}
-use Rattle.core_program.specs.declared.expression.Scope.TheVariants as scope
-use Rattle.core_program.specs.Core as core
-use Rattle.core_program.specs.Core.{CoreTree, CoreStmtTree, stmt_row, argument_row, CoreObjectTree, FileObjectTree, CoreFunctionTree, CoreProgramTree}
-use Rattle.core_meaning.specs.Runs.{core_run}
-use Rattle.piece_meaning.specs.Values.{Store}
-use Rattle.piece_meaning.specs.Runs.{pieces_answer}
+use Rattle.pieces.specs.declared.resolved.expression.Cell.{Cell}
+use Rattle.pieces.specs.declared.resolved.expression.Scope.TheVariants as scope
+use Rattle.pieces.specs.Resolved.Core as core
+use Rattle.pieces.specs.Resolved.Core.{CoreTree, CoreStmtTree, stmt_row, argument_row, CoreObjectTree, FileObjectTree, CoreFunctionTree, CoreProgramTree}
+use Rattle.c_meaning.specs.CoreRuns.Runs.{core_run}
+use Rattle.c_meaning.specs.PieceRuns.Values.{Store}
+use Rattle.c_meaning.specs.PieceRuns.Runs.{pieces_answer}
 use Rattle.piece_making.specs.Making.{then_, emit, label, declared, inside, inside_switch, fresh, fresh_result, add_array, new_slot, note_array, next_call, next_loop, set_own}
 use Rattle.c_expand.specs.Expressions.{chosen}
 use Rattle.c_expand.specs.Statements.{valued, changed, actions, stepped}

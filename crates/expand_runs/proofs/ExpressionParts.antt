@@ -10,9 +10,9 @@ use Rattle.c_tree.specs.declared.operator.Binary.TheVariants as b
 use Rattle.c_value.specs.Values.{convert}
 use Rattle.c_value.specs.Operators.{unary_kind, binary_kind, unary_value, binary_value}
 use Rattle.c_meaning.specs.Store.{element_in}
-use Rattle.core_program.specs.declared.expression.Cell.{Cell}
-use Rattle.core_program.specs.Core as core
-use Rattle.core_program.specs.Core.{CoreTree, CoreTrees}
+use Rattle.pieces.specs.declared.resolved.expression.Cell.{Cell}
+use Rattle.pieces.specs.Resolved.Core as core
+use Rattle.pieces.specs.Resolved.Core.{CoreTree, CoreTrees}
 use Rattle.pieces.specs.Trees as tree
 use Rattle.pieces.specs.Trees.{PureTree, PureTrees, PieceTree, piece_row, row}
 use Rattle.pieces.specs.Kind.{kind}
@@ -21,14 +21,14 @@ use Rattle.piece_making.specs.declared.effects.Effects.{Effects}
 use Rattle.piece_making.specs.Making.{State, Part}
 use Rattle.piece_making.specs.Saving.{save, is_logical}
 use Rattle.piece_making.specs.Calls.{Call, scalar, array}
-use Rattle.run_steps.specs.Steps.{Ran, goes, then_}
-use Rattle.run_steps.specs.Valued.{is, and_then}
-use Rattle.run_steps.specs.Same.{Same}
-use Rattle.core_meaning.specs.Kinds.{kind_of}
-use Rattle.core_meaning.specs.Cells.{Spot, Cells, Here, spot_of}
-use Rattle.core_meaning.specs.Expressions as ce
-use Rattle.piece_meaning.specs.Values.{Store, lengths_in, computed, joined, element_at, element_number, value}
-use Rattle.piece_meaning.specs.Pieces.{Frame, Way, on}
+use Rattle.hls_base.specs.Steps.{Ran, goes, then_}
+use Rattle.hls_base.specs.Valued.{is, and_then}
+use Rattle.hls_base.specs.Same.{Same}
+use Rattle.c_meaning.specs.CoreRuns.Kinds.{kind_of}
+use Rattle.c_meaning.specs.CoreRuns.Cells.{Spot, Cells, Here, spot_of}
+use Rattle.c_meaning.specs.CoreRuns.Expressions as ce
+use Rattle.c_meaning.specs.PieceRuns.Values.{Store, lengths_in, computed, joined, element_at, element_number, value}
+use Rattle.c_meaning.specs.PieceRuns.Pieces.{Frame, Way, on}
 use Rattle.expand_runs.specs.Reading.{IsTyped, UnaryFits, BinaryFits}
 use Rattle.expand_runs.specs.Growing.{IsWithin}
 use Rattle.expand_runs.specs.Showing.{Known, IsShown}

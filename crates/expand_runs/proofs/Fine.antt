@@ -12,8 +12,8 @@ use Rattle.piece_making.specs.declared.effects.Effects.{Effects}
 use Rattle.piece_making.specs.Acting.{spoils}
 use Rattle.piece_making.specs.Making.{State, Part, Inner, gives, then_, emit, inside, fresh, set_own}
 use Rattle.piece_making.specs.Saving.{saved, all_saved, saved_if, may_skip_element, save}
-use Rattle.piece_meaning.specs.Values.{Store, with_variable, with_element}
-use Rattle.piece_meaning.specs.Pieces.{Frame}
+use Rattle.c_meaning.specs.PieceRuns.Values.{Store, with_variable, with_element}
+use Rattle.c_meaning.specs.PieceRuns.Pieces.{Frame}
 use Rattle.expand_runs.specs.Keeping.{Allows, AllAllow}
 use Rattle.expand_runs.specs.Growing.{IsLater, LandFrom, LandsFrom}
 use Rattle.expand_runs.proofs.Growing.{later_same, later_fresh, later_emit, later_own, later_both}

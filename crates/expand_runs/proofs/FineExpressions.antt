@@ -6,9 +6,9 @@ use Rattle.hls_base.specs.declared.number.VarId.{VarId}
 use Rattle.hls_base.specs.declared.place.Place.{Place}
 use Rattle.c_token.specs.declared.ctype.CType.{CType}
 use Rattle.c_tree.specs.declared.operator.Binary.{Binary}
-use Rattle.core_program.specs.declared.expression.Cell.{Cell}
-use Rattle.core_program.specs.Core as core
-use Rattle.core_program.specs.Core.{CoreTree, CoreTargetTree, CoreTrees, ArgumentTree, ArgumentTrees}
+use Rattle.pieces.specs.declared.resolved.expression.Cell.{Cell}
+use Rattle.pieces.specs.Resolved.Core as core
+use Rattle.pieces.specs.Resolved.Core.{CoreTree, CoreTargetTree, CoreTrees, ArgumentTree, ArgumentTrees}
 use Rattle.pieces.specs.Trees as tree
 use Rattle.pieces.specs.Trees.{PureTree, PureTrees, PieceTree, piece_row, row}
 use Rattle.pieces.specs.Kind.{kind}
@@ -18,8 +18,8 @@ use Rattle.piece_making.specs.Making.{State, Part, gives, then_, emit, fresh, se
 use Rattle.piece_making.specs.Saving.{save, is_logical}
 use Rattle.piece_making.specs.Calls.{Call, variable, array}
 use Rattle.piece_making.specs.Assigning.{Change, change, store_at, store, assigned, bumped, bumped_behind, new_value, target_read, one, step}
-use Rattle.piece_meaning.specs.Values.{Store}
-use Rattle.piece_meaning.specs.Pieces.{Frame}
+use Rattle.c_meaning.specs.PieceRuns.Values.{Store}
+use Rattle.c_meaning.specs.PieceRuns.Pieces.{Frame}
 use Rattle.c_expand.specs.Expressions.{Given, Callee, value_given, may_be_unused, set_unused, discarded, value_or_zero, arm, decided, to_bool, same, fork_of, is_or, forked, operated, chosen, expression, operands, targeted, argument, arguments}
 use Rattle.expand_runs.specs.Sound.{Objects, IsSound, AreSound, ArgumentSound, ArgumentsSound, Changes, AnyChanges, ArgumentChanges, ArgumentsChange}
 use Rattle.expand_runs.specs.Fitting.{HaveShape, CallsFit, AllFit, ArgumentFits, ArgumentsFit, Taken, Anything}

@@ -4,20 +4,20 @@ use Rattle.hls_base.specs.declared.place.Place.{Place}
 use Rattle.hls_base.specs.declared.point.PointKind.TheVariants as point
 use Rattle.c_token.specs.declared.ctype.CType.{CType}
 use Rattle.c_value.specs.Operators.{is_true}
-use Rattle.core_program.specs.Core as core
-use Rattle.core_program.specs.Core.{CoreTree}
+use Rattle.pieces.specs.Resolved.Core as core
+use Rattle.pieces.specs.Resolved.Core.{CoreTree}
 use Rattle.pieces.specs.Trees as tree
 use Rattle.pieces.specs.Trees.{PureTree, PieceTree, piece_row}
 use Rattle.piece_making.specs.declared.frame.Home.{Home}
 use Rattle.piece_making.specs.Making.{variable_number}
 use Rattle.piece_making.specs.Calls.{Call}
-use Rattle.run_steps.specs.Steps.{Ran, then_}
-use Rattle.run_steps.specs.Valued.{is}
-use Rattle.run_steps.specs.Same.{Same}
-use Rattle.core_meaning.specs.Cells.{Spot, Cells, Here}
-use Rattle.core_meaning.specs.Expressions as ce
-use Rattle.piece_meaning.specs.Values.{Store, value}
-use Rattle.piece_meaning.specs.Pieces.{Frame, Way, behind_fork}
+use Rattle.hls_base.specs.Steps.{Ran, then_}
+use Rattle.hls_base.specs.Valued.{is}
+use Rattle.hls_base.specs.Same.{Same}
+use Rattle.c_meaning.specs.CoreRuns.Cells.{Spot, Cells, Here}
+use Rattle.c_meaning.specs.CoreRuns.Expressions as ce
+use Rattle.c_meaning.specs.PieceRuns.Values.{Store, value}
+use Rattle.c_meaning.specs.PieceRuns.Pieces.{Frame, Way, behind_fork}
 use Rattle.expand_runs.specs.Reading.{IsTyped, variable_type, UnaryFits, BinaryFits}
 use Rattle.expand_runs.specs.Showing.{Known, IsShown}
 use Rattle.expand_runs.specs.Sound.{Objects}

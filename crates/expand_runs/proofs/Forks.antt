@@ -6,19 +6,19 @@ use Rattle.hls_base.specs.declared.point.PointKind.TheVariants as point
 use Rattle.c_token.specs.declared.ctype.CType.{CType}
 use Rattle.c_value.specs.Values.{convert}
 use Rattle.c_value.specs.Operators.{is_true}
-use Rattle.core_program.specs.Core.{CoreTree}
+use Rattle.pieces.specs.Resolved.Core.{CoreTree}
 use Rattle.pieces.specs.Trees as tree
 use Rattle.pieces.specs.Trees.{PureTree, PieceTree, piece_row}
 use Rattle.piece_making.specs.declared.frame.Home.{Home}
 use Rattle.piece_making.specs.Making.{variable_number}
 use Rattle.piece_making.specs.Calls.{Call}
-use Rattle.run_steps.specs.Steps.{Outcome, went, undefined, waiting, Ran, ran, goes, then_, pass}
-use Rattle.run_steps.specs.Valued.{is, valued}
-use Rattle.run_steps.specs.Same.{Follows, Same}
-use Rattle.core_meaning.specs.Cells.{Spot, Cells, Here}
-use Rattle.core_meaning.specs.Expressions as ce
-use Rattle.piece_meaning.specs.Values.{Store, value, with_variable}
-use Rattle.piece_meaning.specs.Pieces.{Frame, Way, on, behind, behind_fork, pieces_run}
+use Rattle.hls_base.specs.Steps.{Outcome, went, undefined, waiting, Ran, ran, goes, then_, pass}
+use Rattle.hls_base.specs.Valued.{is, valued}
+use Rattle.hls_base.specs.Same.{Follows, Same}
+use Rattle.c_meaning.specs.CoreRuns.Cells.{Spot, Cells, Here}
+use Rattle.c_meaning.specs.CoreRuns.Expressions as ce
+use Rattle.c_meaning.specs.PieceRuns.Values.{Store, value, with_variable}
+use Rattle.c_meaning.specs.PieceRuns.Pieces.{Frame, Way, on, behind, behind_fork, pieces_run}
 use Rattle.expand_runs.specs.Reading.{IsNumber, IsTyped, variable_type, UnaryFits, BinaryFits}
 use Rattle.expand_runs.specs.Showing.{Known, IsShown}
 use Rattle.expand_runs.specs.Sound.{Objects}

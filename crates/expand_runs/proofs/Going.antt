@@ -5,11 +5,11 @@ use Rattle.c_value.specs.Values.{convert}
 use Rattle.pieces.specs.Trees as tree
 use Rattle.pieces.specs.Trees.{PureTree, PieceTree}
 use Rattle.piece_making.specs.Making.{State, set_own, then_, emit, fresh}
-use Rattle.run_steps.specs.Steps as Steps
-use Rattle.run_steps.specs.Steps.{Ran, goes}
-use Rattle.run_steps.specs.Valued.{is, valued}
-use Rattle.piece_meaning.specs.Values.{Store, value, with_variable}
-use Rattle.piece_meaning.specs.Pieces.{Frame, Way, on, set, behind_piece, pieces_run, landed, type_of}
+use Rattle.hls_base.specs.Steps as Steps
+use Rattle.hls_base.specs.Steps.{Ran, goes}
+use Rattle.hls_base.specs.Valued.{is, valued}
+use Rattle.c_meaning.specs.PieceRuns.Values.{Store, value, with_variable}
+use Rattle.c_meaning.specs.PieceRuns.Pieces.{Frame, Way, on, set, behind_piece, pieces_run, landed, type_of}
 use Rattle.expand_runs.specs.Reading.{variable_type, IsNumber}
 use Rattle.expand_runs.specs.Growing.{IsWithin}
 use Rattle.expand_runs.proofs.Rows.{run_of, going_on, row_behind}

@@ -6,7 +6,7 @@ use Rattle.c_token.specs.declared.ctype.CType.{CType}
 use Rattle.pieces.specs.Trees as tree
 use Rattle.pieces.specs.Trees.{PureTree, PieceTree}
 use Rattle.piece_making.specs.Making.{State, Part, then_, emit, fresh, set_own}
-use Rattle.piece_meaning.specs.Pieces.{Frame}
+use Rattle.c_meaning.specs.PieceRuns.Pieces.{Frame}
 use Rattle.expand_runs.specs.Growing.{Begins, IsLater, IsWithin, IsGrown}
 use Rattle.hls_base.specs.declared.number.ArrayId.{ArrayId}
 

@@ -8,10 +8,10 @@ use Rattle.pieces.specs.declared.piece.CallId.{CallId}
 use Rattle.pieces.specs.Trees as tree
 use Rattle.pieces.specs.Trees.{PureTree, PieceTree, PieceTrees, piece_row}
 use Rattle.pieces.specs.Kind.{kind}
-use Rattle.run_steps.specs.Steps.{Ran, goes, then_, pass}
-use Rattle.run_steps.specs.Valued.{Valued, is, faulty, valued}
-use Rattle.piece_meaning.specs.Values.{Store, value, values, element_number}
-use Rattle.piece_meaning.specs.Pieces.{Frame, Way, on, broke, continued, left, Turn, again, over, out, set, put_at, behind, behind_fork, behind_switch, behind_loop, turn_of, if_again, repeat, tested, turned, test_first, test_last, target, switch_word, from_target, behind_piece, piece_run, pieces_run, landed, from_piece}
+use Rattle.hls_base.specs.Steps.{Ran, goes, then_, pass}
+use Rattle.hls_base.specs.Valued.{Valued, is, faulty, valued}
+use Rattle.c_meaning.specs.PieceRuns.Values.{Store, value, values, element_number}
+use Rattle.c_meaning.specs.PieceRuns.Pieces.{Frame, Way, on, broke, continued, left, Turn, again, over, out, set, put_at, behind, behind_fork, behind_switch, behind_loop, turn_of, if_again, repeat, tested, turned, test_first, test_last, target, switch_word, from_target, behind_piece, piece_run, pieces_run, landed, from_piece}
 use Rattle.expand_runs.specs.Keeping.{Allows, AllAllow}
 use Rattle.expand_runs.proofs.Sames.{Holds, then_holds}
 

@@ -32,3 +32,4 @@ pub mod Targets
 pub mod Arguments
 pub mod Assignments
 pub mod Expressions
+pub mod PieceCounts

@@ -8,21 +8,21 @@ use Rattle.c_token.specs.declared.ctype.CType.TheVariants as type
 use Rattle.c_tree.specs.declared.operator.Binary.TheVariants as b
 use Rattle.c_value.specs.Values.{int_type, convert}
 use Rattle.c_value.specs.Operators.{is_true, truth}
-use Rattle.core_program.specs.Core as core
-use Rattle.core_program.specs.Core.{CoreTree}
-use Rattle.core_meaning.specs.Kinds.{kind_of}
+use Rattle.pieces.specs.Resolved.Core as core
+use Rattle.pieces.specs.Resolved.Core.{CoreTree}
+use Rattle.c_meaning.specs.CoreRuns.Kinds.{kind_of}
 use Rattle.pieces.specs.Trees as tree
 use Rattle.pieces.specs.Trees.{PureTree, PieceTree, piece_row}
 use Rattle.piece_making.specs.declared.frame.Home.{Home}
 use Rattle.piece_making.specs.Making.{variable_number}
 use Rattle.piece_making.specs.Calls.{Call}
-use Rattle.run_steps.specs.Steps.{Ran, goes, then_, pass}
-use Rattle.run_steps.specs.Valued.{is, and_then}
-use Rattle.run_steps.specs.Same.{Same}
-use Rattle.core_meaning.specs.Cells.{Spot, Cells, Here}
-use Rattle.core_meaning.specs.Expressions as ce
-use Rattle.piece_meaning.specs.Values.{Store, value, with_variable}
-use Rattle.piece_meaning.specs.Pieces.{Frame, Way, on, behind_fork}
+use Rattle.hls_base.specs.Steps.{Ran, goes, then_, pass}
+use Rattle.hls_base.specs.Valued.{is, and_then}
+use Rattle.hls_base.specs.Same.{Same}
+use Rattle.c_meaning.specs.CoreRuns.Cells.{Spot, Cells, Here}
+use Rattle.c_meaning.specs.CoreRuns.Expressions as ce
+use Rattle.c_meaning.specs.PieceRuns.Values.{Store, value, with_variable}
+use Rattle.c_meaning.specs.PieceRuns.Pieces.{Frame, Way, on, behind_fork}
 use Rattle.expand_runs.specs.Reading.{IsNumber, IsTyped, variable_type, UnaryFits, BinaryFits}
 use Rattle.expand_runs.specs.Showing.{Known, IsShown}
 use Rattle.expand_runs.specs.Sound.{Objects}

@@ -1,8 +1,8 @@
 -- Several operands, one after another.
 use Rattle.std.proofs.Common.{◌≡◌, ℕ, ◌≤◌, ◌∙◌, ◌⊎◌, inl, inr, sym, refl, ap, ℤ, true, false, List, [], ◌∷◌, ◌++◌, append-nil, append_assoc, length, le_refl, le_trans}
 use Rattle.c_token.specs.declared.ctype.CType.{CType}
-use Rattle.core_program.specs.Core as core
-use Rattle.core_program.specs.Core.{CoreTree, CoreTrees}
+use Rattle.pieces.specs.Resolved.Core as core
+use Rattle.pieces.specs.Resolved.Core.{CoreTree, CoreTrees}
 use Rattle.pieces.specs.Trees.{PureTree, piece_row, row}
 use Rattle.piece_making.specs.declared.frame.Home.{Home}
 use Rattle.piece_making.specs.declared.effects.Effects.{Effects}
@@ -10,13 +10,13 @@ use Rattle.piece_making.specs.Acting.{either}
 use Rattle.piece_making.specs.Making.{Part}
 use Rattle.piece_making.specs.Saving.{save}
 use Rattle.piece_making.specs.Calls.{Call}
-use Rattle.run_steps.specs.Steps.{Ran, goes, then_}
-use Rattle.run_steps.specs.Valued.{is, and_then}
-use Rattle.run_steps.specs.Same.{Same}
-use Rattle.core_meaning.specs.Kinds.{kind_of}
-use Rattle.core_meaning.specs.Cells.{Spot, Cells, Here}
-use Rattle.piece_meaning.specs.Values.{Store, value, values}
-use Rattle.piece_meaning.specs.Pieces.{Frame, Way, on}
+use Rattle.hls_base.specs.Steps.{Ran, goes, then_}
+use Rattle.hls_base.specs.Valued.{is, and_then}
+use Rattle.hls_base.specs.Same.{Same}
+use Rattle.c_meaning.specs.CoreRuns.Kinds.{kind_of}
+use Rattle.c_meaning.specs.CoreRuns.Cells.{Spot, Cells, Here}
+use Rattle.c_meaning.specs.PieceRuns.Values.{Store, value, values}
+use Rattle.c_meaning.specs.PieceRuns.Pieces.{Frame, Way, on}
 use Rattle.expand_runs.specs.Reading.{IsTyped, UnaryFits, BinaryFits}
 use Rattle.expand_runs.specs.Growing.{IsWithin}
 use Rattle.expand_runs.specs.Showing.{Known, IsShown}

@@ -6,8 +6,8 @@ use Rattle.hls_base.specs.declared.number.ArrayId.{ArrayId}
 use Rattle.c_token.specs.declared.ctype.CType.{CType}
 use Rattle.c_value.specs.Values.{number_of}
 use Rattle.c_meaning.specs.Store.{element_in}
-use Rattle.core_program.specs.declared.expression.Cell.{Cell}
-use Rattle.core_program.specs.Core.{CoreTrees}
+use Rattle.pieces.specs.declared.resolved.expression.Cell.{Cell}
+use Rattle.pieces.specs.Resolved.Core.{CoreTrees}
 use Rattle.pieces.specs.Trees as tree
 use Rattle.pieces.specs.Trees.{PureTree, PureTrees, row}
 use Rattle.piece_making.specs.declared.frame.Home.{Home}
@@ -17,10 +17,10 @@ use Rattle.piece_making.specs.Acting.{spoils, either}
 use Rattle.piece_making.specs.Making.{State, Part, gives, noted}
 use Rattle.piece_making.specs.Saving.{has_element, saved, save}
 use Rattle.piece_making.specs.Calls.{Call, scalar, variable, variable_in, array, array_in, read_of, home_of}
-use Rattle.run_steps.specs.Valued.{is}
-use Rattle.core_meaning.specs.Cells.{Spot, Cells, Here, spot_of}
-use Rattle.piece_meaning.specs.Values.{Store, lengths_in, value}
-use Rattle.piece_meaning.specs.Pieces.{Frame, Way, kind_at}
+use Rattle.hls_base.specs.Valued.{is}
+use Rattle.c_meaning.specs.CoreRuns.Cells.{Spot, Cells, Here, spot_of}
+use Rattle.c_meaning.specs.PieceRuns.Values.{Store, lengths_in, value}
+use Rattle.c_meaning.specs.PieceRuns.Pieces.{Frame, Way, kind_at}
 use Rattle.expand_runs.specs.Reading.{AllRead, IsNumber, IsTyped, variable_type, UnaryFits, BinaryFits}
 use Rattle.expand_runs.specs.Growing.{IsWithin}
 use Rattle.expand_runs.specs.Saving.{IsKept}

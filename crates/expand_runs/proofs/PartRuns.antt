@@ -7,9 +7,9 @@ use Rattle.c_value.specs.Operators.{binary_kind, binary_value}
 use Rattle.std.proofs.lemmas.Option.{same_Some}
 use Rattle.c_meaning.specs.Store.{element_in, element_place}
 use Rattle.c_tree.specs.declared.operator.Binary.{Binary}
-use Rattle.core_program.specs.declared.expression.Cell.{Cell}
-use Rattle.core_program.specs.Core as core
-use Rattle.core_program.specs.Core.{CoreTree, CoreTrees}
+use Rattle.pieces.specs.declared.resolved.expression.Cell.{Cell}
+use Rattle.pieces.specs.Resolved.Core as core
+use Rattle.pieces.specs.Resolved.Core.{CoreTree, CoreTrees}
 use Rattle.pieces.specs.Trees as tree
 use Rattle.pieces.specs.Trees.{PureTree, PieceTree, piece_row, row}
 use Rattle.pieces.specs.Kind.{kind}
@@ -20,17 +20,17 @@ use Rattle.piece_making.specs.Making.{State, Part, gives, then_, emit, fresh, se
 use Rattle.piece_making.specs.Saving.{save, is_logical}
 use Rattle.piece_making.specs.Calls.{Call, array, scalar}
 use Rattle.piece_making.specs.Assigning.{store_at}
-use Rattle.run_steps.specs.Steps as Steps
-use Rattle.run_steps.specs.Steps.{Ran, goes}
-use Rattle.run_steps.specs.Valued.{is, and_then}
-use Rattle.run_steps.specs.Same.{Same}
-use Rattle.core_meaning.specs.Kinds.{kind_of}
-use Rattle.core_meaning.specs.Kinds as kinds_of
-use Rattle.core_meaning.specs.Cells.{Spot, Cells, Here, spot_of}
-use Rattle.core_meaning.specs.Expressions as ce
-use Rattle.core_meaning.specs.Expressions.{CoreCalls}
-use Rattle.piece_meaning.specs.Values.{Store, computed, joined, value, with_variable}
-use Rattle.piece_meaning.specs.Pieces.{Frame, Way}
+use Rattle.hls_base.specs.Steps as Steps
+use Rattle.hls_base.specs.Steps.{Ran, goes}
+use Rattle.hls_base.specs.Valued.{is, and_then}
+use Rattle.hls_base.specs.Same.{Same}
+use Rattle.c_meaning.specs.CoreRuns.Kinds.{kind_of}
+use Rattle.c_meaning.specs.CoreRuns.Kinds as kinds_of
+use Rattle.c_meaning.specs.CoreRuns.Cells.{Spot, Cells, Here, spot_of}
+use Rattle.c_meaning.specs.CoreRuns.Expressions as ce
+use Rattle.c_meaning.specs.CoreRuns.Expressions.{CoreCalls}
+use Rattle.c_meaning.specs.PieceRuns.Values.{Store, computed, joined, value, with_variable}
+use Rattle.c_meaning.specs.PieceRuns.Pieces.{Frame, Way}
 use Rattle.c_expand.specs.Expressions.{Callee, may_be_unused, discarded, expression, operands, operated, forked}
 use Rattle.expand_runs.specs.Reading.{IsNumber, IsTyped, HasTypes, UnaryFits, BinaryFits}
 use Rattle.expand_runs.specs.Growing.{IsLater, IsWithin}

@@ -9,9 +9,9 @@ use Rattle.c_tree.specs.declared.operator.Binary.{Binary}
 use Rattle.c_tree.specs.declared.operator.Binary.TheVariants as b
 use Rattle.c_value.specs.Values.{convert}
 use Rattle.c_value.specs.Operators.{truth, is_true, binary_kind}
-use Rattle.core_program.specs.declared.expression.Cell.{Cell}
-use Rattle.core_program.specs.Core as core
-use Rattle.core_program.specs.Core.{CoreTree}
+use Rattle.pieces.specs.declared.resolved.expression.Cell.{Cell}
+use Rattle.pieces.specs.Resolved.Core as core
+use Rattle.pieces.specs.Resolved.Core.{CoreTree}
 use Rattle.pieces.specs.Trees as tree
 use Rattle.pieces.specs.Trees.{PureTree, PieceTree, piece_row}
 use Rattle.pieces.specs.Kind.{kind}
@@ -20,17 +20,17 @@ use Rattle.piece_making.specs.Acting.{acts, either, effects}
 use Rattle.piece_making.specs.Making.{State, Part, gives, then_}
 use Rattle.piece_making.specs.Saving.{is_logical}
 use Rattle.piece_making.specs.Calls.{Call}
-use Rattle.run_steps.specs.Steps as Steps
-use Rattle.run_steps.specs.Steps.{Ran, goes}
-use Rattle.run_steps.specs.Valued.{Valued, is, and_then}
-use Rattle.run_steps.specs.Same.{Same}
-use Rattle.core_meaning.specs.Cells.{Spot, Cells, Here}
-use Rattle.core_meaning.specs.Kinds as kinds_of
-use Rattle.core_meaning.specs.Kinds.{kind_of}
-use Rattle.core_meaning.specs.Expressions as ce
-use Rattle.core_meaning.specs.Expressions.{CoreCalls}
-use Rattle.piece_meaning.specs.Values.{Store, joined, value}
-use Rattle.piece_meaning.specs.Pieces.{Frame, Way, on}
+use Rattle.hls_base.specs.Steps as Steps
+use Rattle.hls_base.specs.Steps.{Ran, goes}
+use Rattle.hls_base.specs.Valued.{Valued, is, and_then}
+use Rattle.hls_base.specs.Same.{Same}
+use Rattle.c_meaning.specs.CoreRuns.Cells.{Spot, Cells, Here}
+use Rattle.c_meaning.specs.CoreRuns.Kinds as kinds_of
+use Rattle.c_meaning.specs.CoreRuns.Kinds.{kind_of}
+use Rattle.c_meaning.specs.CoreRuns.Expressions as ce
+use Rattle.c_meaning.specs.CoreRuns.Expressions.{CoreCalls}
+use Rattle.c_meaning.specs.PieceRuns.Values.{Store, joined, value}
+use Rattle.c_meaning.specs.PieceRuns.Pieces.{Frame, Way, on}
 use Rattle.c_expand.specs.Expressions.{Callee, is_or, operated, chosen, expression}
 use Rattle.expand_runs.specs.Reading.{AllRead, HasTypes, IsTyped, UnaryFits, BinaryFits}
 use Rattle.expand_runs.specs.Growing.{IsWithin}

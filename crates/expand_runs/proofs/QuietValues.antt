@@ -2,9 +2,9 @@
 use Rattle.std.proofs.Common.{◌≡◌, ℕ, ◌≤◌, ◌⊎◌, inl, inr, ◌∙◌, sym, refl, ap, ap₂, subst, Bool, true, false, true≢false, ◌||◌, ◌&&◌, List, [], ◌∷◌, ◌++◌, length, Some, le_refl, le_trans, if◌then◌else◌}
 use Rattle.std.proofs.lemmas.List.{append-nil, append_assoc, places}
 use Rattle.c_token.specs.declared.ctype.CType.{CType}
-use Rattle.core_program.specs.declared.expression.Cell.{Cell}
-use Rattle.core_program.specs.Core as core
-use Rattle.core_program.specs.Core.{CoreTree, CoreTrees, ArgumentTrees, binary}
+use Rattle.pieces.specs.declared.resolved.expression.Cell.{Cell}
+use Rattle.pieces.specs.Resolved.Core as core
+use Rattle.pieces.specs.Resolved.Core.{CoreTree, CoreTrees, ArgumentTrees, binary}
 use Rattle.pieces.specs.Trees as tree
 use Rattle.pieces.specs.Trees.{PureTree, PureTrees, row}
 use Rattle.pieces.specs.Kind.{kind}
@@ -16,11 +16,11 @@ use Rattle.piece_making.specs.Acting.{spoils, acts, either, no_effects, effects,
 use Rattle.piece_making.specs.Making.{State, Part, gives, then_, fresh}
 use Rattle.piece_making.specs.Saving.{save, saved, is_logical}
 use Rattle.piece_making.specs.Calls.{Call, scalar, array, read_of, array_in}
-use Rattle.core_meaning.specs.Cells.{Spot, Cells, Here}
-use Rattle.core_meaning.specs.Kinds as kinds_of
-use Rattle.core_meaning.specs.Kinds.{kind_of}
-use Rattle.core_meaning.specs.Expressions.{CoreCalls}
-use Rattle.piece_meaning.specs.Pieces.{Frame, kind_at}
+use Rattle.c_meaning.specs.CoreRuns.Cells.{Spot, Cells, Here}
+use Rattle.c_meaning.specs.CoreRuns.Kinds as kinds_of
+use Rattle.c_meaning.specs.CoreRuns.Kinds.{kind_of}
+use Rattle.c_meaning.specs.CoreRuns.Expressions.{CoreCalls}
+use Rattle.c_meaning.specs.PieceRuns.Pieces.{Frame, kind_at}
 use Rattle.c_expand.specs.Expressions.{Callee, forked, chosen, operated, expression, operands, arm, same, fork_of}
 use Rattle.expand_runs.specs.Reading.{AllRead, EachReads, HasTypes, EachHasTypes, UnaryFits, BinaryFits}
 use Rattle.expand_runs.specs.Growing.{IsLater}

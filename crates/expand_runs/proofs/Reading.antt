@@ -8,8 +8,8 @@ use Rattle.pieces.specs.Trees.{PureTree, PureTrees}
 use Rattle.pieces.specs.Kind.{kind}
 use Rattle.pieces.specs.Program.{ArrayTree}
 use Rattle.piece_making.specs.Saving.{has_element}
-use Rattle.run_steps.specs.Valued.{Valued, is, faulty, and_then}
-use Rattle.piece_meaning.specs.Values.{Store, computed, element_number, element_at, joined, value, values}
+use Rattle.hls_base.specs.Valued.{Valued, is, faulty, and_then}
+use Rattle.c_meaning.specs.PieceRuns.Values.{Store, computed, element_number, element_at, joined, value, values}
 use Rattle.expand_runs.specs.Reading.{AllRead, EachReads}
 
 pub and_then_each : {A B : Type 0} (r : Valued A) (f g : A → Valued B) → ((x : A) → f x ≡ g x) → and_then r f ≡ and_then r g

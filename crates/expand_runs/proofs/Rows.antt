@@ -5,10 +5,10 @@ use Rattle.hls_base.specs.declared.point.Point.{Point}
 use Rattle.pieces.specs.declared.piece.CallId.{CallId}
 use Rattle.pieces.specs.Trees as tree
 use Rattle.pieces.specs.Trees.{PieceTree, piece_row}
-use Rattle.run_steps.specs.Steps.{Ran, then_, Outcome, went, undefined, waiting, ran, goes}
-use Rattle.run_steps.specs.Same.{Same}
-use Rattle.piece_meaning.specs.Values.{Store}
-use Rattle.piece_meaning.specs.Pieces.{Frame, Way, on, broke, continued, left, behind, behind_piece, piece_run, pieces_run, landed}
+use Rattle.hls_base.specs.Steps.{Ran, then_, Outcome, went, undefined, waiting, ran, goes}
+use Rattle.hls_base.specs.Same.{Same}
+use Rattle.c_meaning.specs.PieceRuns.Values.{Store}
+use Rattle.c_meaning.specs.PieceRuns.Pieces.{Frame, Way, on, broke, continued, left, behind, behind_piece, piece_run, pieces_run, landed}
 use Rattle.expand_runs.proofs.Sames.{then_same, then_then, then_each, same_as}
 
 -- these pieces from their first one on

@@ -3,8 +3,8 @@ use Rattle.std.proofs.Common.{◌≡◌, ℕ, zero, suc, ◌≤◌, sym, refl, a
 use Rattle.hls_base.specs.declared.place.Place.{Place}
 use Rattle.hls_base.specs.declared.point.Point.{Point}
 use Rattle.hls_base.specs.declared.refusal.UbRule.{UbRule}
-use Rattle.run_steps.specs.Steps.{Outcome, went, undefined, waiting, Ran, ran, goes, fails, then_, after, pass}
-use Rattle.run_steps.specs.Same.{Follows, Same}
+use Rattle.hls_base.specs.Steps.{Outcome, went, undefined, waiting, Ran, ran, goes, fails, then_, after, pass}
+use Rattle.hls_base.specs.Same.{Follows, Same}
 
 -- ---- parts that pass no point
 

@@ -16,9 +16,9 @@ use Rattle.pieces.specs.Trees.{PureTree, PureTrees, row}
 use Rattle.pieces.specs.Kind.{kind}
 use Rattle.piece_making.specs.Making.{State, Part, gives, then_, emit, fresh, set_own}
 use Rattle.piece_making.specs.Saving.{has_element, saved, all_saved, saved_if, may_skip_element, is_logical}
-use Rattle.run_steps.specs.Valued.{is, and_then}
-use Rattle.piece_meaning.specs.Values.{Store, with_variable, computed, joined, element_at, element_number, value, values}
-use Rattle.piece_meaning.specs.Pieces.{Frame}
+use Rattle.hls_base.specs.Valued.{is, and_then}
+use Rattle.c_meaning.specs.PieceRuns.Values.{Store, with_variable, computed, joined, element_at, element_number, value, values}
+use Rattle.c_meaning.specs.PieceRuns.Pieces.{Frame}
 use Rattle.expand_runs.specs.Reading.{AllRead, EachReads, IsNumber, IsTyped, HasTypes, EachHasTypes, variable_type}
 use Rattle.expand_runs.specs.Growing.{IsWithin}
 use Rattle.expand_runs.specs.Saving.{IsKept}

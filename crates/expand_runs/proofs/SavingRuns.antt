@@ -8,9 +8,9 @@ use Rattle.pieces.specs.Trees.{PureTree, PureTrees, row}
 use Rattle.pieces.specs.Kind.{kind}
 use Rattle.piece_making.specs.Making.{State, gives, then_, set_own}
 use Rattle.piece_making.specs.Saving.{has_element, saved, all_saved, may_skip_element, is_logical}
-use Rattle.run_steps.specs.Valued.{is, and_then}
-use Rattle.piece_meaning.specs.Values.{Store, computed, element_at, element_number, value, values}
-use Rattle.piece_meaning.specs.Pieces.{Frame}
+use Rattle.hls_base.specs.Valued.{is, and_then}
+use Rattle.c_meaning.specs.PieceRuns.Values.{Store, computed, element_at, element_number, value, values}
+use Rattle.c_meaning.specs.PieceRuns.Pieces.{Frame}
 use Rattle.expand_runs.specs.Reading.{UnaryFits, BinaryFits}
 use Rattle.expand_runs.specs.Growing.{IsWithin}
 use Rattle.expand_runs.proofs.Reading.{value_agrees, values_agree, or_left, or_right}

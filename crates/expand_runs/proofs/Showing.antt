@@ -9,14 +9,14 @@ use Rattle.c_token.specs.declared.ctype.CType.{CType}
 use Rattle.c_meaning.specs.Store.{Object, element_in, with_element}
 use Rattle.piece_making.specs.declared.frame.Home.{Home}
 use Rattle.piece_making.specs.declared.frame.Home.TheVariants as home
-use Rattle.core_meaning.specs.Cells.{Spot, spot, is_spot, Cells, put}
-use Rattle.core_meaning.specs.Expressions.{written}
-use Rattle.piece_meaning.specs.Values as piece
-use Rattle.piece_meaning.specs.Values.{Store, with_variable, with_number, with_row}
-use Rattle.piece_meaning.specs.Pieces.{Frame}
+use Rattle.c_meaning.specs.CoreRuns.Cells.{Spot, spot, is_spot, Cells, put}
+use Rattle.c_meaning.specs.CoreRuns.Expressions.{written}
+use Rattle.c_meaning.specs.PieceRuns.Values as piece
+use Rattle.c_meaning.specs.PieceRuns.Values.{Store, with_variable, with_number, with_row}
+use Rattle.c_meaning.specs.PieceRuns.Pieces.{Frame}
 use Rattle.expand_runs.specs.Showing.{Stands, IsShown, IsApart, AreBelow, IsWhole, Known}
 use Rattle.expand_runs.proofs.Typing.{number_here, number_other}
-use Rattle.core_program.specs.Core.{CoreObjectTree}
+use Rattle.pieces.specs.Resolved.Core.{CoreObjectTree}
 
 -- ---- one spot
 

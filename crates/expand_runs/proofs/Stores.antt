@@ -7,7 +7,7 @@ use Rattle.hls_base.specs.declared.refusal.UbRule.TheVariants as ub
 use Rattle.c_token.specs.declared.ctype.CType.{CType}
 use Rattle.c_value.specs.Values.{convert}
 use Rattle.c_meaning.specs.Store.{element_place}
-use Rattle.core_program.specs.declared.expression.Cell.{Cell}
+use Rattle.pieces.specs.declared.resolved.expression.Cell.{Cell}
 use Rattle.pieces.specs.Trees as tree
 use Rattle.pieces.specs.Trees.{PureTree, PureTrees, PieceTree, piece_row, row}
 use Rattle.piece_making.specs.declared.frame.Home.{Home}
@@ -15,13 +15,13 @@ use Rattle.piece_making.specs.declared.frame.Home.TheVariants as home
 use Rattle.piece_making.specs.Making.{State, emit}
 use Rattle.piece_making.specs.Calls.{Call, variable, variable_in, array, array_in}
 use Rattle.piece_making.specs.Assigning.{store_at}
-use Rattle.run_steps.specs.Steps.{goes}
-use Rattle.run_steps.specs.Valued.{is, valued}
-use Rattle.run_steps.specs.Same.{Same}
-use Rattle.core_meaning.specs.Cells.{Spot, Cells, Here, spot_of}
-use Rattle.core_meaning.specs.Expressions as ce
-use Rattle.piece_meaning.specs.Values.{Store, element_number, value, values, with_variable, with_element}
-use Rattle.piece_meaning.specs.Pieces.{Frame, Way, on, kind_at, put_at}
+use Rattle.hls_base.specs.Steps.{goes}
+use Rattle.hls_base.specs.Valued.{is, valued}
+use Rattle.hls_base.specs.Same.{Same}
+use Rattle.c_meaning.specs.CoreRuns.Cells.{Spot, Cells, Here, spot_of}
+use Rattle.c_meaning.specs.CoreRuns.Expressions as ce
+use Rattle.c_meaning.specs.PieceRuns.Values.{Store, element_number, value, values, with_variable, with_element}
+use Rattle.c_meaning.specs.PieceRuns.Pieces.{Frame, Way, on, kind_at, put_at}
 use Rattle.expand_runs.specs.Reading.{IsNumber, IsTyped}
 use Rattle.expand_runs.specs.Showing.{Known, IsShown}
 use Rattle.expand_runs.specs.Sound.{Objects}

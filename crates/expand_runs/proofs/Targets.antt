@@ -10,9 +10,9 @@ use Rattle.c_tree.specs.declared.operator.Binary.TheVariants as b
 use Rattle.c_value.specs.Values.{int_type, convert}
 use Rattle.c_value.specs.Operators.{binary_kind, binary_value, defined}
 use Rattle.c_meaning.specs.Store.{element_in, element_place}
-use Rattle.core_program.specs.declared.expression.Cell.{Cell}
-use Rattle.core_program.specs.Core as core
-use Rattle.core_program.specs.Core.{CoreTree, CoreTrees}
+use Rattle.pieces.specs.declared.resolved.expression.Cell.{Cell}
+use Rattle.pieces.specs.Resolved.Core as core
+use Rattle.pieces.specs.Resolved.Core.{CoreTree, CoreTrees}
 use Rattle.pieces.specs.Trees as tree
 use Rattle.pieces.specs.Trees.{PureTree, PureTrees, PieceTree, row}
 use Rattle.pieces.specs.Kind.{kind}
@@ -23,16 +23,16 @@ use Rattle.piece_making.specs.Saving.{is_logical}
 use Rattle.piece_making.specs.Calls.{Call, scalar, array, array_in}
 use Rattle.piece_making.specs.Assigning as making
 use Rattle.piece_making.specs.Assigning.{change, step, one, read_at, store_at, target_read, bumped_behind, apply}
-use Rattle.run_steps.specs.Steps as Steps
-use Rattle.run_steps.specs.Steps.{Ran, goes, Outcome, ran, went, undefined, waiting}
-use Rattle.run_steps.specs.Valued.{is, and_then}
-use Rattle.run_steps.specs.Same.{Same}
-use Rattle.core_meaning.specs.Cells.{Spot, Cells, Here, spot_of}
-use Rattle.core_meaning.specs.Kinds.{kind_of}
-use Rattle.core_meaning.specs.Expressions as ce
-use Rattle.core_meaning.specs.Expressions.{CoreCalls}
-use Rattle.piece_meaning.specs.Values.{Store, lengths_in, computed, joined, element_at, element_number, value, values, with_variable}
-use Rattle.piece_meaning.specs.Pieces.{Frame, Way, on, type_of, kind_at}
+use Rattle.hls_base.specs.Steps as Steps
+use Rattle.hls_base.specs.Steps.{Ran, goes, Outcome, ran, went, undefined, waiting}
+use Rattle.hls_base.specs.Valued.{is, and_then}
+use Rattle.hls_base.specs.Same.{Same}
+use Rattle.c_meaning.specs.CoreRuns.Cells.{Spot, Cells, Here, spot_of}
+use Rattle.c_meaning.specs.CoreRuns.Kinds.{kind_of}
+use Rattle.c_meaning.specs.CoreRuns.Expressions as ce
+use Rattle.c_meaning.specs.CoreRuns.Expressions.{CoreCalls}
+use Rattle.c_meaning.specs.PieceRuns.Values.{Store, lengths_in, computed, joined, element_at, element_number, value, values, with_variable}
+use Rattle.c_meaning.specs.PieceRuns.Pieces.{Frame, Way, on, type_of, kind_at}
 use Rattle.c_expand.specs.Expressions.{Callee}
 use Rattle.expand_runs.specs.Reading.{IsTyped, IsNumber, AllRead, EachReads, HasTypes, EachHasTypes, UnaryFits, BinaryFits, variable_type}
 use Rattle.expand_runs.specs.Growing.{IsWithin}

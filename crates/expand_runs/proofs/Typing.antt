@@ -19,9 +19,9 @@ use Rattle.hls_base.specs.declared.refusal.UbRule.TheVariants as ub
 use Rattle.piece_making.specs.Saving.{is_logical}
 use Rattle.hls_base.specs.declared.place.Place.{Place}
 use Rattle.hls_base.specs.declared.refusal.UbRule.{UbRule}
-use Rattle.run_steps.specs.Valued.{Valued, is, faulty, and_then}
-use Rattle.piece_meaning.specs.Values.{Store, with_number, with_variable, computed, joined, element_at, element_number, value, values}
-use Rattle.piece_meaning.specs.Pieces.{Frame, kind_at}
+use Rattle.hls_base.specs.Valued.{Valued, is, faulty, and_then}
+use Rattle.c_meaning.specs.PieceRuns.Values.{Store, with_number, with_variable, computed, joined, element_at, element_number, value, values}
+use Rattle.c_meaning.specs.PieceRuns.Pieces.{Frame, kind_at}
 use Rattle.expand_runs.specs.Reading.{IsNumber, IsTyped, HasTypes, variable_type, UnaryFits, BinaryFits}
 
 pub number_here : (f : ℕ → ℤ) (i : ℕ) (v : ℤ) → with_number f i v i ≡ v

@@ -4,21 +4,21 @@ use Rattle.hls_base.specs.declared.place.Place.{Place}
 use Rattle.hls_base.specs.declared.number.ArrayId.{ArrayId}
 use Rattle.c_token.specs.declared.ctype.CType.{CType}
 use Rattle.c_value.specs.Values.{int_type}
-use Rattle.core_program.specs.declared.expression.Cell.{Cell}
-use Rattle.core_program.specs.Core as core
-use Rattle.core_program.specs.Core.{ArgumentTree, ArgumentTrees}
+use Rattle.pieces.specs.declared.resolved.expression.Cell.{Cell}
+use Rattle.pieces.specs.Resolved.Core as core
+use Rattle.pieces.specs.Resolved.Core.{ArgumentTree, ArgumentTrees}
 use Rattle.pieces.specs.Trees.{PureTree}
 use Rattle.piece_making.specs.declared.frame.Home.{Home}
 use Rattle.piece_making.specs.declared.frame.Home.TheVariants as home
 use Rattle.piece_making.specs.Making.{State, Part}
 use Rattle.piece_making.specs.Calls.{Call}
-use Rattle.run_steps.specs.Valued.{is}
-use Rattle.run_steps.specs.Same.{Same}
-use Rattle.core_meaning.specs.Cells as cells
-use Rattle.core_meaning.specs.Cells.{Spot, Cells, Given, Here, spot_of}
-use Rattle.core_meaning.specs.Expressions.{CoreCalls, number_or_zero}
-use Rattle.piece_meaning.specs.Values.{Store, value}
-use Rattle.piece_meaning.specs.Pieces.{Frame, Way, kind_at, pieces_run}
+use Rattle.hls_base.specs.Valued.{is}
+use Rattle.hls_base.specs.Same.{Same}
+use Rattle.c_meaning.specs.CoreRuns.Cells as cells
+use Rattle.c_meaning.specs.CoreRuns.Cells.{Spot, Cells, Given, Here, spot_of}
+use Rattle.c_meaning.specs.CoreRuns.Expressions.{CoreCalls, number_or_zero}
+use Rattle.c_meaning.specs.PieceRuns.Values.{Store, value}
+use Rattle.c_meaning.specs.PieceRuns.Pieces.{Frame, Way, kind_at, pieces_run}
 use Rattle.pieces.specs.Trees.{piece_row}
 use Rattle.c_expand.specs.Expressions as e
 use Rattle.c_expand.specs.Expressions.{Callee, value_or_zero}

@@ -2,18 +2,18 @@
 use Rattle.std.specs.Prelude.{◌≡◌, ℕ, ◌<◌, ◌≤◌, ◌⊎◌, ℤ, Bool, true, false, List, Some}
 use Rattle.hls_base.specs.declared.number.VarId.{VarId}
 use Rattle.c_token.specs.declared.ctype.CType.{CType}
-use Rattle.core_program.specs.declared.expression.Cell.{Cell}
-use Rattle.core_program.specs.Core as core
-use Rattle.core_program.specs.Core.{CoreTree}
+use Rattle.pieces.specs.declared.resolved.expression.Cell.{Cell}
+use Rattle.pieces.specs.Resolved.Core as core
+use Rattle.pieces.specs.Resolved.Core.{CoreTree}
 use Rattle.pieces.specs.Trees.{PureTree, PureTrees}
 use Rattle.pieces.specs.Kind.{kind}
-use Rattle.run_steps.specs.Valued.{is}
+use Rattle.hls_base.specs.Valued.{is}
 use Rattle.piece_making.specs.declared.frame.Home.{Home}
 use Rattle.piece_making.specs.declared.frame.Home.TheVariants as home
 use Rattle.piece_making.specs.Calls.{Call, home_of}
-use Rattle.core_meaning.specs.Cells.{Spot, Cells, Here, spot_of}
-use Rattle.piece_meaning.specs.Values.{Store, value, values}
-use Rattle.piece_meaning.specs.Pieces.{Frame, Way, on}
+use Rattle.c_meaning.specs.CoreRuns.Cells.{Spot, Cells, Here, spot_of}
+use Rattle.c_meaning.specs.PieceRuns.Values.{Store, value, values}
+use Rattle.c_meaning.specs.PieceRuns.Pieces.{Frame, Way, on}
 use Rattle.expand_runs.specs.Reading.{AllRead, EachReads, IsTyped, HasTypes, EachHasTypes}
 use Rattle.expand_runs.specs.Showing.{Known, IsShown}
 

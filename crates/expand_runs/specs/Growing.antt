@@ -4,7 +4,7 @@ use Rattle.pieces.specs.Trees.{PieceTree}
 use Rattle.std.specs.Prelude.{[], ◌∷◌, ◌≡◌, ℕ, ◌≤◌, List, length, slice_get, Option, Some}
 use Rattle.hls_base.specs.declared.number.ArrayId.{ArrayId}
 use Rattle.piece_making.specs.Making.{State}
-use Rattle.piece_meaning.specs.Pieces.{Frame}
+use Rattle.c_meaning.specs.PieceRuns.Pieces.{Frame}
 
 -- the second list has what the first one has, at the same places
 abbrev pub Begins : {A : Type 0} → List A → List A → Type 0

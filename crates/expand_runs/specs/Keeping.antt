@@ -3,8 +3,8 @@ use Rattle.std.specs.Prelude.{ℕ, ℤ, slice_get}
 use Rattle.c_value.specs.Values.{convert}
 use Rattle.pieces.specs.Trees as tree
 use Rattle.pieces.specs.Trees.{PieceTree, PieceTrees}
-use Rattle.piece_meaning.specs.Values.{Store, with_variable, with_element}
-use Rattle.piece_meaning.specs.Pieces.{Frame, type_of, kind_at}
+use Rattle.c_meaning.specs.PieceRuns.Values.{Store, with_variable, with_element}
+use Rattle.c_meaning.specs.PieceRuns.Pieces.{Frame, type_of, kind_at}
 
 abbrev mutual
   -- each setting of a variable and each write of an element keeps what J says

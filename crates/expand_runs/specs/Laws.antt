@@ -5,10 +5,10 @@ use Rattle.hls_base.specs.ArrayAddress.{element_count}
 use Rattle.c_token.specs.declared.ctype.CType.{CType}
 use Rattle.c_value.specs.Values.{width}
 use Rattle.c_meaning.specs.Run.{Answer, ended, undefined, running}
-use Rattle.core_program.specs.Core.{CoreObjectTree, FileObjectTree, CoreFunctionTree, CoreProgramTree}
-use Rattle.core_meaning.specs.Runs.{core_run, is_array, params_of}
-use Rattle.piece_meaning.specs.Values.{Store}
-use Rattle.piece_meaning.specs.Runs.{frame_of, pieces_answer}
+use Rattle.pieces.specs.Resolved.Core.{CoreObjectTree, FileObjectTree, CoreFunctionTree, CoreProgramTree}
+use Rattle.c_meaning.specs.CoreRuns.Runs.{core_run, is_array, params_of}
+use Rattle.c_meaning.specs.PieceRuns.Values.{Store}
+use Rattle.c_meaning.specs.PieceRuns.Runs.{frame_of, pieces_answer}
 use Rattle.c_expand.specs.Expansion.{expansion}
 use Rattle.expand_runs.specs.Reading.{IsTyped}
 

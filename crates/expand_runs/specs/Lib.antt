@@ -9,3 +9,5 @@ pub mod Evaluating
 pub mod Worlds
 pub mod Calling
 pub mod Laws
+pub mod Counting
+pub mod Subscripts

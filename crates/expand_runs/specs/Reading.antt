@@ -8,8 +8,8 @@ use Rattle.c_tree.specs.declared.operator.Binary.{Binary}
 use Rattle.pieces.specs.Trees as tree
 use Rattle.pieces.specs.Trees.{PureTree, PureTrees}
 use Rattle.pieces.specs.Kind.{kind}
-use Rattle.piece_meaning.specs.Values.{Store}
-use Rattle.piece_meaning.specs.Pieces.{Frame, type_of, kind_at}
+use Rattle.c_meaning.specs.PieceRuns.Values.{Store}
+use Rattle.c_meaning.specs.PieceRuns.Pieces.{Frame, type_of, kind_at}
 
 abbrev mutual
   -- each variable that is read has a property

@@ -6,12 +6,12 @@ use Rattle.hls_base.specs.declared.number.ArrayId.{ArrayId}
 use Rattle.c_token.specs.declared.ctype.CType.{CType}
 use Rattle.c_value.specs.Values.{number_of}
 use Rattle.c_meaning.specs.Store.{Object, element_in}
-use Rattle.core_program.specs.Core.{CoreObjectTree}
+use Rattle.pieces.specs.Resolved.Core.{CoreObjectTree}
 use Rattle.piece_making.specs.declared.frame.Home.{Home}
 use Rattle.piece_making.specs.declared.frame.Home.TheVariants as home
-use Rattle.core_meaning.specs.Cells.{Spot, Cells}
-use Rattle.piece_meaning.specs.Values.{Store, lengths_in}
-use Rattle.piece_meaning.specs.Pieces.{Frame, kind_at}
+use Rattle.c_meaning.specs.CoreRuns.Cells.{Spot, Cells}
+use Rattle.c_meaning.specs.PieceRuns.Values.{Store, lengths_in}
+use Rattle.c_meaning.specs.PieceRuns.Pieces.{Frame, kind_at}
 use Rattle.expand_runs.specs.Reading.{variable_type}
 
 -- What is written of an object is in the variable or the array that stands for it; the variable or array has the object's type and lengths. Of an array whose declaration is not reached nothing is written.

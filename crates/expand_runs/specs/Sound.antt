@@ -4,11 +4,11 @@ use Rattle.c_token.specs.declared.ctype.CType.{CType}
 use Rattle.c_value.specs.Values.{number_of}
 use Rattle.c_value.specs.Operators.{unary_kind, binary_kind}
 use Rattle.c_tree.specs.declared.operator.Binary.{Binary}
-use Rattle.core_program.specs.declared.expression.Cell.{Cell}
-use Rattle.core_program.specs.Core as core
-use Rattle.core_program.specs.Core.{CoreTree, CoreTargetTree, CoreTrees, ArgumentTree, ArgumentTrees}
-use Rattle.core_meaning.specs.Kinds as kinds
-use Rattle.core_meaning.specs.Kinds.{kind_of}
+use Rattle.pieces.specs.declared.resolved.expression.Cell.{Cell}
+use Rattle.pieces.specs.Resolved.Core as core
+use Rattle.pieces.specs.Resolved.Core.{CoreTree, CoreTargetTree, CoreTrees, ArgumentTree, ArgumentTrees}
+use Rattle.c_meaning.specs.CoreRuns.Kinds as kinds
+use Rattle.c_meaning.specs.CoreRuns.Kinds.{kind_of}
 use Rattle.piece_making.specs.Acting.{acts, either, effects}
 use Rattle.piece_making.specs.Saving.{is_logical}
 use Rattle.expand_runs.specs.Reading.{IsNumber}

@@ -4,14 +4,14 @@ use Rattle.hls_base.specs.declared.number.VarId.{VarId}
 use Rattle.hls_base.specs.declared.number.ArrayId.{ArrayId}
 use Rattle.c_token.specs.declared.ctype.CType.{CType}
 use Rattle.c_value.specs.Values.{number_of}
-use Rattle.core_program.specs.declared.expression.Cell.{Cell}
+use Rattle.pieces.specs.declared.resolved.expression.Cell.{Cell}
 use Rattle.piece_making.specs.declared.frame.Home.{Home}
 use Rattle.piece_making.specs.declared.frame.Home.TheVariants as home
 use Rattle.piece_making.specs.declared.work.Slot.{Slot}
 use Rattle.piece_making.specs.Making.{State}
 use Rattle.piece_making.specs.Calls.{Call, home_of}
-use Rattle.core_meaning.specs.Cells.{Spot, Here, spot_of}
-use Rattle.piece_meaning.specs.Pieces.{Frame, kind_at}
+use Rattle.c_meaning.specs.CoreRuns.Cells.{Spot, Here, spot_of}
+use Rattle.c_meaning.specs.PieceRuns.Pieces.{Frame, kind_at}
 use Rattle.expand_runs.specs.Reading.{IsNumber, variable_type}
 use Rattle.expand_runs.specs.Showing.{Known, IsApart, AreBelow}
 use Rattle.expand_runs.specs.Sound.{Objects}

@@ -1,2 +1,4 @@
-//! Expansion keeps runs: the pieces of a core program run as the program does.
+//! What expansion keeps of runs, expression by expression, and how the pieces that it makes are counted.
 #![tactic(auto)]
+
+pub mod piece_counts;

@@ -5,8 +5,8 @@ use Rattle.hls_base.specs.declared.number.VarId.{VarId}
 use Rattle.hls_base.specs.declared.number.ArrayId.{ArrayId}
 use Rattle.hls_base.specs.declared.point.PointKind.{PointKind}
 use Rattle.hls_base.specs.declared.point.PointKind.TheVariants as point
-use Rattle.core_program.specs.Core as core
-use Rattle.core_program.specs.Core.{CoreTree, CoreObjectTree, CoreInitTree, CoreActionTree}
+use Rattle.pieces.specs.Resolved.Core as core
+use Rattle.pieces.specs.Resolved.Core.{CoreTree, CoreObjectTree, CoreInitTree, CoreActionTree}
 use Rattle.pieces.specs.Trees as tree
 use Rattle.pieces.specs.Trees.{PureTree}
 use Rattle.piece_making.specs.declared.frame.Home.{Home}

@@ -7,7 +7,7 @@ use Rattle.hls_base.specs.declared.point.Point.{Point}
 use Rattle.hls_base.specs.declared.point.PointKind.TheVariants as point
 use Rattle.hls_base.specs.declared.number.Kept.{Kept}
 use Rattle.c_token.specs.declared.ctype.CType.{CType}
-use Rattle.core_program.specs.Core.{CoreObjectTree, FileObjectTree, CoreFunctionTree, CoreProgramTree}
+use Rattle.pieces.specs.Resolved.Core.{CoreObjectTree, FileObjectTree, CoreFunctionTree, CoreProgramTree}
 use Rattle.pieces.specs.declared.piece.CallId.{CallId}
 use Rattle.pieces.specs.Trees as tree
 use Rattle.pieces.specs.Trees.{PieceTree, piece_row}
@@ -23,9 +23,9 @@ use Rattle.c_expand.specs.Expressions.{Given, Callee}
 use Rattle.c_expand.specs.Statements.{statements}
 use Rattle.c_expand.specs.Expansion.{expansion, parameter, parameters, locals, homes_for, end_of, run_through, within, value_of, opened, opened_as, calls, is_array, is_kept, kept_scalar, kept_scalars, first_kept, file_home, file_homes, kept_behind, top_parameter, top_parameters, outermost, top_call, top_run, top_of, top_made, named, nothing}
 use Rattle.ir_layout.specs.WellFormed.{Inside}
-use Rattle.lowered_trees.specs.Fitting.{PiecesFit, with_ends, ends_in}
+use Rattle.lower_runs.specs.LoweredTrees.Fitting.{PiecesFit, with_ends, ends_in}
 use Rattle.lower_runs.specs.Showing.{AreShort}
-use Rattle.piece_meaning.specs.Values.{lengths_in}
+use Rattle.c_meaning.specs.PieceRuns.Values.{lengths_in}
 use Rattle.expanded_pieces.specs.Jumps.{AllJumpsFit, ProgramJumpsFit}
 use Rattle.expanded_pieces.specs.Lengths.{EachObject, EachFileObject, EachFunction}
 use Rattle.expanded_pieces.specs.Laws.{ExpandedPiecesFit, ExpandedArraysAreShort}

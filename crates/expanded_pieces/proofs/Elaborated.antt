@@ -7,19 +7,19 @@ use Rattle.hls_base.specs.declared.refusal.Refusal.{Refusal}
 use Rattle.hls_base.specs.ArrayAddress.{element_count}
 use Rattle.c_tree.specs.Tree as tree
 use Rattle.c_tree.specs.Tree.{ObjectTree, StmtTree, ElseTree, FirstTree, StmtTrees, FunctionTree, ItemTree, ProgramTree}
-use Rattle.c_checked.specs.Names.{Declared}
-use Rattle.c_checked.specs.Faults.{fault_if}
-use Rattle.c_checked.specs.Calls.{with_function, declaration_faults}
-use Rattle.c_checked.specs.Expressions.{optional_faults, actions_faults}
-use Rattle.c_checked.specs.Labels.{Around, has_no_value, in_function, in_part, in_loop, in_switch, outside_faults}
-use Rattle.c_checked.specs.Lengths as lengths
-use Rattle.c_checked.specs.Lengths.{Length, usable, all_usable, with_first, lengths_of}
-use Rattle.c_checked.specs.Limits.{file_objects, limit_faults, param_places, function_arrays}
-use Rattle.c_checked.specs.Statements.{names_behind, names_in_for, statement_faults, else_faults, first_faults, block_faults, with_params, params_faults, body_faults, function_faults}
-use Rattle.c_checked.specs.Programs.{with_body, with_item, items_faults, body_names}
+use Rattle.c_meaning.specs.Checks.Names.{Declared}
+use Rattle.c_meaning.specs.Checks.Faults.{fault_if}
+use Rattle.c_meaning.specs.Checks.Calls.{with_function, declaration_faults}
+use Rattle.c_meaning.specs.Checks.Expressions.{optional_faults, actions_faults}
+use Rattle.c_meaning.specs.Checks.Labels.{Around, has_no_value, in_function, in_part, in_loop, in_switch, outside_faults}
+use Rattle.c_meaning.specs.Checks.Lengths as lengths
+use Rattle.c_meaning.specs.Checks.Lengths.{Length, usable, all_usable, with_first, lengths_of}
+use Rattle.c_meaning.specs.Checks.Limits.{file_objects, limit_faults, param_places, function_arrays}
+use Rattle.c_meaning.specs.Checks.Statements.{names_behind, names_in_for, statement_faults, else_faults, first_faults, block_faults, with_params, params_faults, body_faults, function_faults}
+use Rattle.c_meaning.specs.Checks.Programs.{with_body, with_item, items_faults, body_names}
 use Rattle.c_meaning.specs.Store.{lengths_in, within_limits, declared_by}
-use Rattle.core_program.specs.Core as core
-use Rattle.core_program.specs.Core.{CoreStmtTree, CoreStmtTrees, CoreFunctionTree, CoreObjectTree, FileObjectTree, stmt_row}
+use Rattle.pieces.specs.Resolved.Core as core
+use Rattle.pieces.specs.Resolved.Core.{CoreStmtTree, CoreStmtTrees, CoreFunctionTree, CoreObjectTree, FileObjectTree, stmt_row}
 use Rattle.c_elaborate.specs.declared.blocks.Scene.{Scene}
 use Rattle.c_elaborate.specs.declared.functions.Signature.{Signature}
 use Rattle.c_elaborate.specs.Objects.{object_elaborated}

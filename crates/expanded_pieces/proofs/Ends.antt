@@ -5,8 +5,8 @@ use Rattle.pieces.specs.declared.piece.Label.{Label}
 use Rattle.pieces.specs.Trees as tree
 use Rattle.pieces.specs.Trees.{PieceTree, PieceTrees, piece_row}
 use Rattle.ir_layout.specs.WellFormed.{Inside, has_number}
-use Rattle.lowering.specs.Lowering.{is_named}
-use Rattle.lowered_trees.specs.Fitting.{PieceFits, PiecesFit, ArmPiecesFit, with_ends, ends_in, ends_before_arm}
+use Rattle.passes.specs.Lowering.{is_named}
+use Rattle.lower_runs.specs.LoweredTrees.Fitting.{PieceFits, PiecesFit, ArmPiecesFit, with_ends, ends_in, ends_before_arm}
 
 -- ---- numbers of ends
 

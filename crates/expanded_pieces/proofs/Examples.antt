@@ -3,7 +3,7 @@ use Rattle.std.proofs.Common.{refl, true, false, [], Some, None}
 use Rattle.std.proofs.lemmas.Bool.{false≢true}
 use Rattle.hls_base.specs.declared.place.Place.{Place}
 use Rattle.c_value.specs.Values.{int_type}
-use Rattle.core_program.specs.Core as core
+use Rattle.pieces.specs.Resolved.Core as core
 use Rattle.expanded_pieces.specs.Jumps.{JumpsFit}
 
 module _ (at : Place) where

@@ -9,3 +9,7 @@ pub mod Grammar
 pub mod Elaborated
 pub mod Whole
 pub mod Examples
+pub mod BegunPieces
+pub mod ApartPoints
+pub mod BlockPoints
+pub mod AddressedArrays

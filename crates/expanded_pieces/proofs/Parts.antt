@@ -17,7 +17,7 @@ use Rattle.piece_making.specs.Acting.{spoils}
 use Rattle.piece_making.specs.Making.{State, Part, Inner, gives, then_, emit, inside, fresh, fresh_result, add_array, new_slot, note_array, next_call, next_loop, declared, set_own}
 use Rattle.piece_making.specs.Saving.{saved, all_saved, saved_if, may_skip_element, save}
 use Rattle.ir_layout.specs.WellFormed.{Inside, has_number}
-use Rattle.lowered_trees.specs.Fitting.{PieceFits, PiecesFit, with_ends, ends_in}
+use Rattle.lower_runs.specs.LoweredTrees.Fitting.{PieceFits, PiecesFit, with_ends, ends_in}
 use Rattle.expanded_pieces.proofs.Ends.{ends_more, fits_append}
 
 -- what pieces may need round them: a loop or switch to leave, a loop to go on with, and the end of a call behind them

@@ -4,8 +4,8 @@ use Rattle.std.proofs.lemmas.Bool.{false≢true}
 use Rattle.hls_base.specs.declared.place.Place.{Place}
 use Rattle.hls_base.specs.declared.point.PointKind.{PointKind}
 use Rattle.hls_base.specs.declared.point.PointKind.TheVariants as point
-use Rattle.core_program.specs.Core as core
-use Rattle.core_program.specs.Core.{CoreTree, CoreActionTree, CoreStmtTree, CoreStmtTrees, CoreElseTree}
+use Rattle.pieces.specs.Resolved.Core as core
+use Rattle.pieces.specs.Resolved.Core.{CoreTree, CoreActionTree, CoreStmtTree, CoreStmtTrees, CoreElseTree}
 use Rattle.pieces.specs.Trees as tree
 use Rattle.pieces.specs.Trees.{PieceTree, PieceTrees, piece_row}
 use Rattle.piece_making.specs.Making.{State, Part, gives, then_, inside, inside_switch, label, next_loop}
@@ -14,7 +14,7 @@ use Rattle.piece_making.specs.Calls.{Call, point_in}
 use Rattle.c_expand.specs.Expressions.{Callee, expression}
 use Rattle.c_expand.specs.Statements.{marked, tested, stepped, loop_body, repeat, branch, labelled, statement, other_branch, statements}
 use Rattle.ir_layout.specs.WellFormed.{Inside, in_body, in_step, in_arm}
-use Rattle.lowered_trees.specs.Fitting.{StepIsThere}
+use Rattle.lower_runs.specs.LoweredTrees.Fitting.{StepIsThere}
 use Rattle.expanded_pieces.specs.Lengths.{EachObject}
 use Rattle.expanded_pieces.specs.Jumps.{Begins, JumpsFit, ElseJumpsFit, AllJumpsFit}
 use Rattle.expanded_pieces.proofs.Parts.{Needs, Meets, Fits, FitsThere, Within, gives_fits, then_at, then_fits, emit_fits, loop_fits, inside_fits}

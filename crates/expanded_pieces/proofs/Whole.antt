@@ -1,8 +1,8 @@
 -- Programs of C, and the trees that they are lowered to.
 use Rattle.c_elaborate.specs.Programs.{program_elaborated}
 use Rattle.c_expand.specs.Expansion.{expansion}
-use Rattle.lowering.specs.Lowering.{scope_of}
-use Rattle.lowered_trees.proofs.Fitting.{lowered_fits}
+use Rattle.passes.specs.Lowering.{scope_of}
+use Rattle.lower_runs.proofs.LoweredTrees.Fitting.{lowered_fits}
 use Rattle.expanded_pieces.specs.Laws.{ExpandedIsWellFormed, CheckedProgramsFit}
 use Rattle.expanded_pieces.proofs.Calls.{expanded_fit, expanded_short}
 use Rattle.expanded_pieces.proofs.Grammar.{grammar_begins}

@@ -1,7 +1,7 @@
 -- Statements whose jumps lead somewhere: each break and continue stands in a loop or switch that it leaves, each label directly in a switch, and a loop begins with declarations and actions alone.
 use Rattle.std.specs.Prelude.{◌≡◌, ℕ, Bool, true, false, Some, slice_get}
-use Rattle.core_program.specs.Core as core
-use Rattle.core_program.specs.Core.{CoreStmtTree, CoreStmtTrees, CoreElseTree, CoreFunctionTree, CoreProgramTree}
+use Rattle.pieces.specs.Resolved.Core as core
+use Rattle.pieces.specs.Resolved.Core.{CoreStmtTree, CoreStmtTrees, CoreElseTree, CoreFunctionTree, CoreProgramTree}
 
 abbrev pub IsBeginning : CoreStmtTree → Type 0
 IsBeginning (core.declare object init) = Unit {0}

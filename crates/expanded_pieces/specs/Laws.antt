@@ -3,19 +3,19 @@ use Rattle.std.specs.Prelude.{◌≡◌, ℕ, List, false, [], slice_get}
 use Rattle.hls_base.specs.declared.place.Place.{Place}
 use Rattle.hls_base.specs.declared.point.Point.{Point}
 use Rattle.pieces.specs.Program.{ExpandedTree}
-use Rattle.lowering.specs.Blocks.{begun}
-use Rattle.lowering.specs.Lowering.{last, lowered, scope_of}
+use Rattle.passes.specs.Lowering.Blocks.{begun}
+use Rattle.passes.specs.Lowering.{last, lowered, scope_of}
 use Rattle.ir_layout.specs.WellFormed.{IsWellFormed}
 use Rattle.c_tree.specs.Tree.{ProgramTree}
 use Rattle.c_tree.specs.Terminals.{Terminal}
 use Rattle.c_tree.specs.Grammar.{DerivesProgram}
-use Rattle.c_checked.specs.Programs.{program_faults}
+use Rattle.c_meaning.specs.Checks.Programs.{program_faults}
 use Rattle.c_elaborate.specs.Programs.{program_elaborated}
-use Rattle.core_program.specs.Core.{CoreProgramTree}
+use Rattle.pieces.specs.Resolved.Core.{CoreProgramTree}
 use Rattle.c_expand.specs.Expansion.{expansion}
-use Rattle.lowered_trees.specs.Fitting.{PiecesFit}
+use Rattle.lower_runs.specs.LoweredTrees.Fitting.{PiecesFit}
 use Rattle.lower_runs.specs.Showing.{AreShort}
-use Rattle.piece_meaning.specs.Values.{lengths_in}
+use Rattle.c_meaning.specs.PieceRuns.Values.{lengths_in}
 use Rattle.expanded_pieces.specs.Jumps.{ProgramJumpsFit}
 use Rattle.expanded_pieces.specs.Lengths.{ProgramLengthsFit}
 use Rattle.expanded_pieces.specs.Beginning.{ProgramLoopsBegin}

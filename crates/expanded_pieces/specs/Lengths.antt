@@ -1,6 +1,6 @@
 -- What the lengths of all arrays of a program are.
 use Rattle.std.specs.Prelude.{ℕ, List, [], ◌∷◌}
-use Rattle.core_program.specs.Core.{CoreObjectTree, FileObjectTree, CoreFunctionTree, CoreProgramTree}
+use Rattle.pieces.specs.Resolved.Core.{CoreObjectTree, FileObjectTree, CoreFunctionTree, CoreProgramTree}
 use Rattle.lower_runs.specs.Showing.{AreShort}
 
 abbrev pub EachObject : (List ℕ → Type 0) → List CoreObjectTree → Type 0

@@ -1,4 +1,8 @@
-//! Pieces that programs are expanded to: what lowering takes for granted of them.
+//! What lowering takes for granted of the pieces that programs are expanded to: their points, their blocks, their arrays.
 #![tactic(auto)]
 
+pub mod addressed_arrays;
+pub mod apart_points;
+pub mod begun_pieces;
+pub mod block_points;
 pub mod laws;

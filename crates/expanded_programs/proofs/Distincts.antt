@@ -4,7 +4,7 @@ use Rattle.std.specs.Prelude.{not}
 use Rattle.std.proofs.lemmas.Option.{none-some, same_Some}
 use Rattle.hls_base.specs.declared.number.VarId.{VarId}
 use Rattle.hls_base.specs.declared.number.ArrayId.{ArrayId}
-use Rattle.core_program.specs.Core.{CoreObjectTree, FileObjectTree}
+use Rattle.pieces.specs.Resolved.Core.{CoreObjectTree, FileObjectTree}
 use Rattle.piece_making.specs.declared.frame.Home.{Home}
 use Rattle.piece_making.specs.declared.frame.Home.TheVariants as home
 use Rattle.piece_making.specs.declared.work.Slot.{Slot}
@@ -12,7 +12,7 @@ use Rattle.piece_making.specs.Making.{variable_number, array_number}
 use Rattle.piece_making.specs.Objects.{array_like, file_info, first_value}
 use Rattle.c_expand.specs.Expansion.{is_array}
 use Rattle.expanded_programs.specs.Outlines.{kept_kinds, homes_from, files_of, hosts_of, tops_from, scalar_kinds}
-use Rattle.expand_calls.proofs.Owning.{IsVariable, IsLocal, same_variable}
+use Rattle.expanded_programs.proofs.Calls.Owning.{IsVariable, IsLocal, same_variable}
 
 abbrev pub IsArrayHome : Home → Type 0
 IsArrayHome (home.Variable own) = ⊥

@@ -7,17 +7,17 @@ use Rattle.hls_base.specs.declared.number.ArrayId.{ArrayId}
 use Rattle.hls_base.specs.declared.number.Kept.{Kept}
 use Rattle.c_value.specs.Values.{pattern}
 use Rattle.c_meaning.specs.Run.{patterns, with_contents}
-use Rattle.core_program.specs.Core.{CoreObjectTree, FileObjectTree}
+use Rattle.pieces.specs.Resolved.Core.{CoreObjectTree, FileObjectTree}
 use Rattle.pieces.specs.Program.{ArrayTree, ExpandedTree}
 use Rattle.piece_making.specs.declared.frame.Home.{Home}
 use Rattle.piece_making.specs.declared.frame.Home.TheVariants as home
 use Rattle.piece_making.specs.Making.{variable_number, array_number}
 use Rattle.piece_making.specs.Objects.{array_like, file_info, first_value}
-use Rattle.core_meaning.specs.Cells.{spot, Cells}
-use Rattle.core_meaning.specs.Runs as rs
-use Rattle.piece_meaning.specs.Values.{Store}
-use Rattle.piece_meaning.specs.Runs as pr
-use Rattle.piece_meaning.specs.Runs.{type_in, words_of, if_kept}
+use Rattle.c_meaning.specs.CoreRuns.Cells.{spot, Cells}
+use Rattle.c_meaning.specs.CoreRuns.Runs as rs
+use Rattle.c_meaning.specs.PieceRuns.Values.{Store}
+use Rattle.c_meaning.specs.PieceRuns.Runs as pr
+use Rattle.c_meaning.specs.PieceRuns.Runs.{type_in, words_of, if_kept}
 use Rattle.c_expand.specs.Expansion.{is_array}
 use Rattle.expanded_programs.specs.Outlines.{keeps_from, homes_from, files_of, hosts_of, tops_from}
 use Rattle.expanded_programs.proofs.Plain.{ArePlain}

@@ -11,19 +11,19 @@ use Rattle.c_token.specs.declared.ctype.CType.{CType}
 use Rattle.c_value.specs.Values.{width, number_of}
 use Rattle.c_meaning.specs.Store.{Object}
 use Rattle.c_meaning.specs.Run.{filled, word_of, head_or_none, kept_rest}
-use Rattle.core_program.specs.Core.{CoreObjectTree, FileObjectTree}
+use Rattle.pieces.specs.Resolved.Core.{CoreObjectTree, FileObjectTree}
 use Rattle.pieces.specs.Program.{ArrayTree}
 use Rattle.piece_making.specs.declared.frame.Home.{Home}
 use Rattle.piece_making.specs.declared.frame.Home.TheVariants as home
 use Rattle.piece_making.specs.Making.{variable_number, array_number}
 use Rattle.piece_making.specs.Objects.{array_like, file_info, first_value}
-use Rattle.core_meaning.specs.Cells.{Spot, spot, Cells, Given, number_given, array_given, put}
-use Rattle.core_meaning.specs.Runs as rs
-use Rattle.piece_meaning.specs.Values.{Store}
+use Rattle.c_meaning.specs.CoreRuns.Cells.{Spot, spot, Cells, Given, number_given, array_given, put}
+use Rattle.c_meaning.specs.CoreRuns.Runs as rs
+use Rattle.c_meaning.specs.PieceRuns.Values.{Store}
 use Rattle.c_expand.specs.Expansion.{is_array}
 use Rattle.expand_runs.specs.Laws.{OneOf, AreWords, FillsObject, FillObjects, kept_objects}
 use Rattle.expand_runs.proofs.Showing.{put_here, put_other}
-use Rattle.expand_statements.specs.Scopes.{IsScalar, IsArray}
+use Rattle.expanded_programs.specs.Statements.Scopes.{IsScalar, IsArray}
 use Rattle.expanded_programs.specs.Outlines.{kept_kinds, homes_from, files_of, hosts_of, tops_from, scalar_kinds}
 use Rattle.expanded_programs.specs.Contents.{KeptHold, FilesHold, ScalarsHold, HostsHold}
 

@@ -4,11 +4,11 @@ use Rattle.std.proofs.lemmas.Option.{none-some, same_Some, slice_get_within}
 use Rattle.hls_base.specs.declared.place.Place.{Place}
 use Rattle.c_tree.specs.declared.operator.Binary.TheVariants as b
 use Rattle.c_value.specs.Values.{int_type}
-use Rattle.core_program.specs.declared.expression.Scope.TheVariants as scope
-use Rattle.core_program.specs.Core as core
-use Rattle.core_program.specs.Core.{CoreTree, stmt_row, argument_row, CoreObjectTree, CoreFunctionTree, CoreProgramTree}
+use Rattle.pieces.specs.declared.resolved.expression.Scope.TheVariants as scope
+use Rattle.pieces.specs.Resolved.Core as core
+use Rattle.pieces.specs.Resolved.Core.{CoreTree, stmt_row, argument_row, CoreObjectTree, CoreFunctionTree, CoreProgramTree}
 use Rattle.expand_runs.specs.Laws.{KeepsRuns}
-use Rattle.expand_calls.specs.Programs.{setting_of, IsFunctionSound, IsProgramSound}
+use Rattle.expanded_programs.specs.Calls.Programs.{setting_of, IsFunctionSound, IsProgramSound}
 use Rattle.expanded_programs.proofs.Whole.{expansion_kept}
 
 abbrev p : ℕ → Place

@@ -9,13 +9,13 @@ use Rattle.c_token.specs.declared.ctype.CType.{CType}
 use Rattle.c_value.specs.Values.{number_of, pattern}
 use Rattle.c_meaning.specs.Store.{Object, element_in}
 use Rattle.c_meaning.specs.Run.{filled, element_pattern, patterns}
-use Rattle.core_program.specs.Core.{FileObjectTree}
+use Rattle.pieces.specs.Resolved.Core.{FileObjectTree}
 use Rattle.piece_making.specs.declared.frame.Home.TheVariants as home
 use Rattle.piece_making.specs.Objects.{array_like, file_info}
 use Rattle.pieces.specs.Program.{ArrayTree}
-use Rattle.piece_meaning.specs.Values.{Store, lengths_in}
-use Rattle.piece_meaning.specs.Pieces.{Frame, kind_at}
-use Rattle.piece_meaning.specs.Runs.{words_from, words_of}
+use Rattle.c_meaning.specs.PieceRuns.Values.{Store, lengths_in}
+use Rattle.c_meaning.specs.PieceRuns.Pieces.{Frame, kind_at}
+use Rattle.c_meaning.specs.PieceRuns.Runs.{words_from, words_of}
 use Rattle.expand_runs.specs.Reading.{variable_type}
 use Rattle.expand_runs.specs.Showing.{Stands, IsWhole}
 

@@ -1,3 +1,5 @@
+pub mod StatementsLemmas
+pub mod Calls
 pub mod Plain
 pub mod Outlines
 pub mod Entries

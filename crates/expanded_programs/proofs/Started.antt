@@ -5,15 +5,15 @@ use Rattle.std.proofs.lemmas.Bool.Decides.{eqb_tells}
 use Rattle.c_token.specs.declared.ctype.CType.{CType}
 use Rattle.c_value.specs.Values.{number_of}
 use Rattle.c_meaning.specs.Run.{word_of, head_or_none}
-use Rattle.core_program.specs.Core.{CoreObjectTree, FileObjectTree}
+use Rattle.pieces.specs.Resolved.Core.{CoreObjectTree, FileObjectTree}
 use Rattle.pieces.specs.Program.{ArrayTree, ExpandedTree}
 use Rattle.piece_making.specs.declared.frame.Home.TheVariants as home
 use Rattle.piece_making.specs.Making.{variable_number, array_number}
 use Rattle.piece_making.specs.Objects.{array_like, first_value}
-use Rattle.piece_meaning.specs.Values.{Store, with_variable}
-use Rattle.piece_meaning.specs.Pieces.{Frame, type_of, kind_in, kind_at}
-use Rattle.piece_meaning.specs.Runs as pr
-use Rattle.piece_meaning.specs.Runs.{frame_of, type_in, with_words, with_array, with_arrays, with_kept, with_table, rest_kept, row_of}
+use Rattle.c_meaning.specs.PieceRuns.Values.{Store, with_variable}
+use Rattle.c_meaning.specs.PieceRuns.Pieces.{Frame, type_of, kind_in, kind_at}
+use Rattle.c_meaning.specs.PieceRuns.Runs as pr
+use Rattle.c_meaning.specs.PieceRuns.Runs.{frame_of, type_in, with_words, with_array, with_arrays, with_kept, with_table, rest_kept, row_of}
 use Rattle.c_expand.specs.Expansion as ex
 use Rattle.c_expand.specs.Expansion.{is_array, is_kept}
 use Rattle.expand_runs.specs.Laws.{OneOf, FillsObject, FillObjects, kept_objects}

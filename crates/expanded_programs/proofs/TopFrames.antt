@@ -10,33 +10,33 @@ use Rattle.c_token.specs.declared.ctype.CType.{CType}
 use Rattle.c_value.specs.Values.{int_type, number_of, convert}
 use Rattle.c_meaning.specs.Store.{Object, scalar}
 use Rattle.c_meaning.specs.Run.{filled}
-use Rattle.core_program.specs.Core.{CoreObjectTree, FileObjectTree, CoreFunctionTree, CoreProgramTree}
+use Rattle.pieces.specs.Resolved.Core.{CoreObjectTree, FileObjectTree, CoreFunctionTree, CoreProgramTree}
 use Rattle.piece_making.specs.declared.frame.Home.{Home}
 use Rattle.piece_making.specs.declared.frame.Home.TheVariants as home
 use Rattle.piece_making.specs.Making.{variable_number}
 use Rattle.piece_making.specs.Calls.{Call}
-use Rattle.core_meaning.specs.Cells.{Spot, spot, Cells, Given, Here, spot_given}
-use Rattle.core_meaning.specs.Runs as rs
-use Rattle.piece_meaning.specs.Values.{Store, lengths_in}
-use Rattle.piece_meaning.specs.Pieces.{Frame, type_of, kind_in}
+use Rattle.c_meaning.specs.CoreRuns.Cells.{Spot, spot, Cells, Given, Here, spot_given}
+use Rattle.c_meaning.specs.CoreRuns.Runs as rs
+use Rattle.c_meaning.specs.PieceRuns.Values.{Store, lengths_in}
+use Rattle.c_meaning.specs.PieceRuns.Pieces.{Frame, type_of, kind_in}
 use Rattle.expand_runs.specs.Growing.{IsLater}
 use Rattle.expand_runs.specs.Showing.{Known, IsShown, IsApart, IsWhole, Stands}
 use Rattle.expand_runs.proofs.Growing.{later_both}
-use Rattle.expand_statements.specs.Scopes.{Setting, IsScalar, IsArray}
-use Rattle.expand_statements.specs.Frames.{FileStands, OwnStands, IsFrame, IsScene, Relates}
-use Rattle.expand_calls.specs.Programs.{at_start, IsFunctionSound, IsProgramSound}
+use Rattle.expanded_programs.specs.Statements.Scopes.{Setting, IsScalar, IsArray}
+use Rattle.expanded_programs.specs.Statements.Frames.{FileStands, OwnStands, IsFrame, IsScene, Relates}
+use Rattle.expanded_programs.specs.Calls.Programs.{at_start, IsFunctionSound, IsProgramSound}
 use Rattle.expanded_programs.specs.Outlines.{kept_kinds, files_of, hosts_of, scalar_kinds}
-use Rattle.expand_calls.proofs.Lists.{get_taken, taken_get, taken_past, get_behind, get_within, IsRest, rest_dropped, length_dropped}
-use Rattle.expand_calls.proofs.Owning.{AreOwn, same_variable}
-use Rattle.expand_calls.proofs.Homes.{AllStand, Made, locals_stand, locals_own, locals_later}
-use Rattle.expand_calls.proofs.Callees.{setting_at, FileFirst, ResultMade, result_made}
+use Rattle.expanded_programs.proofs.Calls.Lists.{get_taken, taken_get, taken_past, get_behind, get_within, IsRest, rest_dropped, length_dropped}
+use Rattle.expanded_programs.proofs.Calls.Owning.{AreOwn, same_variable}
+use Rattle.expanded_programs.proofs.Calls.Homes.{AllStand, Made, locals_stand, locals_own, locals_later}
+use Rattle.expanded_programs.proofs.Calls.Callees.{setting_at, FileFirst, ResultMade, result_made}
 use Rattle.expanded_programs.proofs.Distincts.{AreDistinct, file_distinct, tops_distinct, tops_length, same_array, not_array_variable, IsArrayHome}
 use Rattle.expanded_programs.proofs.Entries.{HasFrom, FileEntry, TopEntry, file_entries, top_entries, hosts_earlier}
 use Rattle.expanded_programs.proofs.Filled.{filled_whole, row_stands, word_stands, info_kind, info_lengths}
-use Rattle.expand_calls.proofs.Frames.{call_calls, call_later, IsCaller}
-use Rattle.expand_calls.proofs.Giving.{parameters_stored}
+use Rattle.expanded_programs.proofs.Calls.Frames.{call_calls, call_later, IsCaller}
+use Rattle.expanded_programs.proofs.Calls.Giving.{parameters_stored}
 use Rattle.expanded_programs.proofs.Outlines.{kept_part, params_part, file_part_of, homes_part, call_part, result_part, top_call_of}
-use Rattle.expand_calls.proofs.Starting.{nothing_seen, relates_started}
+use Rattle.expanded_programs.proofs.Calls.Starting.{nothing_seen, relates_started}
 use Rattle.expanded_programs.proofs.TopStores.{e, f, kept_count, host_count, outlined, kept_types, params_types, host_arrays_, file_arrays_, later_homes, later_result, IsStarted}
 use Rattle.expanded_programs.proofs.Words.{word_number}
 

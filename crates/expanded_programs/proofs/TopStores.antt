@@ -3,24 +3,24 @@ use Rattle.std.proofs.Common.{◌≡◌, ℕ, ◌+◌, ◌∙◌, sym, ap, subst
 use Rattle.std.proofs.lemmas.List.{append_assoc}
 use Rattle.std.proofs.lemmas.Option.{slice_get_within}
 use Rattle.hls_base.specs.FileScope.{FileScope}
-use Rattle.core_program.specs.Core.{CoreObjectTree, CoreFunctionTree, CoreProgramTree}
+use Rattle.pieces.specs.Resolved.Core.{CoreObjectTree, CoreFunctionTree, CoreProgramTree}
 use Rattle.pieces.specs.Program.{ExpandedTree}
-use Rattle.piece_meaning.specs.Values.{Store}
-use Rattle.piece_meaning.specs.Pieces.{Frame}
-use Rattle.piece_meaning.specs.Runs as pr
-use Rattle.piece_meaning.specs.Runs.{frame_of, with_words, with_arrays}
+use Rattle.c_meaning.specs.PieceRuns.Values.{Store}
+use Rattle.c_meaning.specs.PieceRuns.Pieces.{Frame}
+use Rattle.c_meaning.specs.PieceRuns.Runs as pr
+use Rattle.c_meaning.specs.PieceRuns.Runs.{frame_of, with_words, with_arrays}
 use Rattle.c_expand.specs.Expansion as ex
 use Rattle.c_expand.specs.Expansion.{expansion}
 use Rattle.expand_runs.specs.Growing.{Begins}
 use Rattle.expand_runs.specs.Laws.{FillObjects, kept_objects, params_in, InputsFit}
 use Rattle.expand_runs.specs.Reading.{IsTyped}
-use Rattle.expand_calls.specs.Programs.{IsProgramSound}
+use Rattle.expanded_programs.specs.Calls.Programs.{IsProgramSound}
 use Rattle.expanded_programs.specs.Outlines.{keeps_from, kept_kinds, files_of, hosts_of, tops_from, scalar_kinds}
 use Rattle.expanded_programs.specs.Contents.{KeptHold, FilesHold, ScalarsHold, HostsHold}
-use Rattle.expand_calls.proofs.Lists.{get_before, get_behind}
-use Rattle.expand_calls.proofs.Homes.{locals_later}
-use Rattle.expand_calls.proofs.Callees.{result_made, run_grown}
-use Rattle.expand_calls.proofs.Frames.{call_later}
+use Rattle.expanded_programs.proofs.Calls.Lists.{get_before, get_behind}
+use Rattle.expanded_programs.proofs.Calls.Homes.{locals_later}
+use Rattle.expanded_programs.proofs.Calls.Callees.{result_made, run_grown}
+use Rattle.expanded_programs.proofs.Calls.Frames.{call_later}
 use Rattle.expanded_programs.proofs.Entries.{HasFrom}
 use Rattle.expanded_programs.proofs.Outlines.{IsOutlined, is_outlined, IsExpansion, is_expansion, kept_part, params_part, file_part_of, homes_part, call_part, result_part}
 use Rattle.expanded_programs.proofs.Started.{kept_set, scalars_set, hosts_set, files_set, plain_rest, kept_same, scalars_same, hosts_same}

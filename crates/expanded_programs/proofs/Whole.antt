@@ -8,7 +8,7 @@ use Rattle.hls_base.specs.declared.number.VarId.{VarId}
 use Rattle.c_token.specs.declared.ctype.CType.{CType}
 use Rattle.c_value.specs.Values.{pattern}
 use Rattle.c_meaning.specs.Run.{ended, result_pattern, patterns}
-use Rattle.core_program.specs.Core.{CoreFunctionTree, CoreProgramTree}
+use Rattle.pieces.specs.Resolved.Core.{CoreFunctionTree, CoreProgramTree}
 use Rattle.pieces.specs.Program.{ArrayTree, ExpandedTree}
 use Rattle.piece_making.specs.Objects.{array_like, file_info}
 use Rattle.hls_base.specs.declared.number.Kept.{Kept}
@@ -16,16 +16,16 @@ use Rattle.expanded_programs.specs.Outlines.{keeps_from, files_of}
 use Rattle.pieces.specs.Trees.{piece_row}
 use Rattle.piece_making.specs.declared.frame.Home.TheVariants as home
 use Rattle.piece_making.specs.Making.{State, next_call, variable_number}
-use Rattle.run_steps.specs.Steps as Steps
-use Rattle.run_steps.specs.Steps.{Outcome, Ran, ran}
-use Rattle.run_steps.specs.Same.{Follows, Same}
-use Rattle.core_meaning.specs.Cells.{spot, Cells}
-use Rattle.core_meaning.specs.Runs as rs
-use Rattle.core_meaning.specs.Runs.{core_run}
-use Rattle.piece_meaning.specs.Values.{Store}
-use Rattle.piece_meaning.specs.Pieces.{Frame, Way, pieces_run}
-use Rattle.piece_meaning.specs.Runs as pr
-use Rattle.piece_meaning.specs.Runs.{frame_of, pieces_answer, result_word}
+use Rattle.hls_base.specs.Steps as Steps
+use Rattle.hls_base.specs.Steps.{Outcome, Ran, ran}
+use Rattle.hls_base.specs.Same.{Follows, Same}
+use Rattle.c_meaning.specs.CoreRuns.Cells.{spot, Cells}
+use Rattle.c_meaning.specs.CoreRuns.Runs as rs
+use Rattle.c_meaning.specs.CoreRuns.Runs.{core_run}
+use Rattle.c_meaning.specs.PieceRuns.Values.{Store}
+use Rattle.c_meaning.specs.PieceRuns.Pieces.{Frame, Way, pieces_run}
+use Rattle.c_meaning.specs.PieceRuns.Runs as pr
+use Rattle.c_meaning.specs.PieceRuns.Runs.{frame_of, pieces_answer, result_word}
 use Rattle.c_expand.specs.Statements.{result_variable}
 use Rattle.c_expand.specs.Expansion as ex
 use Rattle.c_expand.specs.Expansion.{expansion, is_array}
@@ -34,15 +34,15 @@ use Rattle.expand_runs.specs.Growing.{IsWithin}
 use Rattle.expand_runs.specs.Laws.{IsDefined, KeepsRuns}
 use Rattle.expand_runs.specs.Showing.{IsShown}
 use Rattle.expand_runs.proofs.Rows.{run_of}
-use Rattle.expand_calls.specs.Programs.{IsProgramSound}
+use Rattle.expanded_programs.specs.Calls.Programs.{IsProgramSound}
 use Rattle.expanded_programs.specs.Laws.{ExpansionKeepsRuns}
-use Rattle.expand_calls.proofs.Lists.{taken_get}
-use Rattle.expand_calls.proofs.Returning.{GivesResult}
-use Rattle.expand_calls.proofs.Callees.{result_made, callees_keep}
-use Rattle.expand_calls.proofs.Bodies.{IsLeft, body_same}
-use Rattle.operator_results.proofs.Results.{unary_fits, binary_fits}
-use Rattle.piece_counts.proofs.Calls.{calls_counted}
-use Rattle.expand_calls.proofs.Calls.{calls_same, each_unlabelled}
+use Rattle.expanded_programs.proofs.Calls.Lists.{taken_get}
+use Rattle.expanded_programs.proofs.Calls.Returning.{GivesResult}
+use Rattle.expanded_programs.proofs.Calls.Callees.{result_made, callees_keep}
+use Rattle.expanded_programs.proofs.Calls.Bodies.{IsLeft, body_same}
+use Rattle.c_meaning.proofs.Results.{unary_fits, binary_fits}
+use Rattle.expand_runs.proofs.PieceCounts.Calls.{calls_counted}
+use Rattle.expanded_programs.proofs.Calls.Calls.{calls_same, each_unlabelled}
 use Rattle.expanded_programs.proofs.Entries.{is_array_object}
 use Rattle.expanded_programs.proofs.Filled.{array_words, scalar_words, info_kind, info_lengths}
 use Rattle.expanded_programs.proofs.Outlines.{kept_part, params_part, file_part_of, homes_part, call_part, result_part, run_part, top_call_of}

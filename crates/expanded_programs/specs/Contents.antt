@@ -2,8 +2,8 @@
 use Rattle.std.specs.Prelude.{◌≡◌, ℕ, ◌+◌, List, [], ◌∷◌, drop, slice_index, if◌then◌else◌}
 use Rattle.c_value.specs.Values.{number_of}
 use Rattle.c_meaning.specs.Run.{word_of, head_or_none}
-use Rattle.core_program.specs.Core.{CoreObjectTree, FileObjectTree}
-use Rattle.piece_meaning.specs.Values.{Store}
+use Rattle.pieces.specs.Resolved.Core.{CoreObjectTree, FileObjectTree}
+use Rattle.c_meaning.specs.PieceRuns.Values.{Store}
 use Rattle.c_expand.specs.Expansion.{is_array, is_kept}
 use Rattle.expand_runs.specs.Laws.{OneOf}
 

@@ -1,3 +1,5 @@
+pub mod Statements
+pub mod Calls
 pub mod Outlines
 pub mod Contents
 pub mod Laws

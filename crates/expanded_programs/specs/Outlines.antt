@@ -2,7 +2,7 @@
 use Rattle.std.specs.Prelude.{ℕ, ◌+◌, true, List, [], ◌∷◌, None, if◌then◌else◌}
 use Rattle.hls_base.specs.declared.number.Kept.{Kept}
 use Rattle.c_token.specs.declared.ctype.CType.{CType}
-use Rattle.core_program.specs.Core.{CoreObjectTree, FileObjectTree}
+use Rattle.pieces.specs.Resolved.Core.{CoreObjectTree, FileObjectTree}
 use Rattle.pieces.specs.Program.{ArrayTree}
 use Rattle.piece_making.specs.declared.frame.Home.{Home}
 use Rattle.piece_making.specs.declared.frame.Home.TheVariants as home

@@ -1,4 +1,5 @@
-//! Whole programs: the expansion of a core program runs as the program does.
+//! Expansion keeps runs: statements, calls and whole programs.
 #![tactic(auto)]
 
 pub mod laws;
+pub mod statements;

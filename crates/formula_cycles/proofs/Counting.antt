@@ -13,11 +13,11 @@ use Rattle.ir_core.specs.declared.cfg.Node.{Node}
 use Rattle.ir_core.specs.declared.cfg.Node.TheVariants as node
 use Rattle.ir_core.specs.declared.stamp.Untimed.{Untimed}
 use Rattle.ir_layout.specs.Nodes.{node_point}
-use Rattle.clock_ir.specs.declared.timed.Timed.{Timed}
-use Rattle.block_meaning.specs.Bodies.{Words}
-use Rattle.block_meaning.specs.TreeRuns.{holds}
-use Rattle.block_meaning.specs.FlatRuns.{to, ends, going, chosen}
-use Rattle.clock_meaning.specs.WellTimed.{IsWellTimedNode, AreWellTimed}
+use Rattle.ir_core.specs.declared.timed.Timed.{Timed}
+use Rattle.ir_core.specs.Bodies.{Words}
+use Rattle.ir_core.specs.TreeRuns.{holds}
+use Rattle.ir_core.specs.FlatRuns.{to, ends, going, chosen}
+use Rattle.clock_ir.specs.WellTimed.{IsWellTimedNode, AreWellTimed}
 use Rattle.report_rows.specs.Costs as costs
 use Rattle.report_rows.specs.Costs.{node_costs, costs_of, own_cost, weighed, end_of}
 use Rattle.cycle_report.specs.declared.report.Cost.{Cost}

@@ -3,13 +3,13 @@ use Rattle.std.proofs.Common.{◌≡◌, ◌∙◌, ℕ, refl, ap, sym, Bool, Li
 use Rattle.std.specs.Prelude.{◌&&◌}
 use Rattle.hls_base.specs.declared.point.Point.{Point}
 use Rattle.ir_core.specs.declared.body.Operand.{Operand}
-use Rattle.block_meaning.specs.Trees.{BlockTree, SequenceTree, sequence, PartTrees, no_part, more_parts, ShapeTree, fork, loop, switch, land, overlapped, SideTree, no_side, side, ArmTrees, no_arm, more_arms}
-use Rattle.numbering.specs.Numbering as n
-use Rattle.numbering.specs.Numbering.{in_loop, numbered_block, numbered_sequence, numbered_parts, numbered_shape, numbered_side, numbered_arms}
-use Rattle.conversion.specs.Merging.{Choice, Branches, branched, is_taken, choices, first_of, branches_of, opened, merged, joined, with_selection, with_selections}
-use Rattle.conversion.specs.Overlapping.{chosen_test, loop_by}
-use Rattle.conversion.specs.Conversion as c
-use Rattle.conversion.specs.Conversion.{going_on, part_before, behind, converted_sequence, converted_behind, converted_parts, converted_shape, converted_side, converted_arms}
+use Rattle.ir_core.specs.Trees.{BlockTree, SequenceTree, sequence, PartTrees, no_part, more_parts, ShapeTree, fork, loop, switch, land, overlapped, SideTree, no_side, side, ArmTrees, no_arm, more_arms}
+use Rattle.passes.specs.Numbering as n
+use Rattle.passes.specs.Numbering.{in_loop, numbered_block, numbered_sequence, numbered_parts, numbered_shape, numbered_side, numbered_arms}
+use Rattle.passes.specs.Conversion.Merging.{Choice, Branches, branched, is_taken, choices, first_of, branches_of, opened, merged, joined, with_selection, with_selections}
+use Rattle.passes.specs.Conversion.Overlapping.{chosen_test, loop_by}
+use Rattle.passes.specs.Conversion as c
+use Rattle.passes.specs.Conversion.{going_on, part_before, behind, converted_sequence, converted_behind, converted_parts, converted_shape, converted_side, converted_arms}
 use Rattle.report_rows.specs.Costs.{end_of}
 use Rattle.formula_cycles.specs.Loops.{EndsAt, LoopsEnd, PartsEnd, ShapeEnds, SideEnds, ArmsEnd}
 

@@ -12,7 +12,7 @@ use Rattle.ir_core.specs.declared.cfg.Loop.{Loop}
 use Rattle.ir_core.specs.declared.cfg.Node.{Node}
 use Rattle.ir_core.specs.declared.cfg.Node.TheVariants as node
 use Rattle.ir_core.specs.declared.stamp.Untimed.{Untimed}
-use Rattle.block_meaning.specs.Trees.{BodyTree, SequenceTree, body_of}
+use Rattle.ir_core.specs.Trees.{BodyTree, SequenceTree, body_of}
 use Rattle.ir_layout.specs.Nodes.{EndTree, NodeTree, plain, looped, node_of, case_of, node_point}
 use Rattle.ir_layout.specs.Nodes as flat
 use Rattle.ir_layout.specs.Layout.{Around, finish, laid_out}
@@ -20,11 +20,11 @@ use Rattle.formula_cycles.proofs.Places.{has_itself}
 use Rattle.report_rows.specs.Costs.{end_of}
 use Rattle.formula_cycles.specs.Ends.{targets, followers, Among, LoopsLeadToTheirEnds}
 use Rattle.hls_base.specs.declared.number.VarId.{VarId}
-use Rattle.conversion.specs.Conversion.{converted_sequence}
-use Rattle.flat_runs.specs.Laws.{numbering_of, conversion_of, tree_of, numbered_of}
+use Rattle.passes.specs.Conversion.{converted_sequence}
+use Rattle.timed_pieces.specs.FlatRuns.{numbering_of, conversion_of, tree_of, numbered_of}
 use Rattle.formula_cycles.specs.Loops.{LoopsEnd}
-use Rattle.lowering.specs.Blocks.{begun}
-use Rattle.lowering.specs.Lowering.{last}
+use Rattle.passes.specs.Lowering.Blocks.{begun}
+use Rattle.passes.specs.Lowering.{last}
 use Rattle.lower_runs.specs.Suits.{scope_of}
 use Rattle.formula_cycles.proofs.Lowered.{last_ends, lowered_ends}
 use Rattle.formula_cycles.proofs.Kept.{numbered_ends, converted_ends}

@@ -7,14 +7,14 @@ use Rattle.pieces.specs.declared.piece.Label.{Label}
 use Rattle.pieces.specs.Trees as tree
 use Rattle.pieces.specs.Trees.{PieceTree, PieceTrees}
 use Rattle.pieces.specs.Weight.{weight}
-use Rattle.block_meaning.specs.Bodies.{Shapes}
-use Rattle.block_meaning.specs.Trees.{break_, continue_, leave, BlockTree, SequenceTree, sequence, PartTrees, no_part, more_parts, ShapeTree, fork, loop, switch, land, overlapped, ArmTrees, more_arms}
-use Rattle.lowering.specs.Shapes.{is_eligible, first_point, point_of, or_at}
-use Rattle.lowering.specs.Blocks.{Scope, begun, with_exit, ends_by_test, ends_by_fork, ends_by_cases}
-use Rattle.lowering.specs.Copies.{fixed_behind, fixed_behind_shape, copied, copied_parts}
-use Rattle.lowering.specs.Lowering.{Rest, last, followed, parts_of, land_of, side_from, with_copies, own_step, stepped, is_named, piece_count, targets, other, lowered, lowered_piece, before_arm, arms}
-use Rattle.conversion.specs.Merging.{first_of}
-use Rattle.lower_control.proofs.Rests.{set_step, put_step, exit_step, test_step, fork_step, cases_step}
+use Rattle.ir_core.specs.Bodies.{Shapes}
+use Rattle.ir_core.specs.Trees.{break_, continue_, leave, BlockTree, SequenceTree, sequence, PartTrees, no_part, more_parts, ShapeTree, fork, loop, switch, land, overlapped, ArmTrees, more_arms}
+use Rattle.passes.specs.Lowering.Shapes.{is_eligible, first_point, point_of, or_at}
+use Rattle.passes.specs.Lowering.Blocks.{Scope, begun, with_exit, ends_by_test, ends_by_fork, ends_by_cases}
+use Rattle.passes.specs.Lowering.Copies.{fixed_behind, fixed_behind_shape, copied, copied_parts}
+use Rattle.passes.specs.Lowering.{Rest, last, followed, parts_of, land_of, side_from, with_copies, own_step, stepped, is_named, piece_count, targets, other, lowered, lowered_piece, before_arm, arms}
+use Rattle.passes.specs.Conversion.Merging.{first_of}
+use Rattle.lower_runs.proofs.LowerControl.Rests.{set_step, put_step, exit_step, test_step, fork_step, cases_step}
 use Rattle.report_rows.specs.Costs.{end_of}
 use Rattle.formula_cycles.specs.Loops.{EndsAt, LoopsEnd, PartsEnd, ShapeEnds, SideEnds, ArmsEnd, PiecesLoopsEnd, PieceLoopsEnd}
 

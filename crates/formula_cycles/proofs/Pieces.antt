@@ -11,21 +11,21 @@ use Rattle.ir_core.specs.declared.cfg.Cfg.{Cfg}
 use Rattle.ir_core.specs.declared.cfg.Node.{Node}
 use Rattle.ir_core.specs.declared.cfg.Node.TheVariants as node
 use Rattle.ir_core.specs.declared.stamp.Untimed.{Untimed}
-use Rattle.clock_ir.specs.declared.timed.Timed.{Timed}
-use Rattle.piece_meaning.specs.Values.{Store}
-use Rattle.piece_meaning.specs.Pieces as p
-use Rattle.run_steps.specs.Steps.{went, Ran, ran}
-use Rattle.block_meaning.specs.Bodies.{Words}
-use Rattle.block_meaning.specs.FlatRuns.{flat_run}
-use Rattle.clock_meaning.specs.WellTimed.{IsWellTimed, IsWellTimedNode}
-use Rattle.clock_meaning.specs.ClockRuns.{ended, timed_program, clock_run}
+use Rattle.ir_core.specs.declared.timed.Timed.{Timed}
+use Rattle.c_meaning.specs.PieceRuns.Values.{Store}
+use Rattle.c_meaning.specs.PieceRuns.Pieces as p
+use Rattle.hls_base.specs.Steps.{went, Ran, ran}
+use Rattle.ir_core.specs.Bodies.{Words}
+use Rattle.ir_core.specs.FlatRuns.{flat_run}
+use Rattle.clock_ir.specs.WellTimed.{IsWellTimed, IsWellTimedNode}
+use Rattle.clock_ir.specs.ClockRuns.{ended, timed_program, clock_run}
 use Rattle.clock_runs.specs.Laws.{IsEnded, run_cycles}
-use Rattle.schedule_runs.proofs.Programs.{scheduled_well, scheduled_keeps}
+use Rattle.timed_pieces.proofs.ScheduleRuns.Programs.{scheduled_well, scheduled_keeps}
 use Rattle.cycle_report.specs.declared.report.Cost.{Cost}
 use Rattle.cycle_report.specs.FormulaValue.{cycles}
 use Rattle.report_rows.specs.Costs.{node_costs, costs_of, weighed, end_of}
-use Rattle.flat_runs.specs.Laws.{has_node}
-use Rattle.flat_runs.proofs.Whole.{flat_runs}
+use Rattle.timed_pieces.specs.FlatRuns.{has_node}
+use Rattle.timed_pieces.proofs.FlatRuns.Whole.{flat_runs}
 use Rattle.timed_pieces.specs.Laws.{node_count}
 use Rattle.formula_cycles.specs.Ends.{LoopsLeadToTheirEnds}
 use Rattle.formula_cycles.specs.Laws.{IsTallyOf, AreKept, FormulaCountsRuns, FormulaCountsPieces}

@@ -2,7 +2,7 @@
 use Rattle.std.proofs.Common.{◌≡◌, ◌≢◌, ◌∙◌, ◌+◌, ℕ, suc, ap, sym, subst, arith, List, ◌∷◌, ◌++◌, Some}
 use Rattle.std.specs.Prelude.{slice_get}
 use Rattle.hls_base.specs.declared.point.Point.{Point}
-use Rattle.block_meaning.specs.Trees.{BodyTree, SequenceTree, sequence, PartTrees, no_part, more_parts, ShapeTree, fork, loop, switch, land, overlapped, SideTree, no_side, side, ArmTrees, no_arm, more_arms}
+use Rattle.ir_core.specs.Trees.{BodyTree, SequenceTree, sequence, PartTrees, no_part, more_parts, ShapeTree, fork, loop, switch, land, overlapped, SideTree, no_side, side, ArmTrees, no_arm, more_arms}
 use Rattle.ir_layout.specs.Nodes.{EndTree, NodeTree, plain, looped}
 use Rattle.ir_layout.specs.Sizes.{sequence_size, parts_size, shape_size, side_size, arms_size}
 use Rattle.ir_layout.specs.Layout.{Ahead, onto, tested, Around, laid, laid_parts, laid_shape, laid_side, laid_arms, laid_block, before_parts, ahead_of_parts, behind_shape, in_loop, in_switch, step_start, body_start}

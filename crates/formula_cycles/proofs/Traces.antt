@@ -6,12 +6,12 @@ use Rattle.ir_core.specs.declared.cfg.Node.{Node}
 use Rattle.ir_core.specs.declared.cfg.Node.TheVariants as node
 use Rattle.ir_core.specs.declared.stamp.Untimed.{Untimed}
 use Rattle.ir_layout.specs.Nodes.{node_point}
-use Rattle.run_steps.specs.Steps.{Outcome, went, undefined, waiting, Ran, goes, after, then_, pass, reached}
-use Rattle.run_steps.specs.Valued.{Valued, is, faulty, valued}
-use Rattle.block_meaning.specs.Bodies.{Shapes, Words, Ranged, operations, with_outs}
-use Rattle.block_meaning.specs.Trees.{BodyTree}
-use Rattle.block_meaning.specs.TreeRuns.{Turn, again, over, out, if_again, repeat, tested, goes_round, iterated, iteration, overlapped_run, way_behind}
-use Rattle.block_meaning.specs.FlatRuns.{to, body_of, block_left, node_run}
+use Rattle.hls_base.specs.Steps.{Outcome, went, undefined, waiting, Ran, goes, after, then_, pass, reached}
+use Rattle.hls_base.specs.Valued.{Valued, is, faulty, valued}
+use Rattle.ir_core.specs.Bodies.{Shapes, Words, Ranged, operations, with_outs}
+use Rattle.ir_core.specs.Trees.{BodyTree}
+use Rattle.ir_core.specs.TreeRuns.{Turn, again, over, out, if_again, repeat, tested, goes_round, iterated, iteration, overlapped_run, way_behind}
+use Rattle.ir_core.specs.FlatRuns.{to, body_of, block_left, node_run}
 use Rattle.formula_cycles.proofs.Sums.{Stays, stays_on}
 
 module _ (p : Point) where

@@ -11,12 +11,12 @@ use Rattle.ir_core.specs.declared.cfg.Node.{Node}
 use Rattle.ir_core.specs.declared.cfg.Node.TheVariants as node
 use Rattle.ir_core.specs.declared.stamp.Untimed.{Untimed}
 use Rattle.ir_layout.specs.Nodes.{node_point}
-use Rattle.clock_ir.specs.declared.timed.Timed.{Timed}
-use Rattle.run_steps.specs.Steps.{Outcome, went, undefined, waiting, Ran, goes, after}
-use Rattle.block_meaning.specs.Bodies.{Shapes, Words}
-use Rattle.block_meaning.specs.TreeRuns.{Way, overlapped_run}
-use Rattle.block_meaning.specs.FlatRuns.{Going, to, ends, body_of, node_run, going_on, node_then, from_node, flat_run, shapes_of}
-use Rattle.clock_meaning.specs.WellTimed.{IsWellTimed, IsWellTimedNode}
+use Rattle.ir_core.specs.declared.timed.Timed.{Timed}
+use Rattle.hls_base.specs.Steps.{Outcome, went, undefined, waiting, Ran, goes, after}
+use Rattle.ir_core.specs.Bodies.{Shapes, Words}
+use Rattle.ir_core.specs.TreeRuns.{Way, overlapped_run}
+use Rattle.ir_core.specs.FlatRuns.{Going, to, ends, body_of, node_run, going_on, node_then, from_node, flat_run, shapes_of}
+use Rattle.clock_ir.specs.WellTimed.{IsWellTimed, IsWellTimedNode}
 use Rattle.clock_runs.specs.Laws.{node_cycles, cycles_behind, cycles_at, cycles_from}
 use Rattle.clock_runs.proofs.BlockRuns.{not_waiting, not_undefined, went_parts, block_went}
 use Rattle.report_rows.specs.Costs as costs

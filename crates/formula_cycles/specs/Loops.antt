@@ -3,9 +3,9 @@ use Rattle.std.specs.Prelude.{◌≡◌}
 use Rattle.hls_base.specs.declared.point.Point.{Point}
 use Rattle.pieces.specs.Trees as tree
 use Rattle.pieces.specs.Trees.{PieceTree, PieceTrees}
-use Rattle.lowering.specs.Shapes.{first_point, or_at}
-use Rattle.block_meaning.specs.Trees.{SequenceTree, sequence, PartTrees, no_part, more_parts, ShapeTree, fork, loop, switch, land, overlapped, SideTree, no_side, side, ArmTrees, no_arm, more_arms}
-use Rattle.conversion.specs.Merging.{first_of}
+use Rattle.passes.specs.Lowering.Shapes.{first_point, or_at}
+use Rattle.ir_core.specs.Trees.{SequenceTree, sequence, PartTrees, no_part, more_parts, ShapeTree, fork, loop, switch, land, overlapped, SideTree, no_side, side, ArmTrees, no_arm, more_arms}
+use Rattle.passes.specs.Conversion.Merging.{first_of}
 use Rattle.report_rows.specs.Costs.{end_of}
 
 -- the block behind a loop begins at the End of the point of the loop's body

@@ -1,4 +1,4 @@
-//! Tests over source texts of C: their tokens, trees and faults, and the values of constants.
+//! Tests of files and output, and over source texts of C: their tokens, trees and faults, and the values of constants.
 #![tactic(auto)]
 
 #[cfg(test)]
@@ -7,6 +7,8 @@ mod calls;
 mod conflicts;
 #[cfg(test)]
 mod fault;
+#[cfg(test)]
+mod files;
 #[cfg(test)]
 mod labels;
 #[cfg(test)]

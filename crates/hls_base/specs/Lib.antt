@@ -6,3 +6,6 @@ pub mod Outside
 pub mod Memory
 pub mod Refusals
 pub mod TextPlaces
+pub mod Steps
+pub mod Valued
+pub mod Same

@@ -1,4 +1,4 @@
-//! What every crate of the compiler speaks of: texts, places, points, settings, and the outside.
+//! What every crate speaks of: texts, places, points, settings, the outside, and runs in parts.
 #![tactic(auto)]
 
 pub mod inputs;
@@ -10,7 +10,5 @@ pub mod point;
 pub mod real;
 pub mod refusal;
 pub mod settings;
-#[cfg(test)]
-mod tests;
 pub mod text;
 pub mod words;

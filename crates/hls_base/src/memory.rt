@@ -12,7 +12,7 @@ use std::alloc::{AllocError, Global};
 use std::marker::Model;
 
 /// Files in memory. Its calls are numbered from 0, over reads and writes.
-#[derive(Debug, Drop)]
+#[derive(Drop)]
 pub struct MemoryShelf {
     alloc: Global,
     files: Vec<(Text, Text)>,
@@ -213,7 +213,7 @@ impl Shelf for MemoryShelf {
 }
 
 /// Bytes that are put into memory. Its calls are numbered from 0.
-#[derive(Debug, Drop)]
+#[derive(Drop)]
 pub struct MemorySink {
     bytes: Vec<u8>,
     fails: Words,

@@ -34,7 +34,7 @@ impl<T: Drop> From<AllocFailed<T>> for ShelfError {
 }
 
 /// Why a sink did not take all the bytes: it failed, or there was no memory.
-#[derive(Clone, Copy, Debug, PartialEq, Eq)]
+#[derive(Clone, Copy, PartialEq, Eq)]
 pub enum SinkError {
     Failed,
     Memory,

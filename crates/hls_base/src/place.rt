@@ -74,7 +74,7 @@ pub fn place_after(at: Place, bytes: &[u8]) -> Place
 }
 
 /// The places of the calls that lead from the top function to a point, the outermost first.
-#[derive(Debug, Drop)]
+#[derive(Drop)]
 pub struct Path {
     places: Vec<Place>,
 }

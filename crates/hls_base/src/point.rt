@@ -5,7 +5,7 @@ use std::alloc::{AllocError, Global};
 use std::marker::Model;
 
 /// What begins at a point, or that something ends there.
-#[derive(Clone, Copy, Debug, PartialEq, Eq, PartialOrd, Ord)]
+#[derive(Clone, Copy, PartialEq, Eq, PartialOrd, Ord)]
 pub enum PointKind {
     Begin,
     Test,
@@ -16,7 +16,7 @@ pub enum PointKind {
 }
 
 /// A place that control comes to, under the calls that lead there.
-#[derive(Debug, Drop)]
+#[derive(Drop)]
 pub struct Point {
     pub path: Path,
     pub at: Place,
@@ -38,7 +38,7 @@ impl Point {
 }
 
 /// How often each point was passed. The points differ.
-#[derive(Debug, Drop)]
+#[derive(Drop)]
 pub struct Tally {
     counts: Vec<(Point, u64)>,
 }

@@ -1,7 +1,7 @@
 use crate::text::Text;
 
 /// What the user asks for: the top function's name, the multipliers and dividers of each width, the ports of each memory, whether loops are left without overlap, and the longest delay of a fused operation in units of delay, or 0 where none is fused.
-#[derive(Debug, Drop)]
+#[derive(Drop)]
 pub struct Settings {
     pub top: Text,
     pub mul: u8,
@@ -12,7 +12,7 @@ pub struct Settings {
 }
 
 /// How many multipliers and dividers of each width there are, and ports of each memory.
-#[derive(Clone, Copy, Debug, PartialEq, Eq)]
+#[derive(Clone, Copy, PartialEq, Eq)]
 pub struct Units {
     pub mul: u8,
     pub div: u8,

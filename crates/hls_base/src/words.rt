@@ -4,7 +4,7 @@ use std::alloc::{AllocError, Global};
 use std::marker::Model;
 
 /// A list of numbers, as bit patterns of values or numbers of nodes.
-#[derive(Debug, Drop)]
+#[derive(Drop)]
 pub struct Words {
     words: Vec<u64>,
 }
@@ -40,7 +40,7 @@ impl Words {
 }
 
 /// The elements of several arrays, each row by row.
-#[derive(Debug, Drop)]
+#[derive(Drop)]
 pub struct Arrays {
     arrays: Vec<Words>,
 }

@@ -8,8 +8,8 @@ use Rattle.hls_flow.specs.declared.verdict.CosimInputs.{CosimInputs}
 use Rattle.hls_flow.specs.FirstFault.{IsAccepted}
 use Rattle.hls_flow.specs.Agreeing.{AgreesInTime}
 use Rattle.hls_flow.proofs.Faults.{accepted_has_no_fault}
-use Rattle.agreed_comparisons.specs.Laws.{SaysAgree}
-use Rattle.agreed_comparisons.proofs.Found.{agreement_found}
+use Rattle.hls_flow.specs.AgreedComparisons.{SaysAgree}
+use Rattle.hls_flow.proofs.AgreedComparisons.Found.{agreement_found}
 use Rattle.command_words.specs.Commands.{Cosim}
 use Rattle.hls_cli.specs.Comparisons.{IsGiven, IsCosimAnswer, IsCosimWork}
 use Rattle.hls_cli.specs.Comparisons as comparisons

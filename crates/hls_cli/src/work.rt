@@ -35,7 +35,7 @@ const MODULE_BYTES: u32 = 67_108_865;
 const TEXT_BYTES: u32 = 16_777_217;
 
 /// The status of what the work gave, and the lines that say it.
-#[derive(Debug, Drop)]
+#[derive(Drop)]
 pub struct Answer {
     pub status: u8,
     pub lines: Text,

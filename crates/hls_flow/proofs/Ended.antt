@@ -12,13 +12,13 @@ use Rattle.pieces.specs.declared.expanded.Expanded.{Expanded}
 use Rattle.pieces.specs.Program.{ExpandedTree, expanded_of}
 use Rattle.ir_core.specs.declared.cfg.Cfg.{Cfg}
 use Rattle.ir_core.specs.declared.stamp.Untimed.{Untimed}
-use Rattle.clock_ir.specs.declared.timed.Timed.{Timed}
+use Rattle.ir_core.specs.declared.timed.Timed.{Timed}
 use Rattle.compile_steps.specs.Flat.{IsFlatOf}
 use Rattle.compile_steps.specs.Resets.{expanded_frame}
 use Rattle.compile_steps.specs.Reports.{allowed_units}
 use Rattle.source_runs.specs.Laws.{IsFaultless}
 use Rattle.cosim_levels.specs.Levels.{EndsWith}
-use Rattle.ended_machines.specs.Laws.{EndsInC, ClockedRunsEndInTime}
+use Rattle.promises.specs.EndedMachines.{EndsInC, ClockedRunsEndInTime}
 use Rattle.hls_flow.specs.Ending.{IsCompiledTo, EndsInTime, RunsEndInTime, HasEnded}
 
 pub runs_end : ClockedRunsEndInTime → (source : List ℕ) (p : ProgramTree) (index : ℕ) (name : List ℕ) → IsFaultless source p index name → expanded_weight (program_elaborated p index) ≤ 8192

@@ -2,8 +2,8 @@
 use Rattle.std.proofs.Common.{◌≡◌, ◌≤◌, ◌<◌, ℕ, List, [], sym, subst, ap, ◌∙◌, arith}
 use Rattle.hls_base.specs.declared.refusal.Refusal.{Refusal}
 use Rattle.c_tree.specs.Tree.{FunctionTree, ProgramTree}
-use Rattle.c_checked.specs.Faults.{fault}
-use Rattle.c_checked.specs.Programs.{program_faults}
+use Rattle.c_meaning.specs.Checks.Faults.{fault}
+use Rattle.c_meaning.specs.Checks.Programs.{program_faults}
 use Rattle.checked_source.specs.Sources.{IsTopFunction}
 use Rattle.checked_source.proofs.BodyOnce.{one_top, one_top_function}
 use Rattle.checked_source.proofs.Faults.{no_source_fault}

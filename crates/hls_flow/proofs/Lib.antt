@@ -8,3 +8,6 @@ pub mod Stopped
 pub mod ScalarCount
 pub mod VerdictCases
 pub mod SoakMade
+mod Forms
+pub mod AgreedComparisons
+pub mod ToldClocks

@@ -3,12 +3,12 @@ use Rattle.std.proofs.Common.{◌≡◌, ℕ, ◌≤◌, List, [], Some, sym, ap
 use Rattle.std.specs.Prelude.{slice_get}
 use Rattle.hls_base.specs.declared.settings.Settings.{Settings}
 use Rattle.c_tree.specs.Tree.{FunctionTree, ProgramTree}
-use Rattle.c_checked.specs.Programs.{program_faults, top_name}
+use Rattle.c_meaning.specs.Checks.Programs.{program_faults, top_name}
 use Rattle.rtl_core.specs.Netlist.{Netlist}
 use Rattle.verilog_print.specs.PrintableNames.{HasPrintableNames}
 use Rattle.cycle_report.specs.PlainReport.{PlainReport}
 use Rattle.cycle_report.specs.ReportForm.{IsName, IsSettings}
-use Rattle.cosim_pins.specs.FunctionPins.{interface_of}
+use Rattle.cosim_levels.specs.Pins.FunctionPins.{interface_of}
 use Rattle.checked_source.specs.Sources.{IsTheProgramOf, end_of}
 use Rattle.checked_source.proofs.BodyOnce.{top_of}
 use Rattle.c_elaborate.specs.Programs.{program_elaborated}
@@ -16,15 +16,15 @@ use Rattle.pieces.specs.Program.{ExpandedTree}
 use Rattle.c_expand.specs.Expansion.{expansion, expanded_weight}
 use Rattle.compile_steps.specs.Reports.{allowed_units}
 use Rattle.source_runs.specs.Laws.{IsFaultless}
-use Rattle.compiled_answers.specs.Laws.{AnswersAlways}
-use Rattle.compiled_answers.proofs.Whole.{answer}
-use Rattle.long_runs.specs.Laws.{RunsAreLong}
-use Rattle.long_runs.proofs.Whole.{runs_long}
+use Rattle.source_answers.specs.CompiledAnswers.{AnswersAlways}
+use Rattle.source_answers.proofs.CompiledAnswers.Whole.{answer}
+use Rattle.compile_steps.specs.LongRuns.{RunsAreLong}
+use Rattle.compile_steps.proofs.LongRuns.Whole.{runs_long}
 use Rattle.c_meaning.specs.Run.{function_at}
-use Rattle.design_promise.specs.Promise.{KeepsPromise}
-use Rattle.design_promise.proofs.Whole.{promise_kept}
-use Rattle.compile_flow.specs.Compilable.{BecomesCompilable}
-use Rattle.compile_flow.proofs.Compilable.{accepted_compilable}
+use Rattle.promises.specs.DesignPromise.Promise.{KeepsPromise}
+use Rattle.promises.proofs.DesignPromise.Whole.{promise_kept}
+use Rattle.promises.specs.Compilable.{BecomesCompilable}
+use Rattle.promises.proofs.Compilable.{accepted_compilable}
 use Rattle.hls_flow.specs.FirstFault.{IsAccepted}
 use Rattle.hls_flow.specs.Synthesis.{AreInRange, IsScheduledReport, IsSynthesis}
 use Rattle.hls_flow.specs.Made.{HasScheduledCircuit, HasScheduledTexts}

@@ -4,7 +4,7 @@ use Rattle.std.proofs.lemmas.Bool.{cases_Bool, and_parts, eqb-true}
 use Rattle.c_tree.specs.Tree.{ParamTree}
 use Rattle.c_meaning.specs.Run.{is_array_parameter}
 use Rattle.c_meaning.specs.FittingInputs.{word_fits, first_fits, scalars_fit, arrays_fit, inputs_fit}
-use Rattle.cosim_pins.specs.FunctionPins.{scalar_bits}
+use Rattle.cosim_levels.specs.Pins.FunctionPins.{scalar_bits}
 
 module _ (p : ParamTree) (ps : List ParamTree) (others : (words : List ℕ) → scalars_fit ps words ≡ true → length words ≡ length (scalar_bits ps)) where
   scalar : (words : List ℕ) → first_fits words (word_fits p.object.kind) (scalars_fit ps) ≡ true → length words ≡ suc (length (scalar_bits ps))

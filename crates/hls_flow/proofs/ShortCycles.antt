@@ -7,13 +7,13 @@ use Rattle.c_meaning.specs.Run.{c_run, first_contents}
 use Rattle.rtl_core.specs.Netlist.{Netlist}
 use Rattle.cycle_report.specs.PlainReport.{PlainReport}
 use Rattle.cycle_report.specs.FormulaValue.{cycles}
-use Rattle.cosim_pins.specs.declared.drive.Shown.{Shown}
-use Rattle.cosim_pins.specs.FunctionPins.{interface_of}
-use Rattle.cosim_pins.specs.ModuleRun.{module_run}
+use Rattle.cosim_levels.specs.declared.pins.drive.Shown.{Shown}
+use Rattle.cosim_levels.specs.Pins.FunctionPins.{interface_of}
+use Rattle.cosim_levels.specs.Pins.ModuleRun.{module_run}
 use Rattle.cosim_levels.specs.Levels.{EndsWith}
 use Rattle.driven_circuits.specs.Driven.{AgreesWithC, EndsInC}
 use Rattle.driven_circuits.proofs.Whole.{ends_in_limit}
-use Rattle.long_runs.specs.Laws.{RunsAreLong}
+use Rattle.compile_steps.specs.LongRuns.{RunsAreLong}
 
 -- a module that agrees shows the end of a run within as many cycles as are waited for
 pub agreed_cycles : (p : ProgramTree) (top : ℕ) (f : FunctionTree) (report : PlainReport) (d : Netlist) → AgreesWithC p top f report d → RunsAreLong p top report

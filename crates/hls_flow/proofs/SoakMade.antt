@@ -8,7 +8,7 @@ use Rattle.c_meaning.specs.Run.{function_at}
 use Rattle.rtl_core.specs.Netlist.{Netlist}
 use Rattle.cycle_report.specs.PlainReport.{PlainReport}
 use Rattle.driven_circuits.specs.Driven.{AgreesWithC}
-use Rattle.soak_text.specs.SoakProgram.{program_text, elements, argument, count_products}
+use Rattle.cosim_levels.specs.SoakProgram.{program_text, elements, argument, count_products}
 use Rattle.hls_flow.specs.declared.soak.Summary.{Summary}
 use Rattle.hls_flow.specs.SoakRun.{soak_settings, IsCompiled, IsAgreedRun, IsSoakRun}
 use Rattle.hls_flow.proofs.Made.{runs_are_long}

@@ -4,13 +4,13 @@ use Rattle.std.specs.Option.{option_map}
 use Rattle.hls_base.specs.declared.place.Place.{Place}
 use Rattle.hls_base.specs.declared.refusal.Refusal.{Refusal}
 use Rattle.c_tree.specs.Tree.{FunctionTree, ProgramTree}
-use Rattle.c_checked.specs.Programs.{program_faults, top_name}
-use Rattle.core_program.specs.Core.{CoreFunctionTree}
+use Rattle.c_meaning.specs.Checks.Programs.{program_faults, top_name}
+use Rattle.pieces.specs.Resolved.Core.{CoreFunctionTree}
 use Rattle.c_elaborate.specs.Programs.{program_elaborated}
 use Rattle.c_expand.specs.Expansion.{top_of, IsOverweight}
 use Rattle.checked_source.specs.Sources.{IsTheProgramOf, IsTopFunction}
 use Rattle.checked_source.proofs.BodyOnce as bodies
-use Rattle.long_runs.proofs.Places.{top_place}
+use Rattle.compile_steps.proofs.LongRuns.Places.{top_place}
 use Rattle.hls_flow.specs.FirstFault as f
 use Rattle.hls_flow.specs.FirstFault.{IsTooLarge, IsFirstFault}
 

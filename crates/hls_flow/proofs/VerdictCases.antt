@@ -3,7 +3,7 @@ use Rattle.std.proofs.Common.{◌≡◌, ℕ, ◌≤◌, true, List, [], Option,
 use Rattle.std.specs.Prelude.{is_some, slice_get, if◌then◌else◌}
 use Rattle.c_tree.specs.Tree as tree
 use Rattle.c_tree.specs.Tree.{FunctionTree, ProgramTree}
-use Rattle.c_checked.specs.Programs.{program_faults, top_name, body_name_of}
+use Rattle.c_meaning.specs.Checks.Programs.{program_faults, top_name, body_name_of}
 use Rattle.c_meaning.specs.declared.outcome.Final.{Final}
 use Rattle.checked_source.specs.Sources.{IsTheProgramOf}
 use Rattle.c_elaborate.specs.Programs.{program_elaborated}

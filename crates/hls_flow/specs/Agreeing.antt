@@ -2,10 +2,10 @@
 use Rattle.std.specs.Prelude.{◌≤◌, ◌<◌}
 use Rattle.c_meaning.specs.declared.outcome.Final.{Final}
 use Rattle.c_meaning.specs.Run.{first_contents}
-use Rattle.c_box.specs.CAnswers.{c_answers}
+use Rattle.cosim_levels.specs.CAnswers.{c_answers}
 use Rattle.rtl_core.specs.Agreement.{Agrees}
 use Rattle.cycle_report.specs.FormulaValue.{cycles}
-use Rattle.cosim_pins.specs.FunctionPins.{interface_of}
+use Rattle.cosim_levels.specs.Pins.FunctionPins.{interface_of}
 use Rattle.cosim_levels.specs.Levels.{EndsWith}
 use Rattle.hls_flow.specs.FirstFault.{IsAccepted}
 use Rattle.hls_flow.specs.Verdicts.{Files, AreFiles, run_in_c}

@@ -7,11 +7,11 @@ use Rattle.pieces.specs.Program.{ExpandedTree}
 use Rattle.ir_core.specs.declared.cfg.Cfg.{Cfg}
 use Rattle.ir_core.specs.declared.stamp.Untimed.{Untimed}
 use Rattle.ir_lower.specs.Frames.{frame_view}
-use Rattle.clock_ir.specs.declared.timed.Timed.{Timed}
-use Rattle.block_meaning.specs.Bodies.{Words}
-use Rattle.block_meaning.specs.FirstContents.{first_words}
-use Rattle.clock_meaning.specs.ClockRuns.{timed_program}
-use Rattle.clock_lines.specs.Regions.{IsOrderlyProgram}
+use Rattle.ir_core.specs.declared.timed.Timed.{Timed}
+use Rattle.ir_core.specs.Bodies.{Words}
+use Rattle.ir_core.specs.FirstContents.{first_words}
+use Rattle.clock_ir.specs.ClockRuns.{timed_program}
+use Rattle.clock_machine.specs.Lines.Regions.{IsOrderlyProgram}
 use Rattle.clock_machine.specs.Runs.{RunEndsAfter}
 use Rattle.clock_machine.specs.Standing.{IsWholeProgram}
 use Rattle.clock_machine.specs.Starts.{IsNamed}

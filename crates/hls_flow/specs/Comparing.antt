@@ -8,7 +8,7 @@ use Rattle.c_meaning.specs.declared.outcome.Final.{Final}
 use Rattle.rtl_core.specs.Netlist.{netlist_of}
 use Rattle.cycle_report.specs.PlainReport.{plain_of}
 use Rattle.cycle_report.specs.FormulaValue.{cycles}
-use Rattle.cosim_pins.specs.declared.drive.Shown.{Shown}
+use Rattle.cosim_levels.specs.declared.pins.drive.Shown.{Shown}
 use Rattle.cosim_levels.specs.declared.verdict.Difference.{Difference}
 use Rattle.cosim_levels.specs.Verdicts.{PlainVerdict, agree}
 use Rattle.cosim_levels.specs.Comparison.{result_number, array_parameters, shown_arrays, first_difference}

@@ -11,12 +11,12 @@ use Rattle.pieces.specs.Program.{ExpandedTree}
 use Rattle.ir_core.specs.declared.cfg.Cfg.{Cfg}
 use Rattle.ir_core.specs.declared.stamp.Untimed.{Untimed}
 use Rattle.ir_lower.specs.Frames.{frame_view}
-use Rattle.clock_ir.specs.declared.timed.Timed.{Timed}
+use Rattle.ir_core.specs.declared.timed.Timed.{Timed}
 use Rattle.compile_steps.specs.Flat.{IsFlatOf}
 use Rattle.compile_steps.specs.Resets.{expanded_frame}
 use Rattle.compile_steps.specs.Reports.{allowed_units, IsTimed}
 use Rattle.source_runs.specs.Laws.{IsFaultless}
-use Rattle.ended_machines.specs.Laws.{EndsInC, EndsInEdges}
+use Rattle.promises.specs.EndedMachines.{EndsInC, EndsInEdges}
 
 -- The expanded program is compiled with these settings to this one, with these times.
 pub record IsCompiledTo (e : ExpandedTree) (settings : Settings) (untimed : Cfg Untimed) (timed : Cfg Timed) : Type 0 where

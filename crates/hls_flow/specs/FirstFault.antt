@@ -2,7 +2,7 @@
 use Rattle.std.specs.Prelude.{◌≡◌, ◌≤◌, ◌<◌, ℕ, List, []}
 use Rattle.hls_base.specs.declared.refusal.Refusal.{Refusal}
 use Rattle.c_tree.specs.Tree.{FunctionTree, ProgramTree}
-use Rattle.c_checked.specs.Programs.{program_faults}
+use Rattle.c_meaning.specs.Checks.Programs.{program_faults}
 use Rattle.checked_source.specs.Sources.{IsTheProgramOf, IsTopFunction}
 use Rattle.checked_source.specs.SourceFaults.{IsSourceFault}
 use Rattle.c_elaborate.specs.Programs.{program_elaborated}

@@ -8,3 +8,5 @@ pub mod Verdicts
 pub mod Agreeing
 pub mod Comparing
 pub mod SoakRun
+pub mod AgreedComparisons
+pub mod ToldClocks

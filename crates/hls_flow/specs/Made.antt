@@ -4,7 +4,7 @@ use Rattle.hls_base.specs.declared.settings.Settings.{Settings}
 use Rattle.pieces.specs.Program.{ExpandedTree}
 use Rattle.rtl_core.specs.Netlist.{Netlist}
 use Rattle.cycle_report.specs.PlainReport.{PlainReport}
-use Rattle.compile_flow.specs.Circuits.{HasCircuit}
+use Rattle.promises.specs.Circuits.{HasCircuit}
 use Rattle.hls_flow.specs.Synthesis.{HasTexts, IsScheduledReport}
 
 -- the report is that of an expanded program with times, and the circuit is built for it

@@ -2,24 +2,24 @@
 use Rattle.std.specs.Prelude.{◌≡◌, ℕ, ◌≤◌, false, List, [], ◌∷◌, codes, slice_get, Some, None}
 use Rattle.hls_base.specs.declared.settings.Settings.{Settings}
 use Rattle.c_tree.specs.Tree.{FunctionTree, ProgramTree}
-use Rattle.c_checked.specs.Programs.{program_faults, top_name}
+use Rattle.c_meaning.specs.Checks.Programs.{program_faults, top_name}
 use Rattle.c_meaning.specs.declared.outcome.Final.{Final}
 use Rattle.c_meaning.specs.Run.{c_run, function_at, first_contents}
 use Rattle.rtl_core.specs.Netlist.{Netlist}
 use Rattle.rtl_core.specs.Valid.{IsValid}
 use Rattle.cycle_report.specs.PlainReport.{PlainReport}
 use Rattle.cycle_report.specs.FormulaValue.{cycles}
-use Rattle.cosim_pins.specs.declared.drive.Shown.{Shown}
-use Rattle.cosim_pins.specs.FunctionPins.{interface_of}
-use Rattle.cosim_pins.specs.ModuleRun.{module_run}
+use Rattle.cosim_levels.specs.declared.pins.drive.Shown.{Shown}
+use Rattle.cosim_levels.specs.Pins.FunctionPins.{interface_of}
+use Rattle.cosim_levels.specs.Pins.ModuleRun.{module_run}
 use Rattle.cosim_levels.specs.Comparison.{first_difference}
 use Rattle.cosim_levels.specs.Levels.{EndsWith}
-use Rattle.soak_text.specs.SoakProgram.{program_text, elements, argument, count_products}
+use Rattle.cosim_levels.specs.SoakProgram.{program_text, elements, argument, count_products}
 use Rattle.checked_source.specs.Sources.{IsTheProgramOf}
 use Rattle.c_elaborate.specs.Programs.{program_elaborated}
 use Rattle.c_expand.specs.Expansion.{expansion, expanded_weight}
-use Rattle.long_runs.specs.Laws.{RunsAreLong}
-use Rattle.design_promise.specs.Promise.{KeepsPromise}
+use Rattle.compile_steps.specs.LongRuns.{RunsAreLong}
+use Rattle.promises.specs.DesignPromise.Promise.{KeepsPromise}
 use Rattle.hls_flow.specs.FirstFault.{IsAccepted, expansion_of}
 use Rattle.hls_flow.specs.Synthesis.{IsScheduledReport}
 use Rattle.hls_flow.specs.declared.soak.Summary.{Summary}

@@ -10,16 +10,16 @@ use Rattle.cycle_report.specs.PlainReport.{PlainReport}
 use Rattle.cycle_report.specs.ReportForm.{IsReport}
 use Rattle.ir_core.specs.declared.cfg.Cfg.{Cfg}
 use Rattle.ir_core.specs.declared.stamp.Untimed.{Untimed}
-use Rattle.clock_ir.specs.declared.timed.Timed.{Timed}
+use Rattle.ir_core.specs.declared.timed.Timed.{Timed}
 use Rattle.pieces.specs.Program.{ExpandedTree}
 use Rattle.ir_lower.specs.Frames.{frame_view}
 use Rattle.compile_steps.specs.Flat.{IsFlatOf}
 use Rattle.compile_steps.specs.Resets.{expanded_frame, AreAddressable, reset_cycles}
 use Rattle.compile_steps.specs.Reports.{allowed_units, IsTimed, EachNodeCounts, ReportsDesign, IsReportOf, KeepsSettings}
-use Rattle.compiled_answers.specs.Laws.{AnswersAlways}
-use Rattle.long_runs.specs.Laws.{RunsAreLong}
-use Rattle.cosim_pins.specs.FunctionPins.{interface_of}
-use Rattle.c_box.specs.CAnswers.{c_answers}
+use Rattle.source_answers.specs.CompiledAnswers.{AnswersAlways}
+use Rattle.compile_steps.specs.LongRuns.{RunsAreLong}
+use Rattle.cosim_levels.specs.Pins.FunctionPins.{interface_of}
+use Rattle.cosim_levels.specs.CAnswers.{c_answers}
 use Rattle.hls_flow.specs.FirstFault.{IsFirstFault, IsAccepted, expansion_of}
 
 -- the ranges of the numbers that a user can ask for

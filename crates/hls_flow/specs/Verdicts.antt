@@ -15,10 +15,10 @@ use Rattle.verilog_read.specs.NamePlace.{IsNamePlace}
 use Rattle.cycle_report.specs.PlainReport.{PlainReport}
 use Rattle.cycle_report.specs.ReportForm.{IsReport, IsRefusedAs, largest_report}
 use Rattle.cycle_report.specs.FormulaValue.{cycles}
-use Rattle.cosim_pins.specs.declared.drive.Shown.{Shown}
-use Rattle.cosim_pins.specs.FunctionPins.{interface_of}
-use Rattle.cosim_pins.specs.ModuleRun.{module_run}
-use Rattle.run_file.specs.RunFile.{reading_of, inputs, refused}
+use Rattle.cosim_levels.specs.declared.pins.drive.Shown.{Shown}
+use Rattle.cosim_levels.specs.Pins.FunctionPins.{interface_of}
+use Rattle.cosim_levels.specs.Pins.ModuleRun.{module_run}
+use Rattle.cosim_levels.specs.RunFile.{reading_of, inputs, refused}
 use Rattle.cosim_levels.specs.Verdicts.{PlainVerdict, run_line, module_bad, report_bad}
 use Rattle.c_elaborate.specs.Programs.{program_elaborated}
 use Rattle.c_expand.specs.Expansion.{expansion}

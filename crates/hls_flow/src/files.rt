@@ -7,22 +7,22 @@ ghost use Rattle.rtl_core.specs.ModuleText.{IsModuleText};
 ghost use Rattle.verilog_syntax.specs.TextSyntax.{limit};
 ghost use Rattle.verilog_read.specs.NamePlace.{IsNamePlace};
 ghost use Rattle.cycle_report.specs.PlainReport.{plain_of};
-ghost use Rattle.cosim_pins.specs.FunctionPins.{interface_of, plain};
-ghost use Rattle.run_file.specs.RunFile.{reading_of, inputs};
+ghost use Rattle.cosim_levels.specs.Pins.FunctionPins.{interface_of, plain};
+ghost use Rattle.cosim_levels.specs.RunFile.{reading_of, inputs};
 ghost use Rattle.cosim_levels.specs.Verdicts.{IfStopped};
 ghost use Rattle.hls_flow.specs.Verdicts.{HasReport, HasModule, IsBadReport, IsBadModule, IsBadLine, AreFiles, IsStoppedAtFiles};
 ghost use Rattle.hls_flow.specs.Comparing.{files_of};
 
 use crate::verdict::CosimInputs;
 use c_tree::function::Function;
+use cosim_levels::fault::RunFault;
+use cosim_levels::pins::interface::{Interface, has_pins, interface_of};
 use cosim_levels::verdict::{Stop, Verdict};
-use cosim_pins::interface::{Interface, has_pins, interface_of};
 use cycle_report::report::Report;
 use hls_base::inputs::Inputs;
 use hls_base::place::Place;
 use hls_base::refusal::{Fail, Refusal};
 use rtl_core::design::Design;
-use run_file::fault::RunFault;
 use std::alloc::{AllocError, Global};
 use verilog_read::name_place;
 
@@ -100,7 +100,7 @@ fn inputs_of(alloc: Global, given: &CosimInputs, function: &Function) -> Result<
     ensures fit { IfOk result (λ i. IsTrue (inputs_fit (function_of function.now).params i.scalars i.arrays)) }
     ensures refused { IfStopped result (IsBadLine given.now (function_of function.now)) }
 {
-    match run_file::read::read(alloc, &function.params, given.run.items()) {
+    match cosim_levels::read::read(alloc, &function.params, given.run.items()) {
         Ok(inputs) => Ok(inputs),
         Err(RunFault::Line(line)) => Err(Stop::Answer(Verdict::RunLine(line))),
         Err(RunFault::Memory) => Err(Stop::Memory),

@@ -1,12 +1,17 @@
-//! From the bytes of a source to those of a module and of its report, and back from these: the levels of a program are compared.
+//! From a source to the texts of module and report; comparison.
 #![tactic(auto)]
 
+pub mod agreed_comparisons;
+pub mod circuit_text;
 pub mod cosim;
 mod files;
+mod form;
 pub mod laws;
 mod machines;
+pub mod report_text;
 mod scheduled;
 pub mod soak;
 pub mod synth;
+pub mod told_clocks;
 mod top;
 pub mod verdict;

@@ -3,13 +3,13 @@ ghost use Rattle.std.specs.Prelude.{IfOk};
 ghost use Rattle.hls_flow.specs.Clocked.{TakesEdges};
 ghost use Rattle.hls_flow.specs.Ending.{EndsInTime};
 
-use clock_ir::timed::Timed;
 use clock_machine::machine::ClockMachine;
+use flat_programs::machine::machine::SeqMachine;
 use hls_base::inputs::Inputs;
 use ir_core::cfg::Cfg;
+use ir_core::machine::Machine;
 use ir_core::stamp::Untimed;
-use machine_laws::machine::Machine;
-use seq_machine::machine::SeqMachine;
+use ir_core::timed::Timed;
 use std::alloc::{AllocError, Global};
 
 /// Runs a compiled program operation by operation.

@@ -4,13 +4,13 @@ ghost use Rattle.pieces.specs.Program.{expanded_of};
 ghost use Rattle.rtl_core.specs.Netlist.{netlist_of};
 ghost use Rattle.cycle_report.specs.PlainReport.{plain_of};
 ghost use Rattle.compile_steps.specs.Reports.{KeepsSettings};
-ghost use Rattle.compile_flow.specs.Compilable.{BecomesCompilable};
+ghost use Rattle.promises.specs.Compilable.{BecomesCompilable};
 ghost use Rattle.hls_flow.specs.Ending.{IsCompiledTo};
 ghost use Rattle.hls_flow.specs.Made.{HasScheduledCircuit};
 
-use compile_flow::compile::{Compiled, compile_expanded};
 use hls_base::settings::Settings;
 use pieces::expanded::Expanded;
+use promises::compile::{Compiled, compile_expanded};
 use std::alloc::{AllocError, Global};
 
 /// The circuit and the report of an expanded program.

@@ -4,34 +4,34 @@ ghost use Rattle.c_meaning.specs.FittingInputs.{inputs_fit};
 ghost use Rattle.rtl_core.specs.Netlist.{netlist_of};
 ghost use Rattle.cycle_report.specs.PlainReport.{plain_of};
 ghost use Rattle.driven_circuits.specs.Driven.{AgreesWithC};
-ghost use Rattle.long_runs.specs.Laws.{RunsAreLong};
+ghost use Rattle.compile_steps.specs.LongRuns.{RunsAreLong};
 ghost use Rattle.hls_flow.specs.Ending.{RunsEndInTime};
 ghost use Rattle.hls_flow.specs.SoakRun.{soak_settings, IsCompiled, IsAgreedRun, IsSoakRun};
 
 use crate::machines::clocked_steps;
 use crate::scheduled::scheduled;
 use crate::top::top_of;
-use c_checked::checked::Checked;
+use c_machine::state::inputs::inputs_fit;
+use c_meaning::checks::Checked;
 use c_meaning::outcome::Final;
-use c_state::inputs::inputs_fit;
 use c_tree::function::Function;
 use checked_source::read::read_checked;
-use compile_flow::compile::Compiled;
 use compile_steps::steps::expanded;
 use cosim_levels::difference::first_difference;
 use cosim_levels::levels::{c_level, module_level, short_cycles};
+use cosim_levels::pins::interface::interface_of;
+use cosim_levels::program::soak_program;
 use cosim_levels::verdict::Stop;
-use cosim_pins::interface::interface_of;
-use ended_machines::laws::clocked_runs_end_in_time;
 use hls_base::inputs::Inputs;
 use hls_base::refusal::{Fail, impossible};
 use hls_base::settings::Settings;
 use hls_base::text::Text;
-use soak_text::program::soak_program;
+use promises::compile::Compiled;
+use promises::ended_machines::clocked_runs_end_in_time;
 use std::alloc::{AllocError, Global};
 
 /// What a made program comes to: how many of its lines multiply, the cycles of its run, and its result.
-#[derive(Clone, Copy, Debug, PartialEq, Eq)]
+#[derive(Clone, Copy, PartialEq, Eq)]
 pub struct Summary {
     pub muls: u32,
     pub cycles: u128,

@@ -10,19 +10,19 @@ ghost use Rattle.cycle_report.specs.ReportForm.{IsName, IsSettings, IsReport};
 ghost use Rattle.hls_flow.specs.FirstFault.{IsFirstFault};
 ghost use Rattle.hls_flow.specs.Synthesis.{AreInRange, IsSynthesis};
 
+use crate::circuit_text::circuit_text;
+use crate::report_text::report_text;
 use crate::scheduled::scheduled;
 use checked_source::read::read_checked;
-use compile_flow::compile::Compiled;
 use compile_steps::steps::expanded;
 use hls_base::refusal::Fail;
 use hls_base::settings::Settings;
 use hls_base::text::Text;
+use promises::compile::Compiled;
 use std::alloc::{AllocError, Global};
-use synth_texts::circuit_text::circuit_text;
-use synth_texts::report_text::report_text;
 
 /// The texts of a module and of its report.
-#[derive(Debug, Drop)]
+#[derive(Drop)]
 pub struct Made {
     pub module: Text,
     pub report: Text,

@@ -1,9 +1,9 @@
 ghost use Rattle.std.specs.Prelude.{◌≡◌, true, map, slice_get, is_some, Some, IsSome};
 ghost use Rattle.c_tree.specs.Tree as tree;
 ghost use Rattle.c_tree.specs.View.{program_of, item_of, function_of};
-ghost use Rattle.c_checked.specs.Programs.{body_name_of};
+ghost use Rattle.c_meaning.specs.Checks.Programs.{body_name_of};
 
-use c_checked::checked::Checked;
+use c_meaning::checks::Checked;
 use c_tree::function::Function;
 use c_tree::program::Item;
 

@@ -15,10 +15,10 @@ use Rattle.ir_core.specs.declared.tree.Sequence.{Sequence, out-Sequence, roll-Se
 use Rattle.ir_core.specs.declared.tree.Shape.TheVariants as v
 use Rattle.ir_core.specs.declared.tree.Shape.TheOpen.{Shape-F}
 use Rattle.ir_core.specs.declared.tree.Shape.TheFolds.{fold_out-Part, fold_out-Sequence, fold-roll-Sequence, fold-roll-Shape}
-use Rattle.block_meaning.specs.Trees.{BlockTree, ShapeTree, PartTree, PartTrees, no_part, more_parts, ArmTrees, no_arm, more_arms, SequenceTree, sequence, part_row, part_of, shape_of, block_of, shape_step, part_step, sequence_step, fork, loop, switch, side_of, arm_row, sequence_of, exit_of, break_, overlapped, body_of}
-use Rattle.conversion.specs.Merging.{is_only, test_of}
-use Rattle.conversion.specs.Overlapping.{test_if, test_alone}
-use Rattle.conversion.specs.Conversion.{Scope, converted_sequence, converted_behind, converted_parts, converted_shape, converted_arms}
+use Rattle.ir_core.specs.Trees.{BlockTree, ShapeTree, PartTree, PartTrees, no_part, more_parts, ArmTrees, no_arm, more_arms, SequenceTree, sequence, part_row, part_of, shape_of, block_of, shape_step, part_step, sequence_step, fork, loop, switch, side_of, arm_row, sequence_of, exit_of, break_, overlapped, body_of}
+use Rattle.passes.specs.Conversion.Merging.{is_only, test_of}
+use Rattle.passes.specs.Conversion.Overlapping.{test_if, test_alone}
+use Rattle.passes.specs.Conversion.{Scope, converted_sequence, converted_behind, converted_parts, converted_shape, converted_arms}
 use Rattle.if_convert.specs.declared.line.Line.{Line}
 use Rattle.if_convert.specs.Blocks.{parts_before, behind_shape, last_of, before_last}
 

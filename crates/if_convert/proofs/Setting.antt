@@ -8,7 +8,7 @@ use Rattle.hls_base.specs.declared.number.VarId.{VarId}
 use Rattle.hls_base.specs.contracts.number.VarIdPartialEq.TheImpl as var_impl
 use Rattle.indexmap.specs.IndexMap.{insert_entry}
 use Rattle.ir_core.specs.declared.body.Operand.{Operand}
-use Rattle.conversion.specs.Outs.{out, held_or, is_set, with_out}
+use Rattle.passes.specs.Conversion.Outs.{out, held_or, is_set, with_out}
 use Rattle.if_convert.specs.Entries.{out_of}
 
 abbrev pub var_eq : VarId → VarId → Bool

@@ -1,11 +1,11 @@
 -- The code's blocks, branches and rows without where they lie in memory.
 use Rattle.std.specs.Prelude.{◌≡◌, List, [], ◌∷◌, map, Option, Some, None}
 use Rattle.std.specs.Option.{option_map}
-use Rattle.block_meaning.specs.Bodies.{op_of}
-use Rattle.block_meaning.specs.Trees.{BlockTree, block_of, exit_of, SequenceTree, sequence, PartTrees, more_parts, PartTree, part_of, ShapeTree, shape_of}
-use Rattle.conversion.specs.Merging as m
-use Rattle.conversion.specs.Conversion as c
-use Rattle.conversion.specs.Conversion.{part_before, behind, going_on, converted_behind}
+use Rattle.ir_core.specs.Bodies.{op_of}
+use Rattle.ir_core.specs.Trees.{BlockTree, block_of, exit_of, SequenceTree, sequence, PartTrees, more_parts, PartTree, part_of, ShapeTree, shape_of}
+use Rattle.passes.specs.Conversion.Merging as m
+use Rattle.passes.specs.Conversion as c
+use Rattle.passes.specs.Conversion.{part_before, behind, going_on, converted_behind}
 use Rattle.if_convert.specs.declared.fork.Found.{Found}
 use Rattle.if_convert.specs.declared.fork.Found.TheVariants as found
 use Rattle.if_convert.specs.declared.line.Line.{Line}

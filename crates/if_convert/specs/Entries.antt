@@ -4,7 +4,7 @@ use Rattle.hls_base.specs.declared.number.VarId.{VarId}
 use Rattle.indexmap.specs.IndexMap.{IndexMap}
 use Rattle.ir_core.specs.declared.body.Operand.{Operand}
 use Rattle.ir_core.specs.declared.body.Out.{Out}
-use Rattle.conversion.specs.Outs.{out}
+use Rattle.passes.specs.Conversion.Outs.{out}
 
 abbrev pub out_of : VarId × Operand → Out
 out_of entry = out entry.0 entry.1

@@ -1,8 +1,8 @@
 -- The code's values without where they lie in memory.
 use Rattle.std.specs.Prelude.{List, map}
-use Rattle.block_meaning.specs.Bodies.{op_of}
-use Rattle.numbering.specs.Numbering as n
-use Rattle.conversion.specs.Joining as spec
+use Rattle.ir_core.specs.Bodies.{op_of}
+use Rattle.passes.specs.Numbering as n
+use Rattle.passes.specs.Conversion.Joining as spec
 use Rattle.if_convert.specs.declared.joining.Value as v
 use Rattle.if_convert.specs.declared.joining.Guard as g
 use Rattle.if_convert.specs.declared.joining.Joined as j

@@ -1,8 +1,8 @@
 //! All forks and loops of a program.
 ghost use Rattle.std.specs.Prelude.{◌≡◌, ◌&&◌, IfOk, map};
 ghost use Rattle.std.specs.Option.{option_map};
-ghost use Rattle.block_meaning.specs.Trees.{sequence_of, shape_of, part_of, part_row, side_of, arm_row, break_};
-ghost use Rattle.conversion.specs.Conversion as spec;
+ghost use Rattle.ir_core.specs.Trees.{sequence_of, shape_of, part_of, part_row, side_of, arm_row, break_};
+ghost use Rattle.passes.specs.Conversion as spec;
 ghost use Rattle.if_convert.specs.Blocks.{scope_of, open_of};
 
 use crate::line::{Line, close, go_on};

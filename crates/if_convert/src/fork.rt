@@ -1,8 +1,8 @@
 //! Which forks are merged into the block before them.
 ghost use Rattle.std.specs.Prelude.{◌≡◌, ◌&&◌};
 ghost use Rattle.std.specs.Option.{option_map};
-ghost use Rattle.block_meaning.specs.Trees.{sequence_of, side_of, shape_of, exit_of, block_of, fork};
-ghost use Rattle.conversion.specs.Merging as spec;
+ghost use Rattle.ir_core.specs.Trees.{sequence_of, side_of, shape_of, exit_of, block_of, fork};
+ghost use Rattle.passes.specs.Conversion.Merging as spec;
 ghost use Rattle.if_convert.specs.Blocks.{Finds};
 
 use crate::merging::Branches;

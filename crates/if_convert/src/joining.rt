@@ -1,9 +1,9 @@
 //! The operations of one block behind those of another.
 ghost use Rattle.std.specs.Prelude.{◌≡◌, IfOk, map};
-ghost use Rattle.block_meaning.specs.Bodies.{op_of};
-ghost use Rattle.block_meaning.specs.Trees.{exit_of};
-ghost use Rattle.numbering.specs.Numbering as numbering;
-ghost use Rattle.conversion.specs.Joining as spec;
+ghost use Rattle.ir_core.specs.Bodies.{op_of};
+ghost use Rattle.ir_core.specs.Trees.{exit_of};
+ghost use Rattle.passes.specs.Numbering as numbering;
+ghost use Rattle.passes.specs.Conversion.Joining as spec;
 ghost use Rattle.if_convert.specs.Entries.{outs_of};
 ghost use Rattle.if_convert.specs.Views.{values_of, guards_of};
 
@@ -12,21 +12,21 @@ use hls_base::number::OpId;
 use hls_base::refusal::impossible;
 use ir_core::body::{Op, OpKind, Operand, Out, Source};
 use ir_core::stamp::Untimed;
+use ir_core::timing::result_bits;
 use ir_core::tree::Exit;
-use ir_operation::timing::result_bits;
-use ir_operation::value::evaluate;
+use ir_core::value::evaluate;
 use smallvec::SmallVec;
 use std::alloc::{AllocError, Global};
 
 /// What stands for the result of an operation of a block that is joined, and the width of this result.
-#[derive(Clone, Copy, Debug, PartialEq, Eq)]
+#[derive(Clone, Copy, PartialEq, Eq)]
 pub struct Value {
     operand: Operand,
     bits: u8,
 }
 
 /// A guard within a branch, or none, and the bit that says that the branch is taken and the guard holds.
-#[derive(Clone, Copy, Debug, PartialEq, Eq)]
+#[derive(Clone, Copy, PartialEq, Eq)]
 pub struct Guard {
     pub own: Option<Operand>,
     pub bit: Operand,
@@ -285,9 +285,9 @@ fn bit_for(guards: &[Guard], own: Option<Operand>) -> Option<Operand>
 
 impl Joined {
     ghost use Rattle.std.specs.Prelude.{◌≡◌, OnOk, IfOk, [], map, Some};
-    ghost use Rattle.block_meaning.specs.Bodies.{op_of};
-    ghost use Rattle.block_meaning.specs.Trees.{exit_of};
-    ghost use Rattle.conversion.specs.Joining as spec;
+    ghost use Rattle.ir_core.specs.Bodies.{op_of};
+    ghost use Rattle.ir_core.specs.Trees.{exit_of};
+    ghost use Rattle.passes.specs.Conversion.Joining as spec;
     ghost use Rattle.if_convert.specs.Entries.{outs_of};
     ghost use Rattle.if_convert.specs.Views.{joined_of, guards_of};
 

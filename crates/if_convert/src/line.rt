@@ -1,8 +1,8 @@
 //! A row of blocks with shapes between them, while it grows.
 ghost use Rattle.std.specs.Prelude.{◌≡◌, IfOk, ◌∷◌, [], map};
-ghost use Rattle.block_meaning.specs.Trees.{sequence_of, shape_of, block_of, SequenceTree, sequence, PartTrees, no_part};
-ghost use Rattle.conversion.specs.Merging.{joined, merged};
-ghost use Rattle.conversion.specs.Conversion.{part_before, converted_behind};
+ghost use Rattle.ir_core.specs.Trees.{sequence_of, shape_of, block_of, SequenceTree, sequence, PartTrees, no_part};
+ghost use Rattle.passes.specs.Conversion.Merging.{joined, merged};
+ghost use Rattle.passes.specs.Conversion.{part_before, converted_behind};
 ghost use Rattle.if_convert.specs.Blocks.{open_of, branches_of, scope_of, last_of, before_last, behind_shape};
 
 use crate::fork::{Found, found_behind};
@@ -24,7 +24,7 @@ pub enum Line {
 
 impl Line {
     ghost use Rattle.std.specs.Prelude.{◌≡◌};
-    ghost use Rattle.block_meaning.specs.Trees.{exit_of};
+    ghost use Rattle.ir_core.specs.Trees.{exit_of};
     ghost use Rattle.if_convert.specs.Blocks.{last_of};
 
     /// How the open block is left.

@@ -1,9 +1,9 @@
 //! A block that grows: the branches of a fork and the block behind it are merged into it.
 ghost use Rattle.std.specs.Prelude.{◌≡◌, ◌++◌, IfOk, map};
 ghost use Rattle.std.specs.Option.{option_map};
-ghost use Rattle.block_meaning.specs.Bodies.{op_of};
-ghost use Rattle.block_meaning.specs.Trees.{block_of};
-ghost use Rattle.conversion.specs.Merging as spec;
+ghost use Rattle.ir_core.specs.Bodies.{op_of};
+ghost use Rattle.ir_core.specs.Trees.{block_of};
+ghost use Rattle.passes.specs.Conversion.Merging as spec;
 ghost use Rattle.if_convert.specs.Entries.{outs_of};
 ghost use Rattle.if_convert.specs.Views.{guards_of};
 ghost use Rattle.if_convert.specs.Blocks.{branched_of, choice_of};
@@ -42,7 +42,7 @@ struct Branched {
 }
 
 /// A variable that one of the branches sets, and what it holds behind each of them.
-#[derive(Clone, Copy, Debug, PartialEq, Eq)]
+#[derive(Clone, Copy, PartialEq, Eq)]
 struct Choice {
     variable: VarId,
     yes: Operand,
@@ -176,8 +176,8 @@ fn is_taken(alloc: Global, test: Operand) -> Result<Vec<Guard>, AllocError>
 
 impl Open {
     ghost use Rattle.std.specs.Prelude.{◌≡◌, IfOk, OnOk, map};
-    ghost use Rattle.block_meaning.specs.Trees.{block_of, exit_of};
-    ghost use Rattle.conversion.specs.Merging as spec;
+    ghost use Rattle.ir_core.specs.Trees.{block_of, exit_of};
+    ghost use Rattle.passes.specs.Conversion.Merging as spec;
     ghost use Rattle.if_convert.specs.Blocks.{open_of, branches_of, choice_of};
 
     pub fn new(alloc: Global, block: BasicBlock) -> Result<Open, AllocError>

@@ -1,6 +1,6 @@
 //! What the variables hold that a block sets.
 ghost use Rattle.std.specs.Prelude.{◌≡◌, IfOk, OnOk};
-ghost use Rattle.conversion.specs.Outs as spec;
+ghost use Rattle.passes.specs.Conversion.Outs as spec;
 ghost use Rattle.if_convert.specs.Entries.{outs_of};
 
 use hls_base::number::VarId;

@@ -1,11 +1,11 @@
 //! A loop of a block for its test and one for its body becomes one whose iterations may overlap.
 ghost use Rattle.std.specs.Prelude.{◌≡◌, IfOk, map, not, ◌&&◌, false};
 ghost use Rattle.std.specs.Option.{option_map};
-ghost use Rattle.block_meaning.specs.Bodies.{op_of};
-ghost use Rattle.block_meaning.specs.Trees.{sequence_of, side_of, shape_of, block_of, exit_of, loop};
-ghost use Rattle.block_meaning.specs.TreeRuns.{tested_by};
-ghost use Rattle.conversion.specs.Merging.{is_only, test_of};
-ghost use Rattle.conversion.specs.Overlapping as spec;
+ghost use Rattle.ir_core.specs.Bodies.{op_of};
+ghost use Rattle.ir_core.specs.Trees.{sequence_of, side_of, shape_of, block_of, exit_of, loop};
+ghost use Rattle.ir_core.specs.TreeRuns.{tested_by};
+ghost use Rattle.passes.specs.Conversion.Merging.{is_only, test_of};
+ghost use Rattle.passes.specs.Conversion.Overlapping as spec;
 ghost use Rattle.if_convert.specs.Entries.{outs_of};
 
 use crate::fork::{into_first, is_only_block, test_of};
@@ -175,8 +175,8 @@ fn carried_outs(alloc: Global, sets: &Sets, outs: &[Out]) -> Result<Vec<Out>, Al
 
 impl Open {
     ghost use Rattle.std.specs.Prelude.{◌≡◌, IfOk};
-    ghost use Rattle.block_meaning.specs.Trees.{body_of};
-    ghost use Rattle.conversion.specs.Overlapping as spec;
+    ghost use Rattle.ir_core.specs.Trees.{body_of};
+    ghost use Rattle.passes.specs.Conversion.Overlapping as spec;
     ghost use Rattle.if_convert.specs.Blocks.{open_of};
 
     /// The block as an iteration with this test.

@@ -1,0 +1,12 @@
+pub mod Timing
+pub mod Value
+pub mod Fits
+pub mod Small
+pub mod Points
+pub mod Halts
+pub mod Bodies
+pub mod Trees
+pub mod TreeRuns
+pub mod FlatRuns
+pub mod FirstContents
+pub mod AddressWords

@@ -5,7 +5,7 @@ use smallvec::SmallVec;
 use std::alloc::Global;
 
 /// An operator of two that are fused.
-#[derive(Clone, Copy, Debug, PartialEq, Eq, Hash)]
+#[derive(Clone, Copy, PartialEq, Eq, Hash)]
 pub enum Simple {
     Add,
     Sub,
@@ -15,7 +15,7 @@ pub enum Simple {
 }
 
 /// Two operators as one operation: with `left` the value is `second(first(a, b), c)`, else `second(c, first(a, b))`.
-#[derive(Clone, Copy, Debug, PartialEq, Eq, Hash)]
+#[derive(Clone, Copy, PartialEq, Eq, Hash)]
 pub struct Pairing {
     pub first: Simple,
     pub second: Simple,
@@ -23,7 +23,7 @@ pub struct Pairing {
 }
 
 /// What an operation makes of its arguments, which are bit patterns. A `Load` has its subscripts as arguments, a `Store` its subscripts and then the stored value, a `Select` its test, the value for 1 and the value for 0.
-#[derive(Clone, Copy, Debug, PartialEq, Eq, Hash)]
+#[derive(Clone, Copy, PartialEq, Eq, Hash)]
 pub enum OpKind {
     Add,
     Sub,
@@ -52,7 +52,7 @@ pub enum OpKind {
 }
 
 /// Where an operand comes from: a constant bit pattern, what a variable holds as the block or iteration is entered, or the result of an operation of the body.
-#[derive(Clone, Copy, Debug, PartialEq, Eq, Hash)]
+#[derive(Clone, Copy, PartialEq, Eq, Hash)]
 pub enum Source {
     Constant(u64),
     Variable(VarId),
@@ -60,7 +60,7 @@ pub enum Source {
 }
 
 /// An operand with distance d names the value of the iteration d before.
-#[derive(Clone, Copy, Debug, PartialEq, Eq, Hash)]
+#[derive(Clone, Copy, PartialEq, Eq, Hash)]
 pub struct Operand {
     pub value: Source,
     pub distance: u32,
@@ -77,7 +77,7 @@ impl Default for Operand {
 }
 
 /// An operation. `bits` is the width of its result; for `Eq`, `Ne`, `Lt`, `Le` and `Truth`, whose result has one bit, it is the width of the operands, and for `Store` that of the stored value. Where the guard is 0 the operation has no effect: a load gives 0. The flag is the place of possible undefined behaviour.
-#[derive(Debug, Drop)]
+#[derive(Drop)]
 pub struct Op<S: Stamp> {
     pub kind: OpKind,
     pub signed: bool,
@@ -90,14 +90,14 @@ pub struct Op<S: Stamp> {
 }
 
 /// What a variable holds as the body is left.
-#[derive(Clone, Copy, Debug, PartialEq, Eq)]
+#[derive(Clone, Copy, PartialEq, Eq)]
 pub struct Out {
     pub variable: VarId,
     pub value: Operand,
 }
 
 /// Operations in order, and the variables that they set. The test of a loop's body tells whether the iteration runs.
-#[derive(Debug, Drop)]
+#[derive(Drop)]
 pub struct Body<S: Stamp> {
     pub ops: Vec<Op<S>>,
     pub outs: Vec<Out>,

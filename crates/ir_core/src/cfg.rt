@@ -6,7 +6,7 @@ use hls_base::text::Text;
 use hls_base::words::Words;
 
 /// How a block ends. A `Choose` goes to the node of the first case whose operand is 1, else to `other`.
-#[derive(Debug, Drop)]
+#[derive(Drop)]
 pub enum End {
     Jump(NodeId),
     Branch {
@@ -22,7 +22,7 @@ pub enum End {
 }
 
 /// A basic block, which takes `length` cycles; 0 in a program without times.
-#[derive(Debug, Drop)]
+#[derive(Drop)]
 pub struct Block<S: Stamp> {
     pub point: Point,
     pub body: Body<S>,
@@ -31,7 +31,7 @@ pub struct Block<S: Stamp> {
 }
 
 /// A loop whose iterations may overlap: one begins each `ii` cycles, and the exit takes `exit` more. Its point is the loop's Body, and `next` the block behind it.
-#[derive(Debug, Drop)]
+#[derive(Drop)]
 pub struct Loop<S: Stamp> {
     pub point: Point,
     pub body: Body<S>,
@@ -40,14 +40,14 @@ pub struct Loop<S: Stamp> {
     pub exit: u32,
 }
 
-#[derive(Debug, Drop)]
+#[derive(Drop)]
 pub enum Node<S: Stamp> {
     Plain(Block<S>),
     Looped(Loop<S>),
 }
 
 /// A memory of words of so many bits, one for each element, row by row. A table has its words, and a memory of file scope its first contents. Those that the host reaches come first.
-#[derive(Debug, Drop)]
+#[derive(Drop)]
 pub struct Memory {
     pub name: Text,
     pub bits: u8,
@@ -58,7 +58,7 @@ pub struct Memory {
 }
 
 /// What a program has beside its blocks: the width of each variable, which of them are the parameters, the memories, the scalars that stay from one run to the next with their first values, and the width of the result, 0 for void.
-#[derive(Debug, Drop)]
+#[derive(Drop)]
 pub struct Frame {
     pub name: Text,
     pub params: Vec<VarId>,
@@ -69,7 +69,7 @@ pub struct Frame {
 }
 
 /// A flat program of blocks and loops.
-#[derive(Debug, Drop)]
+#[derive(Drop)]
 pub struct Cfg<S: Stamp> {
     pub frame: Frame,
     pub nodes: Vec<Node<S>>,

@@ -29,7 +29,7 @@ pub trait Stamp: Copy {
 }
 
 /// No time and no unit.
-#[derive(Clone, Copy, Debug, PartialEq, Eq)]
+#[derive(Clone, Copy, PartialEq, Eq)]
 pub struct Untimed;
 
 impl Stamp for Untimed {

@@ -5,11 +5,11 @@ use hls_base::number::VarId;
 use hls_base::point::Point;
 
 /// The number of a place behind pieces that may be left from within.
-#[derive(Clone, Copy, Debug, PartialEq, Eq, PartialOrd, Ord, Hash)]
+#[derive(Clone, Copy, PartialEq, Eq, PartialOrd, Ord, Hash)]
 pub struct LandId(pub u32);
 
 /// How a basic block is left: to what stands behind it, by the value of an operand, by the case whose operand is 1, or to another place.
-#[derive(Debug, Drop)]
+#[derive(Drop)]
 pub enum Exit {
     Next,
     Branch(Operand),
@@ -20,7 +20,7 @@ pub enum Exit {
 }
 
 /// Operations behind a point. An operand is a constant, a variable as the block is entered, or the result of an earlier operation of the block.
-#[derive(Debug, Drop)]
+#[derive(Drop)]
 pub struct BasicBlock {
     pub point: Point,
     pub ops: Vec<Op<Untimed>>,
@@ -30,7 +30,7 @@ pub struct BasicBlock {
 
 /// A block, and then parts one after another. A block whose exit is a jump does not lead to the part behind it, which is then not reached, or only from elsewhere.
 #[cycle(sequence)]
-#[derive(Debug, Drop)]
+#[derive(Drop)]
 pub struct Sequence {
     pub first: BasicBlock,
     pub rest: Vec<Part>,
@@ -38,7 +38,7 @@ pub struct Sequence {
 
 /// A fork, loop or switch, to which the block before leads, and the block behind it, which begins at its End.
 #[cycle(sequence)]
-#[derive(Debug, Drop)]
+#[derive(Drop)]
 pub struct Part {
     pub shape: Shape,
     pub after: BasicBlock,
@@ -46,7 +46,7 @@ pub struct Part {
 
 /// What stands between two blocks of a sequence.
 #[cycle(sequence)]
-#[derive(Debug, Drop)]
+#[derive(Drop)]
 pub enum Shape {
     /// The block before branches to `yes` or `no`; a side without blocks of its own is the block behind. Both lead to the block behind.
     Fork {
@@ -79,7 +79,7 @@ pub enum Shape {
 }
 
 /// A program as a tree of basic blocks. The variable of its result is given where it is not void.
-#[derive(Debug, Drop)]
+#[derive(Drop)]
 pub struct BlockTree {
     pub frame: Frame,
     pub blocks: Sequence,

@@ -2,7 +2,7 @@
 use Rattle.std.proofs.Common.{◌≡◌, ◌∙◌, ◌+◌, ◌-◌, ◌≤◌, ◌<◌, ℕ, ap, sym, arith, List, [], ◌∷◌, ◌++◌, map, take, drop, get_or, length}
 use Rattle.std.proofs.lemmas.List.{take_more, drop_more}
 use Rattle.ir_core.specs.declared.tree.Part.{Part}
-use Rattle.block_meaning.specs.Trees.{part_of, part_row, shape_of}
+use Rattle.ir_core.specs.Trees.{part_of, part_row, shape_of}
 use Rattle.ir_layout.specs.Sizes.{parts_size, shape_size}
 use Rattle.ir_layout.specs.Layout.{Landing, lands_in, with_land, behind_shape}
 use Rattle.ir_layout.proofs.Parts.{row_more, size_pushed}

@@ -7,9 +7,9 @@ use Rattle.ir_core.specs.declared.tree.Sequence.{Sequence}
 use Rattle.ir_core.specs.declared.tree.Shape.TheVariants as v
 use Rattle.ir_core.specs.declared.tree.Shape.TheOpen.{Shape-F}
 use Rattle.ir_core.specs.declared.tree.Shape.TheFolds.{fold_out-Part, fold-roll-Shape}
-use Rattle.block_meaning.specs.Trees.{ShapeTree, PartTree, SequenceTree, more_parts, part_row, part_of, shape_of, block_of, shape_step, part_step, sequence_step, fork, loop, switch, side_of, arm_row, sequence_of}
-use Rattle.tree_points.specs.Points as tp
-use Rattle.tree_points.specs.Points.{Points, points_of, part_points, shape_points, joined, where_there}
+use Rattle.ir_core.specs.Trees.{ShapeTree, PartTree, SequenceTree, more_parts, part_row, part_of, shape_of, block_of, shape_step, part_step, sequence_step, fork, loop, switch, side_of, arm_row, sequence_of}
+use Rattle.ir_core.specs.Points as tp
+use Rattle.ir_core.specs.Points.{Points, points_of, part_points, shape_points, joined, where_there}
 use Rattle.ir_layout.specs.Sizes.{parts_size, shape_size}
 
 pub part_out : (p : Part) → part_of p ≡ record { shape = shape_of p.shape; after = block_of p.after }

@@ -4,8 +4,8 @@ use Rattle.std.proofs.lemmas.List.{append_assoc}
 use Rattle.hls_base.specs.declared.point.Point.{Point}
 use Rattle.ir_core.specs.declared.tree.Part.{Part}
 use Rattle.ir_core.specs.declared.tree.Shape.TheFolds.{fold_out-Part}
-use Rattle.tree_points.specs.Points.{Points, joined, part_points, shape_points, shape_step, part_step, sequence_step}
-use Rattle.tree_points.proofs.Joining.{joined_map_more}
+use Rattle.ir_core.specs.Points.{Points, joined, part_points, shape_points, shape_step, part_step, sequence_step}
+use Rattle.ir_core.proofs.Joining.{joined_map_more}
 
 part_parts : (p : Part) → part_points p ≡ shape_points p.shape ++ p.after.point ∷ []
 part_parts p = fold_out-Part Points Points Points shape_step part_step sequence_step p

@@ -1,6 +1,6 @@
 -- The nodes of a shape, side by side.
 use Rattle.std.proofs.Common.{◌≡◌, ◌∙◌, ◌+◌, ℕ, ap, arith, Bool, List, ◌++◌, length, length-append, append_assoc, Option}
-use Rattle.block_meaning.specs.Trees.{SequenceTree, PartTrees, fork, loop, switch, SideTree, ArmTrees}
+use Rattle.ir_core.specs.Trees.{SequenceTree, PartTrees, fork, loop, switch, SideTree, ArmTrees}
 use Rattle.ir_layout.specs.declared.ways.Around as a
 use Rattle.ir_layout.specs.Nodes.{NodeTree}
 use Rattle.ir_layout.specs.Sizes.{sequence_size, side_size, parts_size, arms_size}

@@ -1,6 +1,6 @@
 -- Where the arms of a switch begin.
 use Rattle.std.proofs.Common.{◌≡◌, ◌∙◌, ◌+◌, ℕ, zero, suc, refl, ap, arith, List, [], ◌∷◌, map, get_or, Option, Some, None}
-use Rattle.block_meaning.specs.Trees.{ArmTrees, no_arm, more_arms}
+use Rattle.ir_core.specs.Trees.{ArmTrees, no_arm, more_arms}
 use Rattle.ir_layout.specs.Sizes.{sequence_size, arms_size}
 use Rattle.ir_layout.specs.Layout.{by_case, arm_start, other_start}
 use Rattle.ir_layout.specs.Views.{arm_starts_from, other_in}

@@ -2,7 +2,7 @@
 use Rattle.std.proofs.Common.{◌≡◌, ◌∙◌, ◌+◌, ℕ, refl, ap, sym, arith, List, [], ◌∷◌, ◌++◌, length, map, length-append, append_assoc, append-nil, Option, Some}
 use Rattle.ir_core.specs.declared.tree.Part.{Part}
 use Rattle.ir_core.specs.declared.tree.Sequence.{Sequence}
-use Rattle.block_meaning.specs.Trees.{BlockTree, PartTrees, more_parts, ShapeTree, part_of, part_row, shape_of, block_of, sequence_of, arm_row}
+use Rattle.ir_core.specs.Trees.{BlockTree, PartTrees, more_parts, ShapeTree, part_of, part_row, shape_of, block_of, sequence_of, arm_row}
 use Rattle.ir_layout.specs.declared.ways.Around as a
 use Rattle.ir_layout.specs.Nodes.{NodeTree}
 use Rattle.ir_layout.specs.Sizes.{sequence_size, shape_size}

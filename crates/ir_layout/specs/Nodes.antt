@@ -8,7 +8,7 @@ use Rattle.ir_core.specs.declared.cfg.End.TheVariants as end
 use Rattle.ir_core.specs.declared.cfg.Node.{Node}
 use Rattle.ir_core.specs.declared.cfg.Node.TheVariants as n
 use Rattle.ir_core.specs.declared.stamp.Untimed.{Untimed}
-use Rattle.block_meaning.specs.Trees.{BodyTree, body_of}
+use Rattle.ir_core.specs.Trees.{BodyTree, body_of}
 
 -- the point at which a node begins
 abbrev pub node_point : Node Untimed → Point

@@ -1,6 +1,6 @@
 -- How many nodes the parts of a tree become: one for each block, and one for each loop whose iterations may overlap.
 use Rattle.std.specs.Prelude.{ℕ, suc, ◌+◌}
-use Rattle.block_meaning.specs.Trees.{SequenceTree, sequence, PartTrees, no_part, more_parts, ShapeTree, fork, loop, switch, land, overlapped, SideTree, no_side, side, ArmTrees, no_arm, more_arms}
+use Rattle.ir_core.specs.Trees.{SequenceTree, sequence, PartTrees, no_part, more_parts, ShapeTree, fork, loop, switch, land, overlapped, SideTree, no_side, side, ArmTrees, no_arm, more_arms}
 
 abbrev mutual
   pub sequence_size : SequenceTree → ℕ

@@ -6,7 +6,7 @@ use Rattle.ir_layout.specs.declared.flat.Landing as code
 use Rattle.ir_layout.specs.declared.ways.Around as a
 use Rattle.ir_layout.specs.declared.ways.Ways.{Ways}
 use Rattle.ir_layout.specs.declared.ways.Ways.TheVariants as ways
-use Rattle.block_meaning.specs.Trees.{BlockTree, PartTrees, ArmTrees, no_arm, more_arms}
+use Rattle.ir_core.specs.Trees.{BlockTree, PartTrees, ArmTrees, no_arm, more_arms}
 use Rattle.ir_layout.specs.Nodes.{NodeTree}
 use Rattle.ir_layout.specs.Sizes.{sequence_size}
 use Rattle.ir_layout.specs.Layout.{Ahead, finish, onto, tested, by_case, Landing, Around, before_parts, ahead_of_parts, laid_block, laid_parts}

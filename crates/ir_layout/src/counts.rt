@@ -1,7 +1,7 @@
 //! How many nodes the parts of a tree become.
 ghost use Rattle.std.specs.Prelude.{◌≡◌, ◌+◌, map, IfOk};
 ghost use Rattle.std.specs.Option.{option_map};
-ghost use Rattle.block_meaning.specs.Trees.{sequence_of, part_of, shape_of, part_row, side_of, arm_row};
+ghost use Rattle.ir_core.specs.Trees.{sequence_of, part_of, shape_of, part_row, side_of, arm_row};
 ghost use Rattle.ir_layout.specs.Sizes.{sequence_size, parts_size, shape_size, side_size, arms_size};
 
 use hls_base::refusal::impossible;

@@ -1,7 +1,7 @@
 //! Whether the blocks of a tree are left as what stands behind them asks.
 ghost use Rattle.std.specs.Prelude.{◌≡◌, List, ℕ, [], map, drop, length, IsTrue, OnOk};
 ghost use Rattle.std.specs.Option.{option_map};
-ghost use Rattle.block_meaning.specs.Trees.{sequence_of, part_of, shape_of, exit_of, part_row, side_of, arm_row};
+ghost use Rattle.ir_core.specs.Trees.{sequence_of, part_of, shape_of, exit_of, part_row, side_of, arm_row};
 ghost use Rattle.ir_layout.specs.WellFormed as fit;
 ghost use Rattle.ir_layout.specs.Fitting.{numbered, inside_of, kind_view};
 
@@ -10,7 +10,7 @@ use ir_core::tree::{Exit, LandId, Part, Sequence, Shape};
 use std::alloc::{AllocError, Global};
 
 /// What stands ahead of the end of a block: one place, a test, or a switch with so many cases.
-#[derive(Clone, Copy, Debug)]
+#[derive(Clone, Copy)]
 pub enum Kind {
     OneWay,
     Test,
@@ -18,7 +18,7 @@ pub enum Kind {
 }
 
 /// Which jumps out of a loop or switch, and to the next iteration, a block may have.
-#[derive(Clone, Copy, Debug)]
+#[derive(Clone, Copy)]
 pub struct Jumps {
     pub leave: bool,
     pub again: bool,
@@ -82,7 +82,7 @@ fn kind_before(parts: &[Part], index: usize, ahead: Kind) -> Kind
 
 impl Places {
     ghost use Rattle.std.specs.Prelude.{◌≡◌, List, ℕ, [], map, OnOk};
-    ghost use Rattle.block_meaning.specs.Trees.{part_of, shape_of, exit_of, part_row};
+    ghost use Rattle.ir_core.specs.Trees.{part_of, shape_of, exit_of, part_row};
     ghost use Rattle.ir_layout.specs.WellFormed as fit;
     ghost use Rattle.ir_layout.specs.Fitting.{numbered, inside_of, kind_view};
 

@@ -18,7 +18,7 @@ use ir_core::tree::{BasicBlock, Exit, LandId, Part, Shape};
 use std::alloc::{AllocError, Global};
 
 /// The place behind pieces that are left from within.
-#[derive(Clone, Copy, Debug)]
+#[derive(Clone, Copy)]
 pub struct Landing {
     pub number: LandId,
     pub place: NodeId,
@@ -105,7 +105,7 @@ impl Flat {
     ghost use Rattle.std.specs.Prelude.{◌≡◌, ◌+◌, ℕ, List, [], ◌∷◌, ◌++◌, map, length, IfOk, OnOk};
     ghost use Rattle.std.specs.Option.{option_map};
     ghost use Rattle.std.specs.List.{zip};
-    ghost use Rattle.block_meaning.specs.Trees.{exit_of, block_of, body_of, part_of, part_row, shape_of};
+    ghost use Rattle.ir_core.specs.Trees.{exit_of, block_of, body_of, part_of, part_row, shape_of};
     ghost use Rattle.ir_layout.specs.Layout as spec;
     ghost use Rattle.ir_layout.specs.Nodes.{node_point, node_of, end_of, looped};
     ghost use Rattle.ir_layout.specs.Views.{number, stacked, around_of, ahead_view};

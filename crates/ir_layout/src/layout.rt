@@ -1,8 +1,8 @@
 //! All blocks of a program.
 ghost use Rattle.std.specs.Prelude.{◌≡◌, ◌++◌, ◌+◌, ℕ, List, length, map, IfOk, OnOk};
 ghost use Rattle.std.specs.Option.{option_map};
-ghost use Rattle.block_meaning.specs.Trees.{sequence_of, part_of, shape_of, block_of, part_row, side_of, arm_row};
-ghost use Rattle.tree_points.specs.Points.{points_of, part_points, shape_points, block_point, joined, where_there};
+ghost use Rattle.ir_core.specs.Trees.{sequence_of, part_of, shape_of, block_of, part_row, side_of, arm_row};
+ghost use Rattle.ir_core.specs.Points.{points_of, part_points, shape_points, block_point, joined, where_there};
 ghost use Rattle.ir_layout.specs.Nodes.{node_point, node_of};
 ghost use Rattle.ir_layout.specs.Sizes.{parts_size};
 ghost use Rattle.ir_layout.specs.Layout.{Landing, behind_shape, ahead_of, with_land, lands_in, laid, laid_parts, laid_shape, laid_side, laid_arms, laid_out, onto};
@@ -47,7 +47,7 @@ pub fn lay_out(alloc: Global, tree: BlockTree) -> Result<Cfg<Untimed>, AllocErro
     })
 }
 
-#[tactic(auto, using(tree_points::proofs::Joining::joining))]
+#[tactic(auto, using(ir_core::proofs::Joining::joining))]
 #[cycle(sequence)]
 fn lay_sequence(
     flat: &mut Flat,
@@ -112,7 +112,7 @@ fn place_behind(flat: &Flat, block: &Option<BasicBlock>) -> Result<u32, AllocErr
 }
 
 /// A block, which is not there before shapes that nothing leads to, and the parts behind it, whose places have been noted.
-#[tactic(auto, using(tree_points::proofs::Joining::joining))]
+#[tactic(auto, using(ir_core::proofs::Joining::joining))]
 #[cycle(sequence)]
 fn lay_parts(
     flat: &mut Flat,
@@ -138,7 +138,7 @@ fn lay_parts(
     lay_last(flat, last, ways, around)
 }
 
-#[tactic(auto, using(tree_points::proofs::Joining::joining))]
+#[tactic(auto, using(ir_core::proofs::Joining::joining))]
 #[cycle(sequence)]
 fn lay_shape(flat: &mut Flat, shape: Shape, after: NodeId, around: Around) -> Result<(), AllocError>
     requires { number after ≡ behind_shape (length flat.now.nodes.items) (shape_of shape) }
@@ -219,7 +219,7 @@ fn lay_step(
 }
 
 /// What stands before the first arm of a switch, to which it leads.
-#[tactic(auto, using(tree_points::proofs::Joining::joining))]
+#[tactic(auto, using(ir_core::proofs::Joining::joining))]
 #[cycle(sequence)]
 fn lay_dead(flat: &mut Flat, dead: Vec<Part>, around: Around) -> Result<(), AllocError>
     ensures points { OnOk result (map node_point flat.new.nodes.items ≡ map node_point flat.old.nodes.items ++ joined (map part_points dead.items)) }
@@ -233,7 +233,7 @@ fn lay_dead(flat: &mut Flat, dead: Vec<Part>, around: Around) -> Result<(), Allo
 }
 
 /// The arms of a switch, each of which leads to the next.
-#[tactic(auto, using(tree_points::proofs::Joining::joining))]
+#[tactic(auto, using(ir_core::proofs::Joining::joining))]
 #[cycle(sequence)]
 fn lay_arms(flat: &mut Flat, arms: Vec<Sequence>, around: Around) -> Result<(), AllocError>
     ensures points { OnOk result (map node_point flat.new.nodes.items ≡ map node_point flat.old.nodes.items ++ joined (map points_of arms.items)) }

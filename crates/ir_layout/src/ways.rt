@@ -1,7 +1,7 @@
 //! Where control goes from a block.
 ghost use Rattle.std.specs.Prelude.{◌≡◌, ◌+◌, map, get_or, IfOk};
 ghost use Rattle.std.specs.Option.{option_map};
-ghost use Rattle.block_meaning.specs.Trees.{sequence_of, shape_of, arm_row, side_of};
+ghost use Rattle.ir_core.specs.Trees.{sequence_of, shape_of, arm_row, side_of};
 ghost use Rattle.ir_layout.specs.Layout.{side_start, body_start, step_start, ahead_of, behind_shape};
 ghost use Rattle.ir_layout.specs.Views.{number, arm_starts_from, other_in, ahead_view};
 
@@ -11,7 +11,7 @@ use ir_core::tree::{Sequence, Shape};
 use std::alloc::{AllocError, Global};
 
 /// Where control goes from the end of a block that has no jump: out of the program, to a node, by a test, or by the cases of a switch.
-#[derive(Debug, Drop)]
+#[derive(Drop)]
 pub enum Ways {
     Return,
     Node(NodeId),
@@ -20,7 +20,7 @@ pub enum Ways {
 }
 
 /// Where jumps lead, and the variable of the result.
-#[derive(Clone, Copy, Debug)]
+#[derive(Clone, Copy)]
 pub struct Around {
     pub leave: Option<NodeId>,
     pub again: Option<NodeId>,
@@ -28,7 +28,7 @@ pub struct Around {
 }
 
 /// The first nodes of the parts of a loop. `again` is where `Continue` leads.
-#[derive(Clone, Copy, Debug)]
+#[derive(Clone, Copy)]
 pub struct Starts {
     pub test: NodeId,
     pub body: NodeId,

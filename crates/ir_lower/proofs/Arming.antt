@@ -11,11 +11,11 @@ use Rattle.pieces.specs.declared.piece.Piece.{Piece}
 use Rattle.pieces.specs.Trees as tree
 use Rattle.pieces.specs.View.{pieces_of}
 use Rattle.pieces.specs.Trees.{PieceTree, PieceTrees}
-use Rattle.block_meaning.specs.Trees.{SequenceTree, ArmTrees, more_arms}
-use Rattle.lowering.specs.Shapes.{or_at, point_of}
-use Rattle.lowering.specs.Blocks.{Scope, begun}
-use Rattle.lowering.specs.Lowering.{Rest, last, is_named, arms_before, piece_count, with_target, arm_of, targets, lowered_piece, before_arm}
-use Rattle.lowering.specs.Lowering as spec
+use Rattle.ir_core.specs.Trees.{SequenceTree, ArmTrees, more_arms}
+use Rattle.passes.specs.Lowering.Shapes.{or_at, point_of}
+use Rattle.passes.specs.Lowering.Blocks.{Scope, begun}
+use Rattle.passes.specs.Lowering.{Rest, last, is_named, arms_before, piece_count, with_target, arm_of, targets, lowered_piece, before_arm}
+use Rattle.passes.specs.Lowering as spec
 use Rattle.ir_lower.specs.declared.arms.Arms.{Arms}
 use Rattle.ir_lower.specs.Arms.{arms_until}
 use Rattle.ir_lower.specs.Lines.{ended_arms}

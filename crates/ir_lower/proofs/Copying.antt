@@ -6,11 +6,11 @@ use Rattle.std.proofs.lemmas.Bool.Decides.{Decides-eqb}
 use Rattle.hls_base.specs.declared.number.VarId.{VarId}
 use Rattle.ir_core.specs.declared.body.Out.{Out}
 use Rattle.ir_core.specs.declared.tree.Part.{Part}
-use Rattle.block_meaning.specs.Bodies.{OpTree}
-use Rattle.block_meaning.specs.Trees.{BlockTree, sequence, PartTree, PartTrees, more_parts, ShapeTree, shape_of, block_of, part_row, part_of}
-use Rattle.lowering.specs.Outs.{held}
-use Rattle.lowering.specs.Blocks.{Scope}
-use Rattle.lowering.specs.Copies.{Fixed, Copied, outs_set, shape_sets, parts_set, is_fixed, with_op, with_ops, fixed_in, fixed_behind, with_own, own_operand, copied_out, copied_outs, with_copied, copied_block, copied_parts, copied, fixed_behind_shape}
+use Rattle.ir_core.specs.Bodies.{OpTree}
+use Rattle.ir_core.specs.Trees.{BlockTree, sequence, PartTree, PartTrees, more_parts, ShapeTree, shape_of, block_of, part_row, part_of}
+use Rattle.passes.specs.Lowering.Outs.{held}
+use Rattle.passes.specs.Lowering.Blocks.{Scope}
+use Rattle.passes.specs.Lowering.Copies.{Fixed, Copied, outs_set, shape_sets, parts_set, is_fixed, with_op, with_ops, fixed_in, fixed_behind, with_own, own_operand, copied_out, copied_outs, with_copied, copied_block, copied_parts, copied, fixed_behind_shape}
 use Rattle.ir_lower.specs.Copies.{is_in, with_if}
 use Rattle.ir_lower.specs.Lines.{with_parts}
 use Rattle.ir_lower.proofs.Rows.{part_out, pushed}

@@ -2,11 +2,11 @@
 use Rattle.std.proofs.Common.{◌≡◌, ◌∙◌, Bool, true, false, ap, sym, List}
 use Rattle.std.specs.Prelude.{if◌then◌else◌}
 use Rattle.ir_core.specs.declared.body.Out.{Out}
-use Rattle.block_meaning.specs.Trees.{BlockTree, branch, choose}
-use Rattle.lowering.specs.Operations.{Emitted}
+use Rattle.ir_core.specs.Trees.{BlockTree, branch, choose}
+use Rattle.passes.specs.Lowering.Operations.{Emitted}
 use Rattle.pieces.specs.Trees.{PieceTrees}
-use Rattle.lowering.specs.Blocks.{Scope, is_live, branching, Cases, choosing, with_ops, set_before, forking}
-use Rattle.lowering.specs.Lowering.{Rest}
+use Rattle.passes.specs.Lowering.Blocks.{Scope, is_live, branching, Cases, choosing, with_ops, set_before, forking}
+use Rattle.passes.specs.Lowering.{Rest}
 use Rattle.ir_lower.specs.declared.line.Line.{Line}
 use Rattle.ir_lower.specs.Lines.{open_of, behind, ended}
 

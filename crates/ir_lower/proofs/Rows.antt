@@ -9,8 +9,8 @@ use Rattle.ir_core.specs.declared.tree.Sequence.{Sequence, out-Sequence, roll-Se
 use Rattle.ir_core.specs.declared.tree.Shape.TheVariants as v
 use Rattle.ir_core.specs.declared.tree.Shape.TheOpen.{Shape-F}
 use Rattle.ir_core.specs.declared.tree.Shape.TheFolds.{fold_out-Part, fold_out-Sequence, fold-roll-Sequence, fold-roll-Shape}
-use Rattle.block_meaning.specs.Trees.{BlockTree, ShapeTree, PartTree, PartTrees, no_part, more_parts, ArmTrees, no_arm, more_arms, SequenceTree, sequence, part_row, part_of, shape_of, block_of, shape_step, part_step, sequence_step, fork, loop, switch, land, side_of, arm_row, sequence_of}
-use Rattle.lowering.specs.Lowering.{followed}
+use Rattle.ir_core.specs.Trees.{BlockTree, ShapeTree, PartTree, PartTrees, no_part, more_parts, ArmTrees, no_arm, more_arms, SequenceTree, sequence, part_row, part_of, shape_of, block_of, shape_step, part_step, sequence_step, fork, loop, switch, land, side_of, arm_row, sequence_of}
+use Rattle.passes.specs.Lowering.{followed}
 use Rattle.ir_lower.specs.Lines.{with_parts, with_arms, shape_before}
 
 pub part_out : (p : Part) → part_of p ≡ record { shape = shape_of p.shape; after = block_of p.after }

@@ -8,7 +8,7 @@ use Rattle.pieces.specs.Trees as tree
 use Rattle.pieces.specs.Trees.{PieceTree, PieceTrees}
 use Rattle.pieces.specs.Weight.{weight, piece_weights}
 use Rattle.pieces.specs.Shape.{IsStraight, AreStraight, IsConvertible, IsEligible, are_marks}
-use Rattle.lowering.specs.Shapes.{is_straight, are_straight}
+use Rattle.passes.specs.Lowering.Shapes.{is_straight, are_straight}
 use Rattle.ir_lower.specs.Points.{is_fork_that_converts, is_loop_that_overlaps}
 
 decides_le : (a b : ℕ) → Decides (nat_le a b) (a ≤ b)

@@ -1,7 +1,7 @@
 -- Which pieces of a switch's body begin an arm, and how many arms begin before each.
 use Rattle.std.specs.Prelude.{ℕ, Bool, ◌&&◌, nat_lt, List, if◌then◌else◌}
 use Rattle.pieces.specs.declared.piece.Label.{Label}
-use Rattle.lowering.specs.Lowering.{is_named, arms_before}
+use Rattle.passes.specs.Lowering.{is_named, arms_before}
 
 -- one of so many pieces, which a label names
 abbrev pub begins_arm : List Label → ℕ → ℕ → Bool

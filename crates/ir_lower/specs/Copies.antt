@@ -1,10 +1,10 @@
 -- What copies need to know of the body of a loop, without where it lies in memory.
 use Rattle.std.specs.Prelude.{◌==◌, Bool, false, ◌||◌, List, [], ◌∷◌, ◌++◌, map, if◌then◌else◌}
 use Rattle.hls_base.specs.declared.number.VarId.{VarId}
-use Rattle.block_meaning.specs.Bodies.{op_of}
-use Rattle.block_meaning.specs.Trees.{PartTree}
-use Rattle.lowering.specs.Copies as c
-use Rattle.lowering.specs.Copies.{shape_sets, outs_set}
+use Rattle.ir_core.specs.Bodies.{op_of}
+use Rattle.ir_core.specs.Trees.{PartTree}
+use Rattle.passes.specs.Lowering.Copies as c
+use Rattle.passes.specs.Lowering.Copies.{shape_sets, outs_set}
 use Rattle.ir_lower.specs.declared.copies.Fixed.{Fixed}
 use Rattle.ir_lower.specs.declared.copies.Copied.{Copied}
 

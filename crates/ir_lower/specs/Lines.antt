@@ -1,8 +1,8 @@
 -- Sequences of blocks while they grow, without where they lie in memory.
 use Rattle.std.specs.Prelude.{List, [], ◌∷◌, map}
-use Rattle.block_meaning.specs.Trees.{BlockTree, block_of, exit_of, SequenceTree, sequence, sequence_of, PartTrees, no_part, more_parts, PartTree, part_of, ShapeTree, shape_of, ArmTrees, no_arm, more_arms}
+use Rattle.ir_core.specs.Trees.{BlockTree, block_of, exit_of, SequenceTree, sequence, sequence_of, PartTrees, no_part, more_parts, PartTree, part_of, ShapeTree, shape_of, ArmTrees, no_arm, more_arms}
 use Rattle.block_draft.specs.Drafts.{open_at}
-use Rattle.lowering.specs.Lowering.{Rest, parts_of}
+use Rattle.passes.specs.Lowering.{Rest, parts_of}
 use Rattle.ir_lower.specs.declared.line.Closed.{Closed}
 use Rattle.ir_lower.specs.declared.line.Closed.TheVariants as closed
 use Rattle.ir_lower.specs.declared.line.Line.{Line}

@@ -6,7 +6,7 @@ use Rattle.hls_base.specs.declared.point.Point.{Point}
 use Rattle.pieces.specs.Trees as tree
 use Rattle.pieces.specs.Trees.{PieceTree}
 use Rattle.pieces.specs.Weight.{weight}
-use Rattle.lowering.specs.Shapes.{is_straight, is_eligible}
+use Rattle.passes.specs.Lowering.Shapes.{is_straight, is_eligible}
 
 abbrev pub pointed : Option (Bor Point) → Option Point
 pointed = option_map (λ point. point.now)

@@ -1,7 +1,7 @@
 //! The arms of a switch: at which pieces they begin, which of them the labels name, and their blocks while they grow.
 ghost use Rattle.std.specs.Prelude.{◌≡◌, ◌<◌, ℕ, ◌==◌, ◌||◌, ◌&&◌, ◌++◌, nat_lt, suc, false, List, length, get_or, IfOk, if◌then◌else◌, map};
-ghost use Rattle.block_meaning.specs.Trees.{ArmTrees, arm_row, sequence_of, part_of, part_row};
-ghost use Rattle.lowering.specs.Lowering as spec;
+ghost use Rattle.ir_core.specs.Trees.{ArmTrees, arm_row, sequence_of, part_of, part_row};
+ghost use Rattle.passes.specs.Lowering as spec;
 ghost use Rattle.ir_lower.specs.Arms.{begins_arm, arms_until};
 ghost use Rattle.ir_lower.specs.Lines.{first_parts, later_arms};
 
@@ -136,9 +136,9 @@ pub struct Blocks {
 
 impl Arms {
     ghost use Rattle.std.specs.Prelude.{◌≡◌, IfOk, if◌then◌else◌, map};
-    ghost use Rattle.block_meaning.specs.Trees.{break_, ArmTrees, no_arm, more_arms, sequence_of, part_of, part_row, arm_row};
-    ghost use Rattle.lowering.specs.Blocks.{begun};
-    ghost use Rattle.lowering.specs.Lowering.{Rest, last};
+    ghost use Rattle.ir_core.specs.Trees.{break_, ArmTrees, no_arm, more_arms, sequence_of, part_of, part_row, arm_row};
+    ghost use Rattle.passes.specs.Lowering.Blocks.{begun};
+    ghost use Rattle.passes.specs.Lowering.{Rest, last};
     ghost use Rattle.ir_lower.specs.Lines.{ended_arms, first_parts, later_arms};
 
     /// What stands before the first arm begins.

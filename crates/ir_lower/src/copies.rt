@@ -1,14 +1,14 @@
 //! In a loop that may be overlapped each variable that an iteration sets has an operation of its own for its value.
 ghost use Rattle.std.specs.Prelude.{◌≡◌, ◌&&◌, ◌∷◌, [], not, IfOk, if◌then◌else◌, map};
 ghost use Rattle.hls_base.specs.declared.number.VarId.{VarId};
-ghost use Rattle.block_meaning.specs.Bodies.{op_of};
-ghost use Rattle.block_meaning.specs.Trees.{sequence_of, shape_of, part_of, part_row, block_of};
+ghost use Rattle.ir_core.specs.Bodies.{op_of};
+ghost use Rattle.ir_core.specs.Trees.{sequence_of, shape_of, part_of, part_row, block_of};
 ghost use Rattle.c_value.specs.Values as values;
 ghost use Rattle.ir_core.specs.declared.body.OpKind.TheVariants as op;
-ghost use Rattle.lowering.specs.Operations.{gives, added, plain};
-ghost use Rattle.lowering.specs.Outs as settings;
-ghost use Rattle.lowering.specs.Blocks as blocks;
-ghost use Rattle.lowering.specs.Copies as spec;
+ghost use Rattle.passes.specs.Lowering.Operations.{gives, added, plain};
+ghost use Rattle.passes.specs.Lowering.Outs as settings;
+ghost use Rattle.passes.specs.Lowering.Blocks as blocks;
+ghost use Rattle.passes.specs.Lowering.Copies as spec;
 ghost use Rattle.block_draft.specs.Drafts.{scope_of};
 ghost use Rattle.ir_lower.specs.Copies.{is_in, with_if, fixed_of, copied_of};
 

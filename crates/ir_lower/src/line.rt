@@ -3,9 +3,9 @@ ghost use Rattle.std.specs.Prelude.{◌≡◌, IfOk};
 ghost use Rattle.hls_base.specs.declared.point.Point.{Point};
 ghost use Rattle.pieces.specs.Trees.{PieceTrees, then_};
 ghost use Rattle.pieces.specs.View.{piece_of, pieces_of};
-ghost use Rattle.block_meaning.specs.Trees.{ExitTree, exit_of, block_of, shape_of, SequenceTree, sequence_of};
-ghost use Rattle.lowering.specs.Blocks as spec;
-ghost use Rattle.lowering.specs.Lowering.{last, followed};
+ghost use Rattle.ir_core.specs.Trees.{ExitTree, exit_of, block_of, shape_of, SequenceTree, sequence_of};
+ghost use Rattle.passes.specs.Lowering.Blocks as spec;
+ghost use Rattle.passes.specs.Lowering.{last, followed};
 ghost use Rattle.ir_lower.specs.Lines.{behind};
 ghost use Rattle.block_draft.specs.Drafts.{scope_of, open_at};
 
@@ -72,9 +72,9 @@ fn set_before(expanded: &Expanded, draft: &mut Draft, branch: &Vec<Piece>) -> Re
 impl Line {
     ghost use Rattle.std.specs.Prelude.{◌≡◌, IfOk, if◌then◌else◌};
     ghost use Rattle.pieces.specs.View.{pure_of, pures_of, pieces_of};
-    ghost use Rattle.block_meaning.specs.Trees.{exit_of, break_, block_of, shape_of, sequence_of};
-    ghost use Rattle.lowering.specs.Blocks as spec;
-    ghost use Rattle.lowering.specs.Lowering.{Rest, last, followed};
+    ghost use Rattle.ir_core.specs.Trees.{exit_of, break_, block_of, shape_of, sequence_of};
+    ghost use Rattle.passes.specs.Lowering.Blocks as spec;
+    ghost use Rattle.passes.specs.Lowering.{Rest, last, followed};
     ghost use Rattle.block_draft.specs.Drafts.{scope_of};
     ghost use Rattle.ir_lower.specs.Lines.{open_of, ended};
 

@@ -3,11 +3,11 @@ ghost use Rattle.std.specs.Prelude.{◌≡◌, ◌+◌, IfOk, if◌then◌else�
 ghost use Rattle.std.specs.Option.{option_map};
 ghost use Rattle.pieces.specs.View.{pure_of, piece_of, pieces_of};
 ghost use Rattle.pieces.specs.Program.{expanded_of};
-ghost use Rattle.block_meaning.specs.Trees.{sequence_of, side, side_of, ArmTrees, more_arms, part_of, part_row, arm_row, break_};
-ghost use Rattle.lowering.specs.Shapes as shapes;
-ghost use Rattle.lowering.specs.Blocks.{begun, ends_by_test};
-ghost use Rattle.lowering.specs.Lowering as spec;
-ghost use Rattle.lowering.specs.Lowering.{Rest, last, lowering, side_from, stepped, parts_of};
+ghost use Rattle.ir_core.specs.Trees.{sequence_of, side, side_of, ArmTrees, more_arms, part_of, part_row, arm_row, break_};
+ghost use Rattle.passes.specs.Lowering.Shapes as shapes;
+ghost use Rattle.passes.specs.Lowering.Blocks.{begun, ends_by_test};
+ghost use Rattle.passes.specs.Lowering as spec;
+ghost use Rattle.passes.specs.Lowering.{Rest, last, lowering, side_from, stepped, parts_of};
 ghost use Rattle.block_draft.specs.Drafts.{scope_of};
 ghost use Rattle.ir_lower.specs.Frames.{frame_view, frame_of};
 ghost use Rattle.ir_lower.specs.Lines.{ended, ended_arms};

@@ -3,8 +3,8 @@ ghost use Rattle.std.specs.Prelude.{◌≡◌, ◌&&◌};
 ghost use Rattle.std.specs.Option.{option_map};
 ghost use Rattle.hls_base.specs.declared.point.Point.{Point};
 ghost use Rattle.pieces.specs.View.{piece_of, pieces_of};
-ghost use Rattle.lowering.specs.Shapes as spec;
-ghost use Rattle.lowering.specs.Lowering.{own_step};
+ghost use Rattle.passes.specs.Lowering.Shapes as spec;
+ghost use Rattle.passes.specs.Lowering.{own_step};
 ghost use Rattle.ir_lower.specs.Points.{pointed, is_fork_that_converts, is_loop_that_overlaps};
 
 use hls_base::point::Point;

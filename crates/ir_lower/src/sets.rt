@@ -1,9 +1,9 @@
 //! Which variables blocks set, and what they hold.
 ghost use Rattle.std.specs.Prelude.{◌≡◌, ◌||◌, map};
 ghost use Rattle.std.specs.Option.{option_map};
-ghost use Rattle.block_meaning.specs.Trees.{sequence_of, shape_of, part_of, part_row, side_of};
-ghost use Rattle.lowering.specs.Copies as spec;
-ghost use Rattle.lowering.specs.Outs as settings;
+ghost use Rattle.ir_core.specs.Trees.{sequence_of, shape_of, part_of, part_row, side_of};
+ghost use Rattle.passes.specs.Lowering.Copies as spec;
+ghost use Rattle.passes.specs.Lowering.Outs as settings;
 ghost use Rattle.ir_lower.specs.Copies.{is_in, part_sets};
 
 use block_draft::operations::entry_value;

@@ -5,9 +5,9 @@ use Rattle.hls_base.specs.declared.number.VarId.{VarId}
 use Rattle.hls_base.specs.declared.number.ArrayId.{ArrayId}
 use Rattle.hls_base.specs.declared.point.PointKind.{PointKind}
 use Rattle.hls_base.specs.declared.point.PointKind.TheVariants as point
-use Rattle.core_program.specs.Core as core
-use Rattle.core_program.specs.Core.{CoreTree, CoreObjectTree, CoreInitTree, CoreActionTree}
-use Rattle.core_meaning.specs.Statements.{action_tree}
+use Rattle.pieces.specs.Resolved.Core as core
+use Rattle.pieces.specs.Resolved.Core.{CoreTree, CoreObjectTree, CoreInitTree, CoreActionTree}
+use Rattle.c_meaning.specs.CoreRuns.Statements.{action_tree}
 use Rattle.pieces.specs.Trees as tree
 use Rattle.pieces.specs.Trees.{PureTree, PureTrees}
 use Rattle.piece_making.specs.declared.frame.Home.{Home}
@@ -20,8 +20,8 @@ use Rattle.piece_making.specs.Calls.{Call, point_in}
 use Rattle.piece_making.specs.Assigning.{Change, step, one, apply, new_value, target_read}
 use Rattle.c_expand.specs.Expressions.{Callee, expression}
 use Rattle.c_expand.specs.Statements.{marked, valued, changed, action, actions, item_value, filled, initialised, scalar_declared, declared_as, declare, tested, stepped, result_variable, result_set, returned, is_call, subscripts_at}
-use Rattle.expand_statements.specs.Scopes.{Setting, Reach, IsSoundIn, TestSound, ReturnSound, ActionsSound, ItemsSound, InitSound, objects_in, reach}
-use Rattle.expand_statements.specs.Each.{IfThere, EachItem, InInit, EachAction}
+use Rattle.expanded_programs.specs.Statements.Scopes.{Setting, Reach, IsSoundIn, TestSound, ReturnSound, ActionsSound, ItemsSound, InitSound, objects_in, reach}
+use Rattle.expanded_programs.specs.Statements.Each.{IfThere, EachItem, InInit, EachAction}
 use Rattle.kept_tables.specs.Programs.{KeepsConstants}
 use Rattle.kept_tables.specs.Worlds.{World, Knows, Makes, Whatever, IsStored, IsNoted}
 use Rattle.kept_tables.specs.Standing.{OwnKept, Stands, CallsKeep, constant_at}

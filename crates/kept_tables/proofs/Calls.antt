@@ -3,7 +3,7 @@ use Rattle.std.proofs.Common.{◌≡◌, ◌<◌, ◌≤◌, ℕ, zero, suc, Boo
 use Rattle.hls_base.specs.declared.place.Place.{Place}
 use Rattle.hls_base.specs.declared.point.Point.{Point}
 use Rattle.hls_base.specs.declared.point.PointKind.TheVariants as point
-use Rattle.core_program.specs.Core.{FileObjectTree, CoreFunctionTree, CoreProgramTree}
+use Rattle.pieces.specs.Resolved.Core.{FileObjectTree, CoreFunctionTree, CoreProgramTree}
 use Rattle.pieces.specs.declared.piece.CallId.{CallId}
 use Rattle.pieces.specs.Program.{ArrayTree}
 use Rattle.piece_making.specs.declared.frame.Home.{Home}
@@ -13,8 +13,8 @@ use Rattle.piece_making.specs.Calls.{Call, point_in}
 use Rattle.c_expand.specs.Expressions.{Given, Callee}
 use Rattle.c_expand.specs.Expansion.{end_of, run_through, within, opened, opened_as}
 use Rattle.c_expand.specs.Expansion as expansion
-use Rattle.expand_statements.specs.Scopes.{Setting, enter}
-use Rattle.expand_calls.specs.Programs.{setting_of, at_start, IsProgramSound}
+use Rattle.expanded_programs.specs.Statements.Scopes.{Setting, enter}
+use Rattle.expanded_programs.specs.Calls.Programs.{setting_of, at_start, IsProgramSound}
 use Rattle.compiled_plans.specs.Operations.{PutsNoTable}
 use Rattle.kept_tables.specs.Programs.{CallKeeps, ProgramKeepsConstants}
 use Rattle.kept_tables.specs.Worlds.{World, Later, Makes, Whatever}

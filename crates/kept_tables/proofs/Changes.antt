@@ -6,7 +6,7 @@ use Rattle.hls_base.specs.declared.number.VarId.{VarId}
 use Rattle.c_token.specs.declared.ctype.CType.{CType}
 use Rattle.c_tree.specs.declared.operator.Binary.{Binary}
 use Rattle.c_value.specs.Values.{int_type}
-use Rattle.core_program.specs.declared.expression.Cell.{Cell}
+use Rattle.pieces.specs.declared.resolved.expression.Cell.{Cell}
 use Rattle.pieces.specs.Trees as tree
 use Rattle.pieces.specs.Trees.{PureTree, PureTrees, PieceTree, piece_row}
 use Rattle.pieces.specs.Kind.{kind}

@@ -5,22 +5,22 @@ use Rattle.c_token.specs.declared.ctype.CType.{CType}
 use Rattle.c_token.specs.Replacement.{is_in, same_type}
 use Rattle.c_tree.specs.Tree as tree
 use Rattle.c_tree.specs.Tree.{Tree, TargetTree, Trees, ActionTree}
-use Rattle.c_checked.specs.Faults.{fault_if}
-use Rattle.c_checked.specs.Names.{Shape, is_array, Sense, object, function, Declared, sense_of, count, use_faults, target_faults, is_constant_object}
-use Rattle.c_checked.specs.Calls.{same_elements, same_lengths, fits, all_fit, called_faults, call_faults, void_faults, params_of}
-use Rattle.c_checked.specs.Conflicts.{Access, accesses, all_accesses, read_of, change_of, between, operand_conflicts, conflicts_among, conflicts_inside}
-use Rattle.c_checked.specs.Expressions.{is_given, name_given_faults, expression_faults, changed_faults, operand_faults, actions_faults, optional_faults}
-use Rattle.core_program.specs.declared.expression.Cell.{Cell}
-use Rattle.core_program.specs.Core as core
-use Rattle.core_program.specs.Core.{CoreTree, CoreObjectTree, CoreFunctionTree}
+use Rattle.c_meaning.specs.Checks.Faults.{fault_if}
+use Rattle.c_meaning.specs.Checks.Names.{Shape, is_array, Sense, object, function, Declared, sense_of, count, use_faults, target_faults, is_constant_object}
+use Rattle.c_meaning.specs.Checks.Calls.{same_elements, same_lengths, fits, all_fit, called_faults, call_faults, void_faults, params_of}
+use Rattle.c_meaning.specs.Checks.Conflicts.{Access, accesses, all_accesses, read_of, change_of, between, operand_conflicts, conflicts_among, conflicts_inside}
+use Rattle.c_meaning.specs.Checks.Expressions.{is_given, name_given_faults, expression_faults, changed_faults, operand_faults, actions_faults, optional_faults}
+use Rattle.pieces.specs.declared.resolved.expression.Cell.{Cell}
+use Rattle.pieces.specs.Resolved.Core as core
+use Rattle.pieces.specs.Resolved.Core.{CoreTree, CoreObjectTree, CoreFunctionTree}
 use Rattle.c_elaborate.specs.declared.names.Binding.{Binding}
 use Rattle.c_elaborate.specs.declared.functions.Signature.{Signature}
 use Rattle.c_elaborate.specs.Names.{object_named, function_number}
 use Rattle.c_elaborate.specs.Expressions.{array_given, argument_of, elaborated, all_elaborated, arguments_elaborated, action_elaborated}
-use Rattle.elaborate_runs.proofs.Sizes.{left_nil, right_nil, unbroken, both_true, holds}
-use Rattle.elaborate_runs.proofs.Faultless.{fourth}
-use Rattle.expand_statements.specs.Each.{IfThere, EachAction}
-use Rattle.expand_statements.specs.Scopes.{IsArray}
+use Rattle.c_elaborate.proofs.ElaborateRuns.Sizes.{left_nil, right_nil, unbroken, both_true, holds}
+use Rattle.c_elaborate.proofs.ElaborateRuns.Faultless.{fourth}
+use Rattle.expanded_programs.specs.Statements.Each.{IfThere, EachAction}
+use Rattle.expanded_programs.specs.Statements.Scopes.{IsArray}
 use Rattle.kept_tables.specs.Programs.{ArraysKeep, CallKeeps, KeepsConstants, EachKeeps, ArgumentKeeps, ArgumentsKeep}
 use Rattle.kept_tables.proofs.Actions.{Nowhere}
 use Rattle.kept_tables.proofs.Marked.{ObjectsMarked, IsMarkedAs, AreMarked, IsMarked, FunctionsMarked}

@@ -5,31 +5,31 @@ use Rattle.c_token.specs.declared.ctype.CType.{CType}
 use Rattle.c_token.specs.Replacement.{is_in, same_type}
 use Rattle.c_tree.specs.Tree as tree
 use Rattle.c_tree.specs.Tree.{ObjectTree, ParamTree, FunctionTree, ItemTree}
-use Rattle.c_checked.specs.Names.{Shape, is_array, same_flag, Sense, object, function, Declared, sense_of}
-use Rattle.c_checked.specs.Lengths.{shape_of}
-use Rattle.c_checked.specs.Calls.{same_lengths, same_shape, same_shapes, same_result, param_shapes, with_function, disagrees, declaration_faults}
-use Rattle.c_checked.specs.Limits.{file_objects}
-use Rattle.c_checked.specs.Statements.{with_object, with_objects, objects_faults, function_faults}
-use Rattle.c_checked.specs.Programs.{body_names, with_body, items_faults}
+use Rattle.c_meaning.specs.Checks.Names.{Shape, is_array, same_flag, Sense, object, function, Declared, sense_of}
+use Rattle.c_meaning.specs.Checks.Lengths.{shape_of}
+use Rattle.c_meaning.specs.Checks.Calls.{same_lengths, same_shape, same_shapes, same_result, param_shapes, with_function, disagrees, declaration_faults}
+use Rattle.c_meaning.specs.Checks.Limits.{file_objects}
+use Rattle.c_meaning.specs.Checks.Statements.{with_object, with_objects, objects_faults, function_faults}
+use Rattle.c_meaning.specs.Checks.Programs.{body_names, with_body, items_faults}
 use Rattle.c_meaning.specs.Run.{function_named, first_of}
-use Rattle.core_program.specs.declared.expression.Cell.{Cell}
-use Rattle.core_program.specs.declared.expression.Scope.TheVariants as scope
-use Rattle.core_program.specs.Core.{CoreObjectTree, CoreFunctionTree, FileObjectTree}
+use Rattle.pieces.specs.declared.resolved.expression.Cell.{Cell}
+use Rattle.pieces.specs.declared.resolved.expression.Scope.TheVariants as scope
+use Rattle.pieces.specs.Resolved.Core.{CoreObjectTree, CoreFunctionTree, FileObjectTree}
 use Rattle.c_elaborate.specs.declared.names.Binding.{Binding}
 use Rattle.c_elaborate.specs.Names.{object_named, binding_of, cell_of}
 use Rattle.c_elaborate.specs.Objects.{object_elaborated}
 use Rattle.c_elaborate.specs.Programs.{file_object, file_names, objects_of_params, functions_elaborated, signatures}
-use Rattle.elaborate_runs.specs.Homes.{Each}
-use Rattle.elaborate_runs.specs.Resolved.{HasLengths, ItemResolved, file_scene_of}
-use Rattle.elaborate_runs.proofs.Lists.{bytes_turned}
-use Rattle.elaborate_runs.proofs.Sizes.{left_nil, right_nil, unbroken, neither, both_true, holds}
-use Rattle.elaborate_runs.proofs.FaultlessPrograms.{names_all, Keeps, keeps_items, final}
-use Rattle.expand_statements.specs.Scopes.{Setting}
+use Rattle.c_elaborate.specs.Homes.{Each}
+use Rattle.c_elaborate.specs.Resolved.{HasLengths, ItemResolved, file_scene_of}
+use Rattle.c_elaborate.proofs.ElaborateRuns.Lists.{bytes_turned}
+use Rattle.c_elaborate.proofs.ElaborateRuns.Sizes.{left_nil, right_nil, unbroken, neither, both_true, holds}
+use Rattle.c_elaborate.proofs.ElaborateRuns.FaultlessPrograms.{names_all, Keeps, keeps_items, final}
+use Rattle.expanded_programs.specs.Statements.Scopes.{Setting}
 use Rattle.elaborated_programs.proofs.Functions.{all_there}
 use Rattle.kept_tables.specs.Programs.{file_constant, constant_of}
 use Rattle.kept_tables.proofs.Marked.{ObjectsMarked, AreMarked, IsMarked, FunctionsMarked, objects_more}
-use Rattle.elaborated_subscripts.proofs.Dimensions.{dimensions_kept}
-use Rattle.elaborated_subscripts.proofs.Expressions.{same_count}
+use Rattle.source_runs.proofs.ElaboratedSubscripts.Dimensions.{dimensions_kept}
+use Rattle.source_runs.proofs.ElaboratedSubscripts.Expressions.{same_count}
 
 -- ---- objects of file scope
 

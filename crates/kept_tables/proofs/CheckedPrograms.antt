@@ -3,32 +3,32 @@ use Rattle.std.proofs.Common.{◌≡◌, ℕ, zero, suc, ◌+◌, sym, refl, sub
 use Rattle.std.proofs.lemmas.Option.{none-some, same_Some}
 use Rattle.c_tree.specs.Tree as tree
 use Rattle.c_tree.specs.Tree.{ObjectTree, StmtTrees, FunctionTree, ItemTree, ProgramTree}
-use Rattle.c_checked.specs.Names.{Declared, object, function}
-use Rattle.c_checked.specs.Calls.{with_function, declaration_faults}
-use Rattle.c_checked.specs.Labels.{in_function}
-use Rattle.c_checked.specs.Limits.{limit_faults, param_places, function_arrays, new_function_places, file_arrays, file_objects, kept_faults}
-use Rattle.c_checked.specs.Recursion.{callers, recursion_faults}
-use Rattle.c_checked.specs.Statements.{with_object, with_objects, with_params, objects_faults, params_faults, body_faults, function_faults}
-use Rattle.c_checked.specs.Programs.{body_names, with_body, items_faults, top_faults}
+use Rattle.c_meaning.specs.Checks.Names.{Declared, object, function}
+use Rattle.c_meaning.specs.Checks.Calls.{with_function, declaration_faults}
+use Rattle.c_meaning.specs.Checks.Labels.{in_function}
+use Rattle.c_meaning.specs.Checks.Limits.{limit_faults, param_places, function_arrays, new_function_places, file_arrays, file_objects, kept_faults}
+use Rattle.c_meaning.specs.Checks.Recursion.{callers, recursion_faults}
+use Rattle.c_meaning.specs.Checks.Statements.{with_object, with_objects, with_params, objects_faults, params_faults, body_faults, function_faults}
+use Rattle.c_meaning.specs.Checks.Programs.{body_names, with_body, items_faults, top_faults}
 use Rattle.c_meaning.specs.Store.{declared_in}
-use Rattle.core_program.specs.Core.{CoreObjectTree, CoreFunctionTree, FileObjectTree}
+use Rattle.pieces.specs.Resolved.Core.{CoreObjectTree, CoreFunctionTree, FileObjectTree}
 use Rattle.c_elaborate.specs.declared.blocks.Scene.{Scene}
 use Rattle.c_elaborate.specs.declared.functions.Signature.{Signature}
 use Rattle.c_elaborate.specs.Objects.{object_elaborated, objects_within}
 use Rattle.c_elaborate.specs.Scenes.{declared, opened, all_declared}
 use Rattle.c_elaborate.specs.Programs.{file_object, objects_of_params, function_elaborated, function_of_item, functions_elaborated, signatures, program_elaborated}
-use Rattle.elaborate_runs.specs.Homes.{Each, Has}
-use Rattle.elaborate_runs.specs.Grammatical.{AllDeclareInBlocks, ItemDeclaresInBlocks, BodyDeclaresInBlocks}
-use Rattle.elaborate_runs.specs.Resolved.{ItemResolved, file_scene_of}
-use Rattle.elaborate_runs.proofs.Sizes.{left_nil, right_nil}
-use Rattle.elaborate_runs.proofs.Functions.{has_body}
-use Rattle.elaborate_runs.proofs.Grammar.{grammar_blocks}
-use Rattle.elaborate_runs.proofs.FaultlessStatements.{params_named}
-use Rattle.elaborate_runs.proofs.FaultlessPrograms.{names_all, Keeps, keeps_items, final, faultless_resolved}
+use Rattle.c_elaborate.specs.Homes.{Each, Has}
+use Rattle.c_elaborate.specs.Grammatical.{AllDeclareInBlocks, ItemDeclaresInBlocks, BodyDeclaresInBlocks}
+use Rattle.c_elaborate.specs.Resolved.{ItemResolved, file_scene_of}
+use Rattle.c_elaborate.proofs.ElaborateRuns.Sizes.{left_nil, right_nil}
+use Rattle.c_elaborate.proofs.ElaborateRuns.Functions.{has_body}
+use Rattle.c_elaborate.proofs.ElaborateRuns.Grammar.{grammar_blocks}
+use Rattle.c_elaborate.proofs.ElaborateRuns.FaultlessStatements.{params_named}
+use Rattle.c_elaborate.proofs.ElaborateRuns.FaultlessPrograms.{names_all, Keeps, keeps_items, final, faultless_resolved}
 use Rattle.kept_tables.proofs.Whole.{expanded_kept}
 use Rattle.elaborated_programs.proofs.Whole.{elaborated_sound}
 use Rattle.elaborated_programs.proofs.Stages.{has_front, has_back}
-use Rattle.expand_statements.specs.Each.{InStmts}
+use Rattle.expanded_programs.specs.Statements.Each.{InStmts}
 use Rattle.kept_tables.specs.Programs.{KeepsConstants, constant_of}
 use Rattle.kept_tables.specs.Laws.{ElaboratedConstantsKept, CheckedTablesKept}
 use Rattle.kept_tables.proofs.CheckedStatements.{SeenIn, seen_declared, all_keep}

@@ -5,17 +5,17 @@ use Rattle.hls_base.specs.ArrayAddress.{element_count}
 use Rattle.c_tree.specs.Tree as tree
 use Rattle.c_tree.specs.Tree.{Tree, InitTree, InitTrees, ObjectTree, StmtTree, ElseTree, FirstTree, StmtTrees}
 use Rattle.c_value.specs.Values.{promoted}
-use Rattle.c_checked.specs.Faults.{fault_if}
-use Rattle.c_checked.specs.Names.{Declared, is_declared_since, kind_of}
-use Rattle.c_checked.specs.Lengths.{form_faults}
-use Rattle.c_checked.specs.Labels.{Around, in_part, in_loop, in_switch, outside_faults, has_no_value, return_faults, repeated_faults, block_labels}
-use Rattle.c_checked.specs.Expressions.{expression_faults, actions_faults, optional_faults, lengths_faults, init_faults, inits_faults, optional_init_faults}
-use Rattle.c_checked.specs.Statements.{with_object, with_objects, object_faults, objects_faults, names_behind, names_in_for, statement_faults, else_faults, first_faults, block_faults}
+use Rattle.c_meaning.specs.Checks.Faults.{fault_if}
+use Rattle.c_meaning.specs.Checks.Names.{Declared, is_declared_since, kind_of}
+use Rattle.c_meaning.specs.Checks.Lengths.{form_faults}
+use Rattle.c_meaning.specs.Checks.Labels.{Around, in_part, in_loop, in_switch, outside_faults, has_no_value, return_faults, repeated_faults, block_labels}
+use Rattle.c_meaning.specs.Checks.Expressions.{expression_faults, actions_faults, optional_faults, lengths_faults, init_faults, inits_faults, optional_init_faults}
+use Rattle.c_meaning.specs.Checks.Statements.{with_object, with_objects, object_faults, objects_faults, names_behind, names_in_for, statement_faults, else_faults, first_faults, block_faults}
 use Rattle.c_meaning.specs.Store.{lengths_in, declared_by, declared_in, declared_first}
 use Rattle.c_meaning.specs.Statement.{items_of, rows_of}
-use Rattle.core_program.specs.declared.expression.Cell.{Cell}
-use Rattle.core_program.specs.declared.expression.Scope.TheVariants as scope
-use Rattle.core_program.specs.Core.{CoreTree, CoreObjectTree, CoreFunctionTree, FileObjectTree, CoreStmtTree, stmt_row}
+use Rattle.pieces.specs.declared.resolved.expression.Cell.{Cell}
+use Rattle.pieces.specs.declared.resolved.expression.Scope.TheVariants as scope
+use Rattle.pieces.specs.Resolved.Core.{CoreTree, CoreObjectTree, CoreFunctionTree, FileObjectTree, CoreStmtTree, stmt_row}
 use Rattle.c_elaborate.specs.declared.blocks.Scene.{Scene}
 use Rattle.c_elaborate.specs.declared.names.Binding.{Binding}
 use Rattle.c_elaborate.specs.declared.functions.Signature.{Signature}
@@ -25,12 +25,12 @@ use Rattle.c_elaborate.specs.Scenes.{opened, labelled_by, declared, all_declared
 use Rattle.c_elaborate.specs.Expressions as ee
 use Rattle.c_elaborate.specs.Expressions.{elaborated}
 use Rattle.c_elaborate.specs.Statements.{init_elaborated, declarations, item, statement, else_statement, first_statements, statements}
-use Rattle.elaborate_runs.specs.Homes.{Has}
-use Rattle.elaborate_runs.specs.Grammatical.{DeclaresInBlocks, ElseDeclaresInBlocks, FirstDeclaresInBlocks, AllDeclareInBlocks}
-use Rattle.elaborate_runs.proofs.Sizes.{left_nil, right_nil}
-use Rattle.elaborate_runs.proofs.FaultlessStatements.{behind}
+use Rattle.c_elaborate.specs.Homes.{Has}
+use Rattle.c_elaborate.specs.Grammatical.{DeclaresInBlocks, ElseDeclaresInBlocks, FirstDeclaresInBlocks, AllDeclareInBlocks}
+use Rattle.c_elaborate.proofs.ElaborateRuns.Sizes.{left_nil, right_nil}
+use Rattle.c_elaborate.proofs.ElaborateRuns.FaultlessStatements.{behind}
 use Rattle.elaborated_programs.proofs.Stages.{has_front, has_back, next_behind}
-use Rattle.expand_statements.specs.Each.{EachItem, InInit, InStmt, InElse, InStmts}
+use Rattle.expanded_programs.specs.Statements.Each.{EachItem, InInit, InStmt, InElse, InStmts}
 use Rattle.kept_tables.specs.Programs.{own_constant, constant_of}
 use Rattle.kept_tables.proofs.Actions.{Nowhere}
 use Rattle.kept_tables.proofs.Marked.{objects_more, functions_more}

@@ -4,9 +4,9 @@ use Rattle.std.proofs.lemmas.List.{append-nil, append_assoc}
 use Rattle.hls_base.specs.declared.place.Place.{Place}
 use Rattle.c_token.specs.declared.ctype.CType.{CType}
 use Rattle.c_tree.specs.declared.operator.Binary.{Binary}
-use Rattle.core_program.specs.declared.expression.Cell.{Cell}
-use Rattle.core_program.specs.Core as core
-use Rattle.core_program.specs.Core.{CoreTree, CoreTargetTree, CoreTrees, ArgumentTree, ArgumentTrees, CoreFunctionTree}
+use Rattle.pieces.specs.declared.resolved.expression.Cell.{Cell}
+use Rattle.pieces.specs.Resolved.Core as core
+use Rattle.pieces.specs.Resolved.Core.{CoreTree, CoreTargetTree, CoreTrees, ArgumentTree, ArgumentTrees, CoreFunctionTree}
 use Rattle.pieces.specs.Trees.{PureTree, row}
 use Rattle.piece_making.specs.declared.effects.Effects.{Effects}
 use Rattle.piece_making.specs.Acting.{either, no_effects, effects, effects_of_all, effects_of_arguments}

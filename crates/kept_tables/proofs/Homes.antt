@@ -4,8 +4,8 @@ use Rattle.std.proofs.lemmas.Bool.{true≢false, ne_eqb}
 use Rattle.std.proofs.lemmas.List.{append-nil, append_assoc, take-append-drop, length-take-le}
 use Rattle.std.proofs.lemmas.Option.{none-some, same_Some}
 use Rattle.hls_base.specs.declared.number.Kept.{Kept}
-use Rattle.core_program.specs.Core as core
-use Rattle.core_program.specs.Core.{CoreObjectTree, FileObjectTree, CoreFunctionTree, ArgumentTrees}
+use Rattle.pieces.specs.Resolved.Core as core
+use Rattle.pieces.specs.Resolved.Core.{CoreObjectTree, FileObjectTree, CoreFunctionTree, ArgumentTrees}
 use Rattle.piece_making.specs.declared.frame.Home.{Home}
 use Rattle.piece_making.specs.declared.frame.Home.TheVariants as home
 use Rattle.piece_making.specs.Making.{State, gives, then_, fresh, add_array}
@@ -13,7 +13,7 @@ use Rattle.piece_making.specs.Objects.{local_of, host_array, file_array, array_l
 use Rattle.c_expand.specs.Expressions as e
 use Rattle.c_expand.specs.Expressions.{Given}
 use Rattle.c_expand.specs.Expansion.{parameter, parameters, locals, homes_for, is_array, is_kept, kept_scalar, kept_scalars, first_kept, file_home, kept_behind, file_homes, top_parameters}
-use Rattle.expand_statements.specs.Scopes.{Setting, Reach, IsScalar, TakesAll, objects_in}
+use Rattle.expanded_programs.specs.Statements.Scopes.{Setting, Reach, IsScalar, TakesAll, objects_in}
 use Rattle.kept_tables.specs.Programs.{ArraysKeep}
 use Rattle.kept_tables.specs.Worlds.{World, Later, Knows, Makes, IsStored, Whatever}
 use Rattle.kept_tables.specs.Standing.{AreGiven, FileKept, OwnKept, constant_at}

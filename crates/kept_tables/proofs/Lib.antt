@@ -13,3 +13,5 @@ pub mod CheckedExpressions
 pub mod CheckedStatements
 pub mod CheckedFunctions
 pub mod CheckedPrograms
+pub mod Joined
+pub mod Programs

@@ -3,11 +3,11 @@ use Rattle.std.proofs.Common.{◌≡◌, ℕ, ◌∙◌, ap, Bool, true, false, 
 use Rattle.c_tree.specs.Tree.{ObjectTree}
 use Rattle.c_token.specs.Replacement.{is_in}
 use Rattle.c_token.specs.declared.ctype.CType.{CType}
-use Rattle.c_checked.specs.Names.{Shape, is_array, object, function, Declared, sense_of}
-use Rattle.c_checked.specs.Lengths.{shape_of}
-use Rattle.c_checked.specs.Statements.{with_object}
-use Rattle.core_program.specs.declared.expression.Cell.{Cell}
-use Rattle.core_program.specs.Core.{CoreObjectTree, CoreFunctionTree}
+use Rattle.c_meaning.specs.Checks.Names.{Shape, is_array, object, function, Declared, sense_of}
+use Rattle.c_meaning.specs.Checks.Lengths.{shape_of}
+use Rattle.c_meaning.specs.Checks.Statements.{with_object}
+use Rattle.pieces.specs.declared.resolved.expression.Cell.{Cell}
+use Rattle.pieces.specs.Resolved.Core.{CoreObjectTree, CoreFunctionTree}
 use Rattle.c_elaborate.specs.declared.names.Binding.{Binding}
 use Rattle.c_elaborate.specs.declared.functions.Signature.{Signature}
 use Rattle.c_elaborate.specs.Names.{object_found, object_named, known_or_int, binding_of, function_number}

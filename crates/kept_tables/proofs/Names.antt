@@ -1,15 +1,15 @@
 -- What names stand for in a call.
 use Rattle.std.proofs.Common.{◌≡◌, ◌∙◌, ◌<◌, ◌≤◌, ◌⊎◌, inl, inr, ℕ, false, refl, ap, sym, subst, arith, slice_get, Some}
 use Rattle.c_token.specs.declared.ctype.CType.{CType}
-use Rattle.core_program.specs.declared.expression.Scope.{Scope}
-use Rattle.core_program.specs.declared.expression.Scope.TheVariants as scope
-use Rattle.core_program.specs.Core.{FileObjectTree, CoreObjectTree}
+use Rattle.pieces.specs.declared.resolved.expression.Scope.{Scope}
+use Rattle.pieces.specs.declared.resolved.expression.Scope.TheVariants as scope
+use Rattle.pieces.specs.Resolved.Core.{FileObjectTree, CoreObjectTree}
 use Rattle.piece_making.specs.declared.frame.Home.{Home}
 use Rattle.piece_making.specs.declared.frame.Home.TheVariants as home
 use Rattle.piece_making.specs.declared.work.Slot.{Slot}
 use Rattle.piece_making.specs.Making.{State, noted}
 use Rattle.piece_making.specs.Calls.{Call, homes_in, array_in}
-use Rattle.expand_statements.specs.Scopes.{Setting, Reach, IsArray, ArrayIn, objects_in}
+use Rattle.expanded_programs.specs.Statements.Scopes.{Setting, Reach, IsArray, ArrayIn, objects_in}
 use Rattle.kept_tables.specs.Programs.{file_constant, own_constant, constant_in}
 use Rattle.kept_tables.specs.Worlds.{World, Later, IsStored, IsNoted}
 use Rattle.kept_tables.specs.Standing.{Names, FileKept, OwnKept, Stands, constant_at}

@@ -12,7 +12,7 @@ use Rattle.piece_making.specs.declared.work.Slot.{Slot}
 use Rattle.piece_making.specs.Making.{State, Part, gives, then_, emit, inside, inside_switch, label, declared, fresh, fresh_result, add_array, new_slot, note_array, next_call, next_loop, set_own}
 use Rattle.expand_runs.specs.Growing.{Begins}
 use Rattle.expand_runs.proofs.Growing.{begins_more, last_one, slots_here, slots_there, slots_length}
-use Rattle.expand_calls.proofs.Lists.{get_last}
+use Rattle.expanded_programs.proofs.Calls.Lists.{get_last}
 use Rattle.compiled_plans.specs.Operations.{PutsNoTable, PutNoTables}
 use Rattle.kept_tables.specs.Worlds.{World, Later, Knows, Makes, MakesLater, Whatever, Inside, IsStored, KeepTables, IsNoted}
 

@@ -3,8 +3,8 @@ use Rattle.std.proofs.Common.{ℕ, Bool, true, false, ◌&&◌, List, [], Option
 use Rattle.hls_base.specs.declared.place.Place.{Place}
 use Rattle.hls_base.specs.declared.point.PointKind.{PointKind}
 use Rattle.hls_base.specs.declared.point.PointKind.TheVariants as point
-use Rattle.core_program.specs.Core as core
-use Rattle.core_program.specs.Core.{CoreTree, CoreActionTree, CoreStmtTree, CoreStmtTrees, CoreElseTree}
+use Rattle.pieces.specs.Resolved.Core as core
+use Rattle.pieces.specs.Resolved.Core.{CoreTree, CoreActionTree, CoreStmtTree, CoreStmtTrees, CoreElseTree}
 use Rattle.pieces.specs.Trees as tree
 use Rattle.pieces.specs.Trees.{PureTree, piece_row}
 use Rattle.piece_making.specs.Leaving.{is_empty}
@@ -12,8 +12,8 @@ use Rattle.piece_making.specs.Making.{State, Part, gives, then_, inside}
 use Rattle.piece_making.specs.Calls.{Call, point_in}
 use Rattle.c_expand.specs.Expressions.{Callee}
 use Rattle.c_expand.specs.Statements.{marked, tested, stepped, branch, switched, repeat, statement, other_branch, statements}
-use Rattle.expand_statements.specs.Scopes.{Setting, Reach, IsSoundIn, TestSound, ActionsSound, StmtSound, ElseSound, StmtsSound, enter, behind, behind_all}
-use Rattle.expand_statements.specs.Each.{IfThere, EachAction, InStmt, InElse, InStmts}
+use Rattle.expanded_programs.specs.Statements.Scopes.{Setting, Reach, IsSoundIn, TestSound, ActionsSound, StmtSound, ElseSound, StmtsSound, enter, behind, behind_all}
+use Rattle.expanded_programs.specs.Statements.Each.{IfThere, EachAction, InStmt, InElse, InStmts}
 use Rattle.kept_tables.specs.Worlds.{World, Knows, Makes, MakesLater, Whatever, Inside}
 use Rattle.kept_tables.specs.Standing.{Stands}
 use Rattle.kept_tables.proofs.Parts.{later_both, pieces_later, then_makes, gives_makes, known, emit_makes, label_makes, loop_makes, inside_makes, switch_makes}

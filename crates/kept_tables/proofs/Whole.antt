@@ -1,11 +1,11 @@
 -- The pieces of a whole program set no table.
 use Rattle.std.proofs.Common.{◌≡◌, ℕ, refl, sym, subst, arith, List, [], length, take, slice_get, Some}
 use Rattle.std.proofs.lemmas.Option.{none-some}
-use Rattle.core_program.specs.Core.{CoreFunctionTree, CoreProgramTree}
+use Rattle.pieces.specs.Resolved.Core.{CoreFunctionTree, CoreProgramTree}
 use Rattle.piece_making.specs.declared.frame.Home.{Home}
 use Rattle.piece_making.specs.Making.{State}
 use Rattle.c_expand.specs.Expansion.{calls, outermost, top_call, top_run, top_made, named, nothing}
-use Rattle.expand_calls.specs.Programs.{IsProgramSound}
+use Rattle.expanded_programs.specs.Calls.Programs.{IsProgramSound}
 use Rattle.compiled_plans.specs.Operations.{PutNoTables}
 use Rattle.kept_tables.specs.Programs.{ProgramKeepsConstants}
 use Rattle.kept_tables.specs.Worlds.{World, Makes, Whatever}

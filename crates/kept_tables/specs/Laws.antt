@@ -4,12 +4,12 @@ use Rattle.hls_base.specs.declared.place.Place.{Place}
 use Rattle.c_tree.specs.Tree.{ProgramTree}
 use Rattle.c_tree.specs.Terminals.{Terminal}
 use Rattle.c_tree.specs.Grammar.{DerivesProgram}
-use Rattle.c_checked.specs.Programs.{top_name, program_faults}
+use Rattle.c_meaning.specs.Checks.Programs.{top_name, program_faults}
 use Rattle.c_elaborate.specs.Programs.{program_elaborated}
 use Rattle.elaborated_programs.specs.Written.{NumbersFit}
-use Rattle.core_program.specs.Core.{CoreProgramTree}
+use Rattle.pieces.specs.Resolved.Core.{CoreProgramTree}
 use Rattle.c_expand.specs.Expansion.{expansion}
-use Rattle.expand_calls.specs.Programs.{IsProgramSound}
+use Rattle.expanded_programs.specs.Calls.Programs.{IsProgramSound}
 use Rattle.compiled_plans.specs.Operations.{PutNoTables}
 use Rattle.kept_tables.specs.Programs.{ProgramKeepsConstants}
 

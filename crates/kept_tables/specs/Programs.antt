@@ -1,12 +1,12 @@
 -- Core programs that set no object that is const.
 use Rattle.std.specs.Prelude.{◌≡◌, ℕ, Bool, false, List, ◌∷◌, take, slice_get, Option, Some, None}
-use Rattle.core_program.specs.declared.expression.Cell.{Cell}
-use Rattle.core_program.specs.declared.expression.Scope.{Scope}
-use Rattle.core_program.specs.declared.expression.Scope.TheVariants as scope
-use Rattle.core_program.specs.Core as core
-use Rattle.core_program.specs.Core.{CoreTree, CoreTargetTree, CoreTrees, ArgumentTree, ArgumentTrees, FileObjectTree, CoreObjectTree, CoreFunctionTree, CoreProgramTree}
-use Rattle.expand_statements.specs.Scopes.{IsArray}
-use Rattle.expand_statements.specs.Each.{InStmts}
+use Rattle.pieces.specs.declared.resolved.expression.Cell.{Cell}
+use Rattle.pieces.specs.declared.resolved.expression.Scope.{Scope}
+use Rattle.pieces.specs.declared.resolved.expression.Scope.TheVariants as scope
+use Rattle.pieces.specs.Resolved.Core as core
+use Rattle.pieces.specs.Resolved.Core.{CoreTree, CoreTargetTree, CoreTrees, ArgumentTree, ArgumentTrees, FileObjectTree, CoreObjectTree, CoreFunctionTree, CoreProgramTree}
+use Rattle.expanded_programs.specs.Statements.Scopes.{IsArray}
+use Rattle.expanded_programs.specs.Statements.Each.{InStmts}
 
 abbrev pub file_constant : Option FileObjectTree → Bool
 file_constant None = false

@@ -2,9 +2,9 @@
 use Rattle.std.specs.Prelude.{◌≡◌, ℕ, ◌<◌, ◌≤◌, Bool, false, List, [], ◌∷◌, length, slice_get, Option, Some}
 use Rattle.hls_base.specs.declared.place.Place.{Place}
 use Rattle.c_token.specs.declared.ctype.CType.{CType}
-use Rattle.core_program.specs.declared.expression.Cell.{Cell}
-use Rattle.core_program.specs.Core as core
-use Rattle.core_program.specs.Core.{ArgumentTree, ArgumentTrees, FileObjectTree, CoreObjectTree, CoreFunctionTree}
+use Rattle.pieces.specs.declared.resolved.expression.Cell.{Cell}
+use Rattle.pieces.specs.Resolved.Core as core
+use Rattle.pieces.specs.Resolved.Core.{ArgumentTree, ArgumentTrees, FileObjectTree, CoreObjectTree, CoreFunctionTree}
 use Rattle.piece_making.specs.declared.frame.Home.{Home}
 use Rattle.piece_making.specs.declared.frame.Home.TheVariants as home
 use Rattle.piece_making.specs.declared.work.Slot.{Slot}
@@ -13,7 +13,7 @@ use Rattle.piece_making.specs.Calls.{Call, array}
 use Rattle.c_expand.specs.Expressions as e
 use Rattle.c_expand.specs.Expressions.{Given, Callee}
 use Rattle.expand_runs.specs.Sound.{Objects}
-use Rattle.expand_statements.specs.Scopes.{Setting, Reach, IsScalar}
+use Rattle.expanded_programs.specs.Statements.Scopes.{Setting, Reach, IsScalar}
 use Rattle.kept_tables.specs.Programs.{CallKeeps, constant_of}
 use Rattle.kept_tables.specs.Worlds.{World, Later, Makes, Whatever, IsStored, IsNoted}
 

@@ -3,10 +3,10 @@ use Rattle.std.proofs.Common.{◌≡◌, ◌∙◌, ℕ, ◌+◌, refl, ap, sym,
 use Rattle.std.specs.Prelude.{slice_get, get_or}
 use Rattle.std.proofs.Math.Seq.{get_or-append_seam}
 use Rattle.ir_core.specs.declared.body.Operand.{Operand}
-use Rattle.ir_operation.specs.Timing.{result_bits}
-use Rattle.run_steps.specs.Valued.{Valued, is, faulty, and_then}
-use Rattle.block_meaning.specs.Bodies.{OpTree, Shapes, Words, Performed, Ranged, operand, bits_in, perform, operations}
-use Rattle.lowering.specs.Operations.{Emitted, added}
+use Rattle.ir_core.specs.Timing.{result_bits}
+use Rattle.hls_base.specs.Valued.{Valued, is, faulty, and_then}
+use Rattle.ir_core.specs.Bodies.{OpTree, Shapes, Words, Performed, Ranged, operand, bits_in, perform, operations}
+use Rattle.passes.specs.Lowering.Operations.{Emitted, added}
 use Rattle.lower_runs.proofs.Growing.{seam, Grows, grows_nothing}
 use Rattle.lower_runs.specs.Standing.{Stands, Fits}
 

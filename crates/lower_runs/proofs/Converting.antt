@@ -11,12 +11,12 @@ use Rattle.ir_core.specs.declared.body.OpKind.TheVariants as o
 use Rattle.ir_core.specs.declared.body.Operand.{Operand}
 use Rattle.ir_core.specs.declared.body.Source.{Source}
 use Rattle.ir_core.specs.declared.body.Source.TheVariants as source
-use Rattle.ir_operation.specs.Value as op
-use Rattle.run_steps.specs.Valued.{is}
-use Rattle.block_meaning.specs.Bodies.{OpTree, Shapes, Words, Ranged, word, operand, operand_bits}
-use Rattle.lowering.specs.Operations as lower
-use Rattle.lowering.specs.Operations.{Emitted, Given, added, constant, plain, defined, conversion, resized, converted, converted_from, valued, tested, assigned, promoted_value, balanced, kind_of}
-use Rattle.operator_words.specs.Words.{IsType, IsWord, conversion_word, resized_word, ConversionsAgree}
+use Rattle.ir_core.specs.Value as op
+use Rattle.hls_base.specs.Valued.{is}
+use Rattle.ir_core.specs.Bodies.{OpTree, Shapes, Words, Ranged, word, operand, operand_bits}
+use Rattle.passes.specs.Lowering.Operations as lower
+use Rattle.passes.specs.Lowering.Operations.{Emitted, Given, added, constant, plain, defined, conversion, resized, converted, converted_from, valued, tested, assigned, promoted_value, balanced, kind_of}
+use Rattle.lower_runs.specs.OperatorWords.Words.{IsType, IsWord, conversion_word, resized_word, ConversionsAgree}
 use Rattle.lower_runs.proofs.Growing.{Grows, grows_on, fits_grow, word_grows}
 use Rattle.lower_runs.proofs.Adding.{Adds, adds, adds_nothing}
 use Rattle.lower_runs.specs.Standing.{HasBits, Stands, Fits}

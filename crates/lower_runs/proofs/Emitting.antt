@@ -14,17 +14,17 @@ use Rattle.c_value.specs.Operators as c
 use Rattle.c_value.specs.Operators.{Computed, truth, is_true, unary_kind, binary_kind, unary_value, binary_value}
 use Rattle.ir_core.specs.declared.body.OpKind.TheVariants as o
 use Rattle.ir_core.specs.declared.body.Operand.{Operand}
-use Rattle.ir_operation.specs.Value as op
-use Rattle.run_steps.specs.Valued.{Valued, is, faulty, and_then}
-use Rattle.piece_meaning.specs.Values.{Store, computed, element_at, element_number, lengths_in}
-use Rattle.piece_meaning.specs.Pieces.{Frame, kind_at}
-use Rattle.block_meaning.specs.Bodies as block
-use Rattle.block_meaning.specs.Bodies.{first_bits, OpTree, Shapes, Words, Ranged, Performed, performed, operand, address_of, is_within, is_allowed, dims_of, effect, perform}
-use Rattle.lowering.specs.Operations.{added, flagged, kind_of, valued}
-use Rattle.lowering.specs.Guards.{Guard, guarded}
-use Rattle.lowering.specs.Expressions.{Evaluated, Subscripts, loaded, subscript, left_type, right_type}
+use Rattle.ir_core.specs.Value as op
+use Rattle.hls_base.specs.Valued.{Valued, is, faulty, and_then}
+use Rattle.c_meaning.specs.PieceRuns.Values.{Store, computed, element_at, element_number, lengths_in}
+use Rattle.c_meaning.specs.PieceRuns.Pieces.{Frame, kind_at}
+use Rattle.ir_core.specs.Bodies as block
+use Rattle.ir_core.specs.Bodies.{first_bits, OpTree, Shapes, Words, Ranged, Performed, performed, operand, address_of, is_within, is_allowed, dims_of, effect, perform}
+use Rattle.passes.specs.Lowering.Operations.{added, flagged, kind_of, valued}
+use Rattle.passes.specs.Lowering.Guards.{Guard, guarded}
+use Rattle.passes.specs.Lowering.Expressions.{Evaluated, Subscripts, loaded, subscript, left_type, right_type}
 use Rattle.lower_runs.specs.Early.{AreEarly}
-use Rattle.operator_words.specs.Words.{IsType, IsWord, ConversionsAgree, OperatorsAgree, count_type, NaturalsAreWords}
+use Rattle.lower_runs.specs.OperatorWords.Words.{IsType, IsWord, ConversionsAgree, OperatorsAgree, count_type, NaturalsAreWords}
 use Rattle.lower_runs.specs.Suits.{shapes_of}
 use Rattle.lower_runs.proofs.Growing.{Grows, grows_on, word_grows, early_grows}
 use Rattle.lower_runs.proofs.Adding.{adds}

@@ -5,7 +5,7 @@ use Rattle.std.proofs.lemmas.List.{get_or_append_left, append-nil}
 use Rattle.ir_core.specs.declared.body.Operand.{Operand}
 use Rattle.ir_core.specs.declared.body.Source.{Source}
 use Rattle.ir_core.specs.declared.body.Source.TheVariants as source
-use Rattle.block_meaning.specs.Bodies.{OpTree, Shapes, Words, Ranged, word, operand, operand_bits}
+use Rattle.ir_core.specs.Bodies.{OpTree, Shapes, Words, Ranged, word, operand, operand_bits}
 use Rattle.lower_runs.specs.Early.{IsEarly, AreEarly}
 use Rattle.lower_runs.specs.Standing.{HasBits, Fits}
 

@@ -5,10 +5,10 @@ use Rattle.std.proofs.lemmas.Nat.{and_le_l}
 use Rattle.std.specs.Prelude.{◌==◌, pos}
 use Rattle.ir_core.specs.declared.body.OpKind.TheVariants as o
 use Rattle.ir_core.specs.declared.body.Operand.{Operand}
-use Rattle.ir_operation.specs.Value as op
-use Rattle.block_meaning.specs.Bodies.{OpTree, Shapes, Words, Ranged, operand, is_allowed}
-use Rattle.lowering.specs.Operations.{Emitted, added, gives, plain}
-use Rattle.lowering.specs.Guards.{Guard, Guarded, guarded, bit_of, own_bit, under}
+use Rattle.ir_core.specs.Value as op
+use Rattle.ir_core.specs.Bodies.{OpTree, Shapes, Words, Ranged, operand, is_allowed}
+use Rattle.passes.specs.Lowering.Operations.{Emitted, added, gives, plain}
+use Rattle.passes.specs.Lowering.Guards.{Guard, Guarded, guarded, bit_of, own_bit, under}
 use Rattle.lower_runs.proofs.Growing.{Grows, grows_nothing, grows_on, fits_grow, word_grows}
 use Rattle.lower_runs.proofs.Adding.{adds, adds_nothing}
 use Rattle.lower_runs.proofs.Converting.{bit, Makes, makes_on}

@@ -11,14 +11,14 @@ use Rattle.c_value.specs.Values.{IsOf, width, convert, int_type}
 use Rattle.c_value.specs.Operators.{truth, is_true}
 use Rattle.ir_core.specs.declared.body.OpKind.TheVariants as o
 use Rattle.ir_core.specs.declared.body.Operand.{Operand}
-use Rattle.ir_operation.specs.Value as op
-use Rattle.run_steps.specs.Valued.{Valued, is, faulty}
-use Rattle.block_meaning.specs.Bodies.{OpTree, Shapes, Words, Ranged, operand}
-use Rattle.lowering.specs.Operations.{added, plain, balanced, tested}
-use Rattle.lowering.specs.Guards.{Guard, only_where, outside}
-use Rattle.lowering.specs.Expressions.{Evaluated, Next, with_value, with_truth, junction, joined, choice, operated}
+use Rattle.ir_core.specs.Value as op
+use Rattle.hls_base.specs.Valued.{Valued, is, faulty}
+use Rattle.ir_core.specs.Bodies.{OpTree, Shapes, Words, Ranged, operand}
+use Rattle.passes.specs.Lowering.Operations.{added, plain, balanced, tested}
+use Rattle.passes.specs.Lowering.Guards.{Guard, only_where, outside}
+use Rattle.passes.specs.Lowering.Expressions.{Evaluated, Next, with_value, with_truth, junction, joined, choice, operated}
 use Rattle.lower_runs.specs.Early.{AreEarly}
-use Rattle.operator_words.specs.Words.{IsType, IsWord, ConversionsAgree, OperatorsAgree}
+use Rattle.lower_runs.specs.OperatorWords.Words.{IsType, IsWord, ConversionsAgree, OperatorsAgree}
 use Rattle.lower_runs.proofs.Growing.{Grows, grows_on, fits_grow, word_grows, early_grows}
 use Rattle.lower_runs.proofs.Adding.{Adds, adds}
 use Rattle.lower_runs.proofs.Converting.{bit, given_is, balanced_makes, tested_makes}

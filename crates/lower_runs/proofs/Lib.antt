@@ -1,3 +1,4 @@
+pub mod OperatorWords
 pub mod Growing
 pub mod Adding
 pub mod Converting
@@ -11,3 +12,6 @@ pub mod Straight
 pub mod Storing
 pub mod Writing
 pub mod Whole
+pub mod LoweredTrees
+pub mod LowerControl
+pub mod LoweredRuns

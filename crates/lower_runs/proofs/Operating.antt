@@ -10,15 +10,15 @@ use Rattle.c_value.specs.Operators.{truth}
 use Rattle.ir_core.specs.declared.body.OpKind.{OpKind}
 use Rattle.ir_core.specs.declared.body.OpKind.TheVariants as o
 use Rattle.ir_core.specs.declared.body.Operand.{Operand}
-use Rattle.ir_operation.specs.Timing.{result_bits}
-use Rattle.ir_operation.specs.Value as op
-use Rattle.run_steps.specs.Valued.{is}
-use Rattle.block_meaning.specs.Bodies.{OpTree, Shapes, Words, Ranged, Performed, performed, operand, is_allowed, fault_if, broken_rule, perform}
-use Rattle.lowering.specs.Operations.{Emitted, added, plain, defined, flagged, kind_of}
-use Rattle.lowering.specs.Guards.{Guard, guarded}
-use Rattle.lowering.specs.Expressions.{Evaluated, with_value, with_truth, under_guard, is_total, computed, operation, operated}
+use Rattle.ir_core.specs.Timing.{result_bits}
+use Rattle.ir_core.specs.Value as op
+use Rattle.hls_base.specs.Valued.{is}
+use Rattle.ir_core.specs.Bodies.{OpTree, Shapes, Words, Ranged, Performed, performed, operand, is_allowed, fault_if, broken_rule, perform}
+use Rattle.passes.specs.Lowering.Operations.{Emitted, added, plain, defined, flagged, kind_of}
+use Rattle.passes.specs.Lowering.Guards.{Guard, guarded}
+use Rattle.passes.specs.Lowering.Expressions.{Evaluated, with_value, with_truth, under_guard, is_total, computed, operation, operated}
 use Rattle.lower_runs.specs.Early.{AreEarly}
-use Rattle.operator_words.specs.Words.{IsWord, Agrees, ConversionsAgree}
+use Rattle.lower_runs.specs.OperatorWords.Words.{IsWord, Agrees, ConversionsAgree}
 use Rattle.lower_runs.proofs.Growing.{Grows, grows_on, words_more}
 use Rattle.lower_runs.proofs.Adding.{Adds, adds}
 use Rattle.lower_runs.proofs.Converting.{bit, GivenFits, GivenHas}

@@ -6,11 +6,11 @@ use Rattle.c_value.specs.Values.{width}
 use Rattle.c_meaning.specs.Store.{element_place, place_in_rows}
 use Rattle.ir_core.specs.declared.body.Out.{Out}
 use Rattle.pieces.specs.Program.{ArrayTree}
-use Rattle.piece_meaning.specs.Values.{Store, lengths_in}
-use Rattle.piece_meaning.specs.Pieces.{Frame}
-use Rattle.block_meaning.specs.Bodies.{OpTree, Ranged, is_within}
-use Rattle.lowering.specs.Outs.{held}
-use Rattle.operator_words.specs.Words.{IsWord, NaturalsAreWords}
+use Rattle.c_meaning.specs.PieceRuns.Values.{Store, lengths_in}
+use Rattle.c_meaning.specs.PieceRuns.Pieces.{Frame}
+use Rattle.ir_core.specs.Bodies.{OpTree, Ranged, is_within}
+use Rattle.passes.specs.Lowering.Outs.{held}
+use Rattle.lower_runs.specs.OperatorWords.Words.{IsWord, NaturalsAreWords}
 use Rattle.lower_runs.specs.Suits.{shapes_of}
 use Rattle.lower_runs.proofs.Growing.{Grows, fits_grow, word_grows}
 use Rattle.lower_runs.specs.Showing.{ArraysShown, Shows}

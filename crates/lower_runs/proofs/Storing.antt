@@ -6,9 +6,9 @@ use Rattle.std.proofs.Math.Seq.{get_or-append_seam}
 use Rattle.std.proofs.lemmas.Nat.{pow-add, pow_pos, mul-add-lt, mod_below}
 use Rattle.std.proofs.lemmas.Bool.{ltb-true, cases_lt}
 use Rattle.hls_base.specs.ArrayAddress.{subscript_bits, address_bits}
-use Rattle.array_address.proofs.Rising.{short-fits}
+use Rattle.ir_core.proofs.Rising.{short-fits}
 use Rattle.c_meaning.specs.Store.{element_place}
-use Rattle.block_meaning.specs.Bodies.{address_of}
+use Rattle.ir_core.specs.Bodies.{address_of}
 use Rattle.lower_runs.proofs.Showing.{placed}
 use Rattle.lower_runs.specs.Showing.{AreShort}
 

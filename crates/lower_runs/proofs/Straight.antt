@@ -11,17 +11,17 @@ use Rattle.c_value.specs.Operators.{is_true}
 use Rattle.pieces.specs.Trees.{PureTree}
 use Rattle.ir_core.specs.declared.body.Operand.{Operand}
 use Rattle.ir_core.specs.declared.body.Out.{Out}
-use Rattle.run_steps.specs.Valued.{is}
-use Rattle.piece_meaning.specs.Values.{Store, with_variable, value}
-use Rattle.piece_meaning.specs.Pieces.{Frame}
-use Rattle.block_meaning.specs.Bodies.{Words, Ranged, operand}
-use Rattle.block_meaning.specs.Trees.{BlockTree}
-use Rattle.numbering.proofs.Equalities.{operand_same}
-use Rattle.lowering.specs.Operations.{Emitted, entry_value}
-use Rattle.lowering.specs.Outs.{operand_eq, held, without, own_out, with_out}
-use Rattle.lowering.specs.Expressions.{emitted}
-use Rattle.lowering.specs.Blocks.{type_of, value_as, set, condition}
-use Rattle.operator_words.specs.Words.{IsWord, ConversionsAgree, OperatorsAgree, NaturalsAreWords}
+use Rattle.hls_base.specs.Valued.{is}
+use Rattle.c_meaning.specs.PieceRuns.Values.{Store, with_variable, value}
+use Rattle.c_meaning.specs.PieceRuns.Pieces.{Frame}
+use Rattle.ir_core.specs.Bodies.{Words, Ranged, operand}
+use Rattle.ir_core.specs.Trees.{BlockTree}
+use Rattle.passes.proofs.Equalities.{operand_same}
+use Rattle.passes.specs.Lowering.Operations.{Emitted, entry_value}
+use Rattle.passes.specs.Lowering.Outs.{operand_eq, held, without, own_out, with_out}
+use Rattle.passes.specs.Lowering.Expressions.{emitted}
+use Rattle.passes.specs.Lowering.Blocks.{type_of, value_as, set, condition}
+use Rattle.lower_runs.specs.OperatorWords.Words.{IsWord, ConversionsAgree, OperatorsAgree, NaturalsAreWords}
 use Rattle.lower_runs.specs.Suits.{Suits, shapes_of, scope_of}
 use Rattle.lower_runs.proofs.Growing.{Grows, grows_on}
 use Rattle.lower_runs.proofs.Converting.{bit, assigned_makes, tested_makes}

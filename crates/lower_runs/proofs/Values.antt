@@ -16,17 +16,17 @@ use Rattle.pieces.specs.Kind.{kind}
 use Rattle.ir_core.specs.declared.body.OpKind.TheVariants as o
 use Rattle.ir_core.specs.declared.body.Operand.{Operand}
 use Rattle.ir_core.specs.declared.body.Out.{Out}
-use Rattle.ir_operation.specs.Value as op
-use Rattle.run_steps.specs.Valued.{Valued, is, and_then}
-use Rattle.piece_meaning.specs.Values as m
-use Rattle.piece_meaning.specs.Values.{Store, computed, value, values}
-use Rattle.piece_meaning.specs.Pieces.{Frame}
-use Rattle.block_meaning.specs.Bodies.{OpTree, Shapes, Words, Ranged, operand}
-use Rattle.lowering.specs.Operations.{Emitted, added, constant, plain, kind_of, tested, balanced, assigned}
-use Rattle.lowering.specs.Outs.{held}
-use Rattle.lowering.specs.Guards.{Guard}
-use Rattle.lowering.specs.Expressions.{Evaluated, Next, with_truth, emitted, emitted_all, left_type, right_type, unary, unary_of, binary, joined, cast_to}
-use Rattle.operator_words.specs.Words.{IsType, IsWord, ConversionsAgree, OperatorsAgree, NaturalsAreWords}
+use Rattle.ir_core.specs.Value as op
+use Rattle.hls_base.specs.Valued.{Valued, is, and_then}
+use Rattle.c_meaning.specs.PieceRuns.Values as m
+use Rattle.c_meaning.specs.PieceRuns.Values.{Store, computed, value, values}
+use Rattle.c_meaning.specs.PieceRuns.Pieces.{Frame}
+use Rattle.ir_core.specs.Bodies.{OpTree, Shapes, Words, Ranged, operand}
+use Rattle.passes.specs.Lowering.Operations.{Emitted, added, constant, plain, kind_of, tested, balanced, assigned}
+use Rattle.passes.specs.Lowering.Outs.{held}
+use Rattle.passes.specs.Lowering.Guards.{Guard}
+use Rattle.passes.specs.Lowering.Expressions.{Evaluated, Next, with_truth, emitted, emitted_all, left_type, right_type, unary, unary_of, binary, joined, cast_to}
+use Rattle.lower_runs.specs.OperatorWords.Words.{IsType, IsWord, ConversionsAgree, OperatorsAgree, NaturalsAreWords}
 use Rattle.lower_runs.specs.Suits.{Suits, EachSuits, shapes_of}
 use Rattle.lower_runs.proofs.Growing.{grows_nothing, grows_on}
 use Rattle.lower_runs.proofs.Adding.{adds, adds_nothing}

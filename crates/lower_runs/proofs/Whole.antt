@@ -2,13 +2,13 @@
 use Rattle.std.proofs.Common.{◌≡◌, refl, ap, Option, Some, None}
 use Rattle.std.specs.Prelude.{slice_get}
 use Rattle.pieces.specs.Program.{ArrayTree}
-use Rattle.piece_meaning.specs.Pieces as piece
-use Rattle.block_meaning.specs.Bodies.{Ranged}
-use Rattle.lowering.specs.Blocks as block
+use Rattle.c_meaning.specs.PieceRuns.Pieces as piece
+use Rattle.ir_core.specs.Bodies.{Ranged}
+use Rattle.passes.specs.Lowering.Blocks as block
 use Rattle.lower_runs.specs.Laws.{ValuesAreComputed, ConditionsAreComputed, SetsAreShown, PutsAreShown}
-use Rattle.operator_words.proofs.Conversions.{naturals_are_words}
-use Rattle.operator_words.proofs.Resizing.{conversions_agree}
-use Rattle.operator_words.proofs.Whole.{operators_agree}
+use Rattle.lower_runs.proofs.OperatorWords.Conversions.{naturals_are_words}
+use Rattle.lower_runs.proofs.OperatorWords.Resizing.{conversions_agree}
+use Rattle.lower_runs.proofs.OperatorWords.Whole.{operators_agree}
 use Rattle.lower_runs.proofs.Straight.{value_computed, condition_computed, set_shown}
 use Rattle.lower_runs.proofs.Writing.{put_shown}
 

@@ -12,18 +12,18 @@ use Rattle.pieces.specs.Trees.{PureTree, PureTrees}
 use Rattle.ir_core.specs.declared.body.OpKind.TheVariants as o
 use Rattle.ir_core.specs.declared.body.Source.{Source}
 use Rattle.ir_core.specs.declared.body.Source.TheVariants as source
-use Rattle.run_steps.specs.Valued.{is}
-use Rattle.piece_meaning.specs.Values.{Store, with_row, with_element, lengths_in, element_number, value, values}
-use Rattle.piece_meaning.specs.Pieces.{Frame, kind_at}
-use Rattle.block_meaning.specs.Bodies as block
-use Rattle.block_meaning.specs.Bodies.{OpTree, Shapes, Words, Ranged, performed, word, operand, address_of, dims_of, is_within, with_memory_word, subscripts, stored, effect, first_bits, perform}
-use Rattle.block_meaning.specs.Trees.{BlockTree}
-use Rattle.lowering.specs.Operations.{flagged, assigned}
-use Rattle.lowering.specs.Outs.{held}
-use Rattle.lowering.specs.Expressions.{emitted, emitted_all}
-use Rattle.lowering.specs.Blocks.{element_type, put}
+use Rattle.hls_base.specs.Valued.{is}
+use Rattle.c_meaning.specs.PieceRuns.Values.{Store, with_row, with_element, lengths_in, element_number, value, values}
+use Rattle.c_meaning.specs.PieceRuns.Pieces.{Frame, kind_at}
+use Rattle.ir_core.specs.Bodies as block
+use Rattle.ir_core.specs.Bodies.{OpTree, Shapes, Words, Ranged, performed, word, operand, address_of, dims_of, is_within, with_memory_word, subscripts, stored, effect, first_bits, perform}
+use Rattle.ir_core.specs.Trees.{BlockTree}
+use Rattle.passes.specs.Lowering.Operations.{flagged, assigned}
+use Rattle.passes.specs.Lowering.Outs.{held}
+use Rattle.passes.specs.Lowering.Expressions.{emitted, emitted_all}
+use Rattle.passes.specs.Lowering.Blocks.{element_type, put}
 use Rattle.lower_runs.specs.Early.{IsEarly}
-use Rattle.operator_words.specs.Words.{IsWord, ConversionsAgree, OperatorsAgree, NaturalsAreWords}
+use Rattle.lower_runs.specs.OperatorWords.Words.{IsWord, ConversionsAgree, OperatorsAgree, NaturalsAreWords}
 use Rattle.lower_runs.specs.Suits.{Suits, EachSuits, shapes_of, scope_of}
 use Rattle.lower_runs.proofs.Growing.{early_more, word_more, bits_more, grows_on}
 use Rattle.lower_runs.proofs.Adding.{stands_more}

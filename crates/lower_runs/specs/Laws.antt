@@ -6,16 +6,16 @@ use Rattle.hls_base.specs.declared.number.VarId.{VarId}
 use Rattle.c_token.specs.declared.ctype.CType.{CType}
 use Rattle.c_value.specs.Values.{convert}
 use Rattle.c_value.specs.Operators.{is_true}
-use Rattle.ir_operation.specs.Value.{truth}
+use Rattle.ir_core.specs.Value.{truth}
 use Rattle.pieces.specs.Trees.{PureTree, PureTrees}
-use Rattle.run_steps.specs.Valued.{is}
-use Rattle.piece_meaning.specs.Values.{Store, with_variable, with_element, lengths_in, element_number, value, values}
-use Rattle.piece_meaning.specs.Pieces.{Frame, kind_at}
-use Rattle.block_meaning.specs.Bodies.{Words, Ranged, operand}
-use Rattle.block_meaning.specs.Trees.{BlockTree}
-use Rattle.lowering.specs.Operations.{Emitted}
-use Rattle.lowering.specs.Blocks.{value_as, condition, set, put}
-use Rattle.operator_words.specs.Words.{IsWord}
+use Rattle.hls_base.specs.Valued.{is}
+use Rattle.c_meaning.specs.PieceRuns.Values.{Store, with_variable, with_element, lengths_in, element_number, value, values}
+use Rattle.c_meaning.specs.PieceRuns.Pieces.{Frame, kind_at}
+use Rattle.ir_core.specs.Bodies.{Words, Ranged, operand}
+use Rattle.ir_core.specs.Trees.{BlockTree}
+use Rattle.passes.specs.Lowering.Operations.{Emitted}
+use Rattle.passes.specs.Lowering.Blocks.{value_as, condition, set, put}
+use Rattle.lower_runs.specs.OperatorWords.Words.{IsWord}
 use Rattle.lower_runs.specs.Suits.{Suits, EachSuits, shapes_of, scope_of}
 use Rattle.lower_runs.specs.Standing.{Stands}
 use Rattle.lower_runs.specs.Showing.{IsAt, AreShort, without_number}

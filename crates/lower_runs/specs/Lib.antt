@@ -1,5 +1,11 @@
+pub mod OperatorWords
 pub mod Early
 pub mod Suits
 pub mod Standing
 pub mod Showing
 pub mod Laws
+pub mod LoweredTrees
+pub mod Following
+pub mod Holding
+pub mod Suiting
+pub mod LoweredRuns

@@ -4,12 +4,12 @@ use Rattle.hls_base.specs.declared.number.VarId.{VarId}
 use Rattle.c_token.specs.declared.ctype.CType.{CType}
 use Rattle.c_value.specs.Values.{width}
 use Rattle.ir_core.specs.declared.body.Out.{Out}
-use Rattle.piece_meaning.specs.Values.{Store, lengths_in, element_number}
-use Rattle.piece_meaning.specs.Pieces.{Frame, kind_at}
-use Rattle.block_meaning.specs.Bodies.{OpTree, Words, Ranged, operand, address_of}
-use Rattle.block_meaning.specs.Trees.{BlockTree}
-use Rattle.lowering.specs.Outs.{held}
-use Rattle.operator_words.specs.Words.{IsWord}
+use Rattle.c_meaning.specs.PieceRuns.Values.{Store, lengths_in, element_number}
+use Rattle.c_meaning.specs.PieceRuns.Pieces.{Frame, kind_at}
+use Rattle.ir_core.specs.Bodies.{OpTree, Words, Ranged, operand, address_of}
+use Rattle.ir_core.specs.Trees.{BlockTree}
+use Rattle.passes.specs.Lowering.Outs.{held}
+use Rattle.lower_runs.specs.OperatorWords.Words.{IsWord}
 use Rattle.lower_runs.specs.Suits.{shapes_of}
 use Rattle.lower_runs.specs.Standing.{Stands, Fits}
 

@@ -3,8 +3,8 @@ use Rattle.std.specs.Prelude.{◌≡◌, ℕ, List, [], ◌++◌, length}
 use Rattle.ir_core.specs.declared.body.Operand.{Operand}
 use Rattle.ir_core.specs.declared.body.Source.{Source}
 use Rattle.ir_core.specs.declared.body.Source.TheVariants as source
-use Rattle.run_steps.specs.Valued.{is}
-use Rattle.block_meaning.specs.Bodies.{OpTree, Shapes, Words, Ranged, operand_bits, operations}
+use Rattle.hls_base.specs.Valued.{is}
+use Rattle.ir_core.specs.Bodies.{OpTree, Shapes, Words, Ranged, operand_bits, operations}
 use Rattle.lower_runs.specs.Early.{IsEarly}
 
 module _ (shapes : Shapes) where

@@ -5,10 +5,10 @@ use Rattle.c_value.specs.Operators.{unary_kind, binary_kind}
 use Rattle.pieces.specs.Trees as tree
 use Rattle.pieces.specs.Trees.{PureTree, PureTrees}
 use Rattle.pieces.specs.Kind.{kind}
-use Rattle.piece_meaning.specs.Pieces.{Frame, kind_at}
-use Rattle.block_meaning.specs.Bodies.{Shapes}
-use Rattle.lowering.specs.Blocks.{Scope}
-use Rattle.operator_words.specs.Words.{IsType, IsWord}
+use Rattle.c_meaning.specs.PieceRuns.Pieces.{Frame, kind_at}
+use Rattle.ir_core.specs.Bodies.{Shapes}
+use Rattle.passes.specs.Lowering.Blocks.{Scope}
+use Rattle.lower_runs.specs.OperatorWords.Words.{IsType, IsWord}
 
 -- the widths of a program's variables, and the lengths of its arrays
 abbrev pub shapes_of : Frame → Shapes

@@ -1,4 +1,7 @@
-//! Lowering keeps runs: what an open block shows of a store, as pieces without control of their own add to it.
+//! Lowering keeps runs, and what lowered trees are.
 #![tactic(auto)]
 
 pub mod laws;
+pub mod lowered_runs;
+pub mod lowered_trees;
+pub mod operator_words;

@@ -12,7 +12,7 @@ use Rattle.dep_graph.specs.declared.edge.Edge.{Edge}
 use Rattle.dep_graph.specs.declared.edge.Why.TheVariants as w
 use Rattle.unit_binding.specs.declared.binding.Binding.{Binding}
 use Rattle.diff_solve.specs.Times.{Solves, IsBelowAll}
-use Rattle.body_times.specs.Copies.{IsTimedBody}
+use Rattle.unit_binding.specs.Copies.{IsTimedBody}
 use Rattle.modulo_loop.specs.declared.pipeline.Pipelined.{Pipelined}
 use Rattle.modulo_loop.specs.Rules.{loop_rules, constraints_at, latency_of, is_store, result_of, test_maker}
 

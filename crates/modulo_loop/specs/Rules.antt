@@ -14,7 +14,7 @@ use Rattle.dep_graph.specs.declared.edge.Edge.{Edge}
 use Rattle.dep_graph.specs.declared.edge.Why.TheVariants as w
 use Rattle.unit_binding.specs.declared.binding.UnitOrder.{UnitOrder}
 use Rattle.diff_solve.specs.declared.solve.Constraint.{Constraint}
-use Rattle.ir_operation.specs.Timing.{latency}
+use Rattle.ir_core.specs.Timing.{latency}
 
 abbrev pub latency_at : Option (Op Untimed) → ℕ
 latency_at None = 0

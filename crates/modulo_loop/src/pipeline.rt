@@ -10,18 +10,18 @@ ghost use Rattle.modulo_loop.specs.Searches.{IsAttempt, IsEarlyAttempt, IsFound}
 use crate::exit::least_exit;
 use crate::rules::rules;
 use crate::tight::{constraints_at, cycle_of, least_interval};
-use body_times::copy::timed_body;
-use clock_ir::timed::Timed;
 use dep_graph::edge::Edge;
 use diff_solve::solve::{Solved, solve};
 use hls_base::words::Words;
 use ir_core::cfg::Loop;
 use ir_core::stamp::Untimed;
+use ir_core::timed::Timed;
 use std::alloc::{AllocError, Global};
 use unit_binding::binding::Binding;
+use unit_binding::copy::timed_body;
 
 /// A loop with times. Above interval 1 `lower` has constraints that an interval one less cannot meet, each of which begins where the one before ends.
-#[derive(Debug, Drop)]
+#[derive(Drop)]
 pub struct Pipelined {
     pub region: Loop<Timed>,
     pub lower: Option<Vec<Edge>>,

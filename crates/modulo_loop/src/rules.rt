@@ -11,7 +11,7 @@ use dep_graph::forward::{is_earlier, is_forward};
 use hls_base::number::OpId;
 use ir_core::body::{Body, Op, OpKind, Operand, Out, Source};
 use ir_core::stamp::Untimed;
-use ir_operation::timing::latency;
+use ir_core::timing::latency;
 use std::alloc::{AllocError, Global};
 use unit_binding::binding::{Binding, UnitOrder};
 

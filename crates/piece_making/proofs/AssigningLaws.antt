@@ -4,7 +4,7 @@ use Rattle.hls_base.specs.declared.place.Place.{Place}
 use Rattle.hls_base.specs.declared.number.VarId.{VarId}
 use Rattle.hls_base.specs.declared.refusal.Refusal.{Refusal}
 use Rattle.c_token.specs.declared.ctype.CType.{CType}
-use Rattle.core_program.specs.declared.expression.Cell.{Cell}
+use Rattle.pieces.specs.declared.resolved.expression.Cell.{Cell}
 use Rattle.pieces.specs.declared.pure_expr.Pure.{Pure}
 use Rattle.pieces.specs.Trees as tree
 use Rattle.pieces.specs.Trees.{PureTree, PureTrees}

@@ -1,9 +1,9 @@
 -- Returns in statements one after another.
 use Rattle.std.proofs.Common.{◌≡◌, ℕ, suc, ◌+◌, ◌-◌, ◌<◌, Bool, ◌&&◌, ◌||◌, eqb, List, [], ◌∷◌, length, get_or, drop, map, refl, ap, ◌∙◌, sym, arith, length-drop}
 use lib.Dec.{eqb-suc-zero, eqb-suc-suc}
-use Rattle.core_program.specs.declared.statement.CoreStmt.{CoreStmt}
-use Rattle.core_program.specs.Core.{stmt_row}
-use Rattle.core_program.specs.CoreView.{core_stmt_of}
+use Rattle.pieces.specs.declared.resolved.statement.CoreStmt.{CoreStmt}
+use Rattle.pieces.specs.Resolved.Core.{stmt_row}
+use Rattle.pieces.specs.Resolved.CoreView.{core_stmt_of}
 use Rattle.piece_making.specs.Leaving.{leaves, any_leaves, is_empty}
 use Rattle.piece_making.proofs.EffectLaws.{or_assoc, first_dropped}
 

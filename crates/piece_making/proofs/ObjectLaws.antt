@@ -4,7 +4,7 @@ use Rattle.hls_base.specs.declared.number.VarId.{VarId}
 use Rattle.hls_base.specs.declared.number.ArrayId.{ArrayId}
 use Rattle.hls_base.specs.declared.refusal.Refusal.{Refusal}
 use Rattle.c_token.specs.declared.ctype.CType.{CType}
-use Rattle.core_program.specs.Core.{CoreObjectTree, FileObjectTree}
+use Rattle.pieces.specs.Resolved.Core.{CoreObjectTree, FileObjectTree}
 use Rattle.pieces.specs.Program.{ArrayTree}
 use Rattle.piece_making.specs.declared.frame.Home.TheVariants as home
 use Rattle.piece_making.specs.declared.work.Slot.{Slot}

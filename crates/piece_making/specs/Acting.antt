@@ -1,7 +1,7 @@
 -- What the evaluation of an expression does besides giving a value.
 use Rattle.std.specs.Prelude.{Bool, true, false, ◌||◌}
-use Rattle.core_program.specs.Core as core
-use Rattle.core_program.specs.Core.{CoreTree, CoreTrees, CoreTargetTree, ArgumentTree, ArgumentTrees}
+use Rattle.pieces.specs.Resolved.Core as core
+use Rattle.pieces.specs.Resolved.Core.{CoreTree, CoreTrees, CoreTargetTree, ArgumentTree, ArgumentTrees}
 use Rattle.piece_making.specs.declared.effects.Effects.{Effects}
 
 abbrev pub no_effects : Effects

@@ -6,7 +6,7 @@ use Rattle.c_tree.specs.declared.operator.Binary.{Binary}
 use Rattle.c_tree.specs.declared.operator.Binary.TheVariants as b
 use Rattle.c_value.specs.Values.{int_type}
 use Rattle.c_value.specs.Operators.{binary_kind}
-use Rattle.core_program.specs.declared.expression.Cell.{Cell}
+use Rattle.pieces.specs.declared.resolved.expression.Cell.{Cell}
 use Rattle.pieces.specs.Trees as tree
 use Rattle.pieces.specs.Trees.{PureTree, PureTrees}
 use Rattle.pieces.specs.Kind.{kind}

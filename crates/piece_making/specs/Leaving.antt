@@ -1,7 +1,7 @@
 -- Returns that leave a call before its end: those that are not in a tail position.
 use Rattle.std.specs.Prelude.{Bool, true, false, ◌&&◌, ◌||◌, not}
-use Rattle.core_program.specs.Core as core
-use Rattle.core_program.specs.Core.{CoreStmtTree, CoreStmtTrees, CoreElseTree}
+use Rattle.pieces.specs.Resolved.Core as core
+use Rattle.pieces.specs.Resolved.Core.{CoreStmtTree, CoreStmtTrees, CoreElseTree}
 
 abbrev pub is_empty : CoreStmtTrees → Bool
 is_empty core.no_stmt = true

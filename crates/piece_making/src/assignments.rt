@@ -11,12 +11,12 @@ use crate::frame::Frame;
 use crate::work::Work;
 use c_tree::operator::Binary;
 use c_value::operate::binary_kind;
-use core_program::expression::CoreTarget;
 use hls_base::place::Place;
 use hls_base::refusal::Fail;
 use pieces::copy::copy_pures;
 use pieces::pure_expr::Pure;
 use pieces::pure_kind::kind_of;
+use pieces::resolved::expression::CoreTarget;
 use std::alloc::{AllocError, Global};
 
 /// A change of a target with these subscripts, by an operator where there is one.

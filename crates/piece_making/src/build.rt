@@ -13,7 +13,7 @@ use pieces::pure_expr::Pure;
 use std::alloc::{AllocError, Global};
 
 /// A binary operator with its type and place.
-#[derive(Clone, Copy, Debug, PartialEq, Eq)]
+#[derive(Clone, Copy, PartialEq, Eq)]
 pub struct Operator {
     pub op: Binary,
     pub kind: CType,

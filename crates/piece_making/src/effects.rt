@@ -1,13 +1,13 @@
 //! What the evaluation of an expression does besides giving a value.
 ghost use Rattle.std.specs.Prelude.{◌≡◌, map};
-ghost use Rattle.core_program.specs.Core.{row, argument_row};
-ghost use Rattle.core_program.specs.CoreView.{core_of, core_argument_of, core_target_of};
+ghost use Rattle.pieces.specs.Resolved.Core.{row, argument_row};
+ghost use Rattle.pieces.specs.Resolved.CoreView.{core_of, core_argument_of, core_target_of};
 ghost use Rattle.piece_making.specs.Acting.{either, with_call, with_change, with_comma, acts, spoils, effects, effects_of_all, effects_of_arguments, effects_of_target};
 
-use core_program::expression::{Argument, CoreExpr, CoreTarget};
+use pieces::resolved::expression::{Argument, CoreExpr, CoreTarget};
 
 /// Whether an expression has calls, changes (assignments, `++` and `--`) or commas in it.
-#[derive(Clone, Copy, Debug, PartialEq, Eq)]
+#[derive(Clone, Copy, PartialEq, Eq)]
 pub struct Effects {
     pub calls: bool,
     pub changes: bool,

@@ -1,24 +1,24 @@
 //! What is known of the program, and of the call that is being expanded.
 ghost use Rattle.std.specs.Prelude.{◌≡◌, IfOk, slice_get};
-ghost use Rattle.core_program.specs.CoreView.{core_object_of};
+ghost use Rattle.pieces.specs.Resolved.CoreView.{core_object_of};
 ghost use Rattle.pieces.specs.View.{pure_of};
 ghost use Rattle.piece_making.specs.Calls.{call_of, point_in, home_of, scalar, variable, array};
 ghost use Rattle.piece_making.specs.Stocks.{state_of, stock};
 
 use crate::work::{Slot, Work};
 use c_token::ctype::CType;
-use core_program::expression::{Cell, Scope};
-use core_program::program::{CoreFunction, CoreObject, CoreProgram};
 use hls_base::number::{ArrayId, VarId};
 use hls_base::place::{Path, Place};
 use hls_base::point::{Point, PointKind};
 use hls_base::refusal::impossible;
 use pieces::piece::CallId;
 use pieces::pure_expr::Pure;
+use pieces::resolved::expression::{Cell, Scope};
+use pieces::resolved::program::{CoreFunction, CoreObject, CoreProgram};
 use std::alloc::{AllocError, Global};
 
 /// What stands for an object: a variable, an array, the place where the array of a declaration is noted when it is reached, or the value of a constant.
-#[derive(Clone, Copy, Debug, PartialEq, Eq)]
+#[derive(Clone, Copy, PartialEq, Eq)]
 pub enum Home {
     Variable(VarId),
     Array(ArrayId),

@@ -1,10 +1,10 @@
 //! Returns that leave a call before its end.
 ghost use Rattle.std.specs.Prelude.{◌≡◌, ◌&&◌, ◌||◌, map};
-ghost use Rattle.core_program.specs.Core.{stmt_row};
-ghost use Rattle.core_program.specs.CoreView.{core_stmt_of};
+ghost use Rattle.pieces.specs.Resolved.Core.{stmt_row};
+ghost use Rattle.pieces.specs.Resolved.CoreView.{core_stmt_of};
 ghost use Rattle.piece_making.specs.Leaving.{leaves, any_leaves};
 
-use core_program::statement::CoreStmt;
+use pieces::resolved::statement::CoreStmt;
 
 /// Whether statements have a return that is not in a tail position. `tail` tells whether the last of them is in one.
 #[cycle(leaving)]

@@ -2,18 +2,18 @@
 ghost use Rattle.std.specs.Prelude.{◌≡◌, ◌≤◌, IfOk, false, nat_lt, if◌then◌else◌};
 ghost use Rattle.hls_base.specs.ArrayAddress.{subscript_bits, address_bits};
 ghost use Rattle.hls_base.specs.Refusals.{IfRefused};
-ghost use Rattle.core_program.specs.CoreView.{core_object_of, file_object_of};
+ghost use Rattle.pieces.specs.Resolved.CoreView.{core_object_of, file_object_of};
 ghost use Rattle.pieces.specs.Program.{array_of};
 ghost use Rattle.piece_making.specs.Objects.{array_weight, array_like, host_array, local, local_array, file_array, file_info, first_value};
 ghost use Rattle.piece_making.specs.Stocks.{IsMade, IsTooHeavy, state_of, stock};
 
 use crate::frame::Home;
 use crate::work::Work;
-use core_program::program::{CoreObject, FileObject};
 use hls_base::number::ArrayId;
 use hls_base::refusal::{Fail, impossible};
 use hls_base::words::Words;
 use pieces::expanded::ArrayInfo;
+use pieces::resolved::program::{CoreObject, FileObject};
 use std::alloc::{AllocError, Global};
 
 /// The bits of a subscript of a dimension of this length.

@@ -27,7 +27,7 @@ pub const GREATEST_WEIGHT: u32 = 8192;
 const WEIGHT_RULE: u8 = 36;
 
 /// The number of a place where the array of a declaration is noted.
-#[derive(Clone, Copy, Debug, PartialEq, Eq)]
+#[derive(Clone, Copy, PartialEq, Eq)]
 pub struct Slot(pub u32);
 
 /// The pieces of the list that is being made, the labels of the switch round it, and all variables and arrays. `rest` is what is left of the greatest weight; where it is passed the program is refused at `at`.

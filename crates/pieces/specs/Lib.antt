@@ -1,3 +1,4 @@
+pub mod Resolved
 pub mod Trees
 pub mod View
 pub mod Weight

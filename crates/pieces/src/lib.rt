@@ -1,4 +1,4 @@
-//! What is left of a program when its calls are expanded in place: pieces over variables and arrays of their own.
+//! A core program, whose names and types are resolved; pieces, which are left when its calls are expanded in place.
 #![tactic(auto)]
 
 pub mod copy;
@@ -6,5 +6,6 @@ pub mod expanded;
 pub mod piece;
 pub mod pure_expr;
 pub mod pure_kind;
+pub mod resolved;
 pub mod shape;
 pub mod weight;

@@ -4,12 +4,12 @@ use hls_base::place::Place;
 use hls_base::point::Point;
 
 /// The number of a call that was expanded. The top function's is 0.
-#[derive(Clone, Copy, Debug, PartialEq, Eq, PartialOrd, Ord, Hash)]
+#[derive(Clone, Copy, PartialEq, Eq, PartialOrd, Ord, Hash)]
 pub struct CallId(pub u32);
 
 /// A piece of an expanded program. Points stand as marks where control comes to them; `Fork`, `Repeat` and `Pick` pass their `end` themselves.
 #[cycle(piece)]
-#[derive(Debug, Drop)]
+#[derive(Drop)]
 pub enum Piece {
     Set {
         variable: VarId,
@@ -58,7 +58,7 @@ pub enum Piece {
 }
 
 /// A label of a switch: the bit pattern of its value in the type of the test, or none for `default`, and the index of its mark in the body.
-#[derive(Clone, Copy, Debug, PartialEq, Eq)]
+#[derive(Clone, Copy, PartialEq, Eq)]
 pub struct Label {
     pub value: Option<u64>,
     pub target: u32,

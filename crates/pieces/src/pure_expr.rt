@@ -4,7 +4,7 @@ use hls_base::number::{ArrayId, VarId};
 use hls_base::place::Place;
 
 /// An expression without calls and changes. `kind` is the type of its value.
-#[derive(Debug, Drop)]
+#[derive(Drop)]
 pub enum Pure {
     Number {
         value: u64,

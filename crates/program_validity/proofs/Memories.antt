@@ -4,7 +4,7 @@ use Rattle.std.specs.Prelude.{◌==◌, ◌||◌, not, nat_lt, nat_le, slice_get
 use Rattle.std.specs.List.{list_all, All}
 use Rattle.std.proofs.lemmas.Bool.{and_parts, or_cases, eqb-true, ltb-true, leb-true, false≢true}
 use Rattle.hls_base.specs.ArrayAddress.{address_bits, element_count}
-use Rattle.array_address.specs.AddressWords.{AreShort}
+use Rattle.ir_core.specs.AddressWords.{AreShort}
 use Rattle.ir_core.specs.declared.cfg.Cfg.{Cfg}
 use Rattle.ir_core.specs.declared.cfg.Memory.{Memory}
 use Rattle.program_validity.specs.Widths.{is_width, is_word}

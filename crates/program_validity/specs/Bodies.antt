@@ -8,7 +8,7 @@ use Rattle.ir_core.specs.declared.body.Source.{Source}
 use Rattle.ir_core.specs.declared.body.Source.TheVariants as source
 use Rattle.ir_core.specs.declared.cfg.Frame.{Frame}
 use Rattle.dep_graph.specs.Meetings.{is_store}
-use Rattle.block_meaning.specs.TreeRuns.{tested}
+use Rattle.ir_core.specs.TreeRuns.{tested}
 use Rattle.program_validity.specs.Operands.{is_operand, is_operand_if}
 use Rattle.program_validity.specs.Operations.{is_operation}
 

@@ -5,3 +5,8 @@ pub mod Operations
 pub mod Bodies
 pub mod Targets
 pub mod Programs
+pub mod Untimed
+pub mod Sums
+pub mod Checks
+pub mod Nodes
+pub mod ValidPrograms

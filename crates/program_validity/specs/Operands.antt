@@ -6,7 +6,7 @@ use Rattle.ir_core.specs.declared.body.Operand.{Operand}
 use Rattle.ir_core.specs.declared.body.Out.{Out}
 use Rattle.ir_core.specs.declared.body.Source.{Source}
 use Rattle.ir_core.specs.declared.body.Source.TheVariants as source
-use Rattle.ir_operation.specs.Timing.{result_bits}
+use Rattle.ir_core.specs.Timing.{result_bits}
 use Rattle.dep_graph.specs.Offsets.{maker}
 use Rattle.program_validity.specs.Widths.{is_width, is_word}
 

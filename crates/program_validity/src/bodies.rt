@@ -1,7 +1,7 @@
 //! Whether the body of a block or of a loop is valid.
 ghost use Rattle.std.specs.Prelude.{◌≡◌, [], take};
 ghost use Rattle.std.specs.List.{list_all};
-ghost use Rattle.block_meaning.specs.TreeRuns.{tested};
+ghost use Rattle.ir_core.specs.TreeRuns.{tested};
 ghost use Rattle.program_validity.specs.Bodies as spec;
 
 use crate::frames::are_few;

@@ -5,9 +5,9 @@ ghost use Rattle.hls_base.specs.ArrayAddress as address;
 ghost use Rattle.program_validity.specs.Frames as spec;
 
 use crate::widths::{are_widths, are_words, is_width, is_word};
-use array_address::address::subscript_bits;
 use hls_base::number::{Kept, VarId};
 use hls_base::words::Words;
+use ir_core::address::subscript_bits;
 use ir_core::cfg::{Frame, Memory};
 
 fn are_variables(widths: &[u8], variables: &[VarId]) -> bool

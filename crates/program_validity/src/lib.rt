@@ -1,4 +1,4 @@
-//! Whether a flat program is valid: what it names is there, widths agree, flags stand where they belong, and control goes on behind loops at their Ends. Nothing here takes memory.
+//! Whether a flat program is valid and well timed.
 #![tactic(auto)]
 
 mod bodies;
@@ -7,4 +7,6 @@ mod operands;
 mod operations;
 pub mod program;
 mod targets;
+pub mod valid_programs;
+pub mod well_timed;
 mod widths;

@@ -7,7 +7,7 @@ use crate::widths::{is_width, is_word};
 use dep_graph::counter::maker;
 use ir_core::body::{Op, Operand, Out, Source};
 use ir_core::stamp::Stamp;
-use ir_operation::timing::result_bits;
+use ir_core::timing::result_bits;
 
 /// Whether an operand is of the right iteration. The outs that a loop carries are gone through for each variable; they are few.
 pub fn is_at(carried: &[Out], operand: Operand) -> bool

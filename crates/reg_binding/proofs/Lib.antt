@@ -1,3 +1,4 @@
+pub mod LiveVariables
 pub mod Examples
 pub mod Meeting
 pub mod Members

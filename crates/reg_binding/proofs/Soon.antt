@@ -12,8 +12,8 @@ use Rattle.ir_core.specs.declared.body.Out.{Out}
 use Rattle.ir_core.specs.declared.body.Source.{Source}
 use Rattle.ir_core.specs.declared.body.Source.TheVariants as source
 use Rattle.ir_core.specs.declared.cfg.Loop.{Loop}
-use Rattle.ir_operation.specs.Timing.{latency}
-use Rattle.clock_ir.specs.declared.timed.Timed.{Timed}
+use Rattle.ir_core.specs.Timing.{latency}
+use Rattle.ir_core.specs.declared.timed.Timed.{Timed}
 use Rattle.reg_binding.specs.declared.life.Read.{Read}
 use Rattle.reg_binding.specs.Lives as spec
 use Rattle.reg_binding.specs.SmallTimes.{IsNear, IsNearOut, IsEarlyOp, IsEarlyLoop}

@@ -2,11 +2,11 @@
 use Rattle.std.specs.Prelude.{◌≡◌, ℕ, ◌==◌, ◌<◌, ◌≤◌, Bool, List, ◌++◌, length, map, slice_get, filter, Option, Some}
 use Rattle.std.specs.List.{zip}
 use Rattle.std.specs.List.Sorted.{IsPermutation}
-use Rattle.clock_ir.specs.declared.timed.Timed.{Timed}
+use Rattle.ir_core.specs.declared.timed.Timed.{Timed}
 use Rattle.ir_core.specs.declared.cfg.Cfg.{Cfg}
 use Rattle.ir_core.specs.declared.cfg.Node.{Node}
-use Rattle.live_variables.specs.declared.live.Live.{Live}
-use Rattle.live_variables.specs.Liveness.{IsLiveness, flow_of, summary_of, is_behind}
+use Rattle.reg_binding.specs.declared.live.Live.{Live}
+use Rattle.reg_binding.specs.Liveness.{IsLiveness, flow_of, summary_of, is_behind}
 use Rattle.reg_binding.specs.declared.life.Life.{Life}
 use Rattle.reg_binding.specs.declared.registers.Held.{Held}
 use Rattle.reg_binding.specs.declared.registers.Registers.{Registers}

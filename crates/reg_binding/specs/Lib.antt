@@ -1,3 +1,5 @@
+pub mod Liveness
+pub mod Sets
 pub mod Assigned
 pub mod Lives
 pub mod Pools

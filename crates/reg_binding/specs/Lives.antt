@@ -13,8 +13,8 @@ use Rattle.ir_core.specs.declared.cfg.Loop.{Loop}
 use Rattle.ir_core.specs.declared.cfg.End.TheVariants as end
 use Rattle.ir_core.specs.declared.cfg.Node.{Node}
 use Rattle.ir_core.specs.declared.cfg.Node.TheVariants as node
-use Rattle.ir_operation.specs.Timing.{latency, result_bits}
-use Rattle.clock_ir.specs.declared.timed.Timed.{Timed}
+use Rattle.ir_core.specs.Timing.{latency, result_bits}
+use Rattle.ir_core.specs.declared.timed.Timed.{Timed}
 use Rattle.reg_binding.specs.declared.life.Life.{Life}
 use Rattle.reg_binding.specs.declared.life.Read.{Read}
 

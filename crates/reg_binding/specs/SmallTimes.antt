@@ -1,7 +1,7 @@
 -- Programs with times in which each result is there and is read within numbers of 64 bits.
 use Rattle.std.specs.Prelude.{ℕ, ◌-◌, ◌<◌, ◌≤◌, ◌^◌, length, IfSome}
 use Rattle.std.specs.List.{All}
-use Rattle.clock_ir.specs.declared.timed.Timed.{Timed}
+use Rattle.ir_core.specs.declared.timed.Timed.{Timed}
 use Rattle.ir_core.specs.declared.body.Body.{Body}
 use Rattle.ir_core.specs.declared.body.Op.{Op}
 use Rattle.ir_core.specs.declared.body.Operand.{Operand}

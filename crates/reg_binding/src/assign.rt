@@ -2,8 +2,8 @@
 ghost use Rattle.std.specs.Prelude.{◌≡◌, ◌++◌, length, map, IfOk, OnOk};
 ghost use Rattle.std.specs.List.{zip};
 ghost use Rattle.std.specs.List.Sorted.{IsPermutation};
-ghost use Rattle.live_variables.specs.Sets.{has};
-ghost use Rattle.live_variables.specs.Liveness.{IsLiveness, flow_of};
+ghost use Rattle.reg_binding.specs.Sets.{has};
+ghost use Rattle.reg_binding.specs.Liveness.{IsLiveness, flow_of};
 ghost use Rattle.reg_binding.specs.Lives.{node_lives, node_period};
 ghost use Rattle.reg_binding.specs.Sharing.{IsPeriod};
 ghost use Rattle.reg_binding.specs.SmallTimes.{IsEarlyNode, HasSmallTimes};
@@ -11,14 +11,14 @@ ghost use Rattle.reg_binding.specs.Assigned as spec;
 
 use crate::block_reads::block_lives;
 use crate::life::Life;
+use crate::live::Live;
 use crate::loop_reads::{loop_lives, period};
 use crate::registers::{Held, Registers};
 use crate::share::share;
-use clock_ir::timed::Timed;
+use crate::var_set::VarSet;
 use hls_base::number::{NodeId, OpId};
 use ir_core::cfg::{Cfg, Node};
-use live_variables::live::Live;
-use live_variables::var_set::VarSet;
+use ir_core::timed::Timed;
 use std::alloc::{AllocError, Global};
 
 fn lives_of(alloc: Global, node: &Node<Timed>, behind: &VarSet) -> Result<Vec<Life>, AllocError>

@@ -1,17 +1,17 @@
 //! The lives of the results of a block's operations.
 ghost use Rattle.std.specs.Prelude.{◌≡◌, ◌<◌, ◌^◌, ◌++◌, ℕ, Option, None, length, slice_index_or, IfOk, OnOk};
 ghost use Rattle.std.specs.List.{flat_map};
-ghost use Rattle.live_variables.specs.Sets.{has};
+ghost use Rattle.reg_binding.specs.Sets.{has};
 ghost use Rattle.reg_binding.specs.Lives as spec;
 ghost use Rattle.reg_binding.specs.SmallTimes.{IsEarlyOp, IsEarlyBody};
 
 use crate::life::{Life, Read, ready};
-use clock_ir::timed::Timed;
+use crate::var_set::VarSet;
 use hls_base::number::NodeId;
 use ir_core::body::{Op, Operand, Out, Source};
 use ir_core::cfg::{Block, End};
-use ir_operation::timing::result_bits;
-use live_variables::var_set::VarSet;
+use ir_core::timed::Timed;
+use ir_core::timing::result_bits;
 use std::alloc::{AllocError, Global};
 
 fn push_operand(operand: Operand, time: u64, reads: &mut Vec<Read>) -> Result<(), AllocError>

@@ -3,9 +3,9 @@ ghost use Rattle.std.specs.Prelude.{◌≡◌, ◌+◌, ◌<◌, ◌≤◌};
 ghost use Rattle.reg_binding.specs.Lives as spec;
 ghost use Rattle.reg_binding.specs.SmallTimes.{IsEarlyOp};
 
-use clock_ir::timed::Timed;
 use ir_core::body::Op;
-use ir_operation::timing::latency;
+use ir_core::timed::Timed;
+use ir_core::timing::latency;
 
 /// The cycle from which the result of an operation is there, which is not the first one.
 pub fn ready(op: &Op<Timed>) -> u64
@@ -18,14 +18,14 @@ pub fn ready(op: &Op<Timed>) -> u64
 }
 
 /// That the result of an operation is read at a time.
-#[derive(Clone, Copy, Debug)]
+#[derive(Clone, Copy)]
 pub struct Read {
     pub op: u32,
     pub time: u64,
 }
 
 /// The cycles in which one place of an operation's chain holds a value that is still to be read: `length` cycles from `start` on, in a loop again in each later iteration. Where a variable takes the result over, the value that it has as the loop is entered is there before cycle `entry`. The first cycle of all these is `first`.
-#[derive(Clone, Copy, Debug, PartialEq, Eq, PartialOrd, Ord)]
+#[derive(Clone, Copy, PartialEq, Eq, PartialOrd, Ord)]
 pub struct Life {
     pub width: u8,
     pub first: u64,

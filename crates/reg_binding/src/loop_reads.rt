@@ -1,18 +1,18 @@
 //! The lives of the results of a loop's operations, in all places of their chains.
 ghost use Rattle.std.specs.Prelude.{◌≡◌, ℕ, ◌+◌, ◌*◌, ◌^◌, ◌<◌, ◌≤◌, ◌++◌, None, map, option_to_list, IfOk, IfSome, OnOk};
 ghost use Rattle.std.specs.List.{All, flat_map, range_with_len};
-ghost use Rattle.live_variables.specs.Sets.{has};
+ghost use Rattle.reg_binding.specs.Sets.{has};
 ghost use Rattle.reg_binding.specs.Lives as spec;
 ghost use Rattle.reg_binding.specs.SmallTimes.{IsNear, IsNearOut, IsEarlyOp, IsEarlyBody, IsEarlyLoop};
 
 use crate::block_reads::last_reads;
 use crate::life::{Life, Read, ready};
-use clock_ir::timed::Timed;
+use crate::var_set::VarSet;
 use hls_base::number::VarId;
 use ir_core::body::{Op, Operand, Out, Source};
 use ir_core::cfg::Loop;
-use ir_operation::timing::result_bits;
-use live_variables::var_set::VarSet;
+use ir_core::timed::Timed;
+use ir_core::timing::result_bits;
 use std::alloc::{AllocError, Global};
 
 /// The operation whose result an operand names, of this iteration or an earlier one.

@@ -1,7 +1,7 @@
 use hls_base::number::{NodeId, OpId};
 
 /// That a register holds the result of an operation of this node, in this place of its chain. Registers count from 0 in the order of `Registers::widths`.
-#[derive(Clone, Copy, Debug, PartialEq, Eq)]
+#[derive(Clone, Copy, PartialEq, Eq)]
 pub struct Held {
     pub node: NodeId,
     pub op: OpId,
@@ -10,7 +10,7 @@ pub struct Held {
 }
 
 /// The width of each register in bits, and what it holds when.
-#[derive(Debug, Drop)]
+#[derive(Drop)]
 pub struct Registers {
     pub widths: Vec<u8>,
     pub held: Vec<Held>,

@@ -3,9 +3,9 @@ ghost use Rattle.std.specs.Prelude.{◌↔◌, IsTrue, IfSome};
 ghost use Rattle.std.specs.List.{All};
 ghost use Rattle.reg_binding.specs.SmallTimes.{IsNear, IsNearOut, IsEarly, IsEarlyOp, IsEarlyBody, IsEarlyLoop, IsEarlyNode, HasSmallTimes};
 
-use clock_ir::timed::Timed;
 use ir_core::body::{Body, Op, Operand, Out};
 use ir_core::cfg::{Cfg, Loop, Node};
+use ir_core::timed::Timed;
 
 /// A body has fewer operations.
 const OP_LIMIT: usize = 1 << 25;

@@ -14,7 +14,7 @@ use Rattle.hls_base.specs.declared.point.Point.{Point}
 use Rattle.hls_base.specs.Tallies.{count_in}
 use Rattle.ir_core.specs.declared.cfg.Node.{Node}
 use Rattle.ir_core.specs.declared.cfg.Node.TheVariants as n
-use Rattle.clock_ir.specs.declared.timed.Timed.{Timed}
+use Rattle.ir_core.specs.declared.timed.Timed.{Timed}
 use Rattle.cycle_report.specs.declared.report.Cost.{Cost}
 use Rattle.report_rows.specs.Points.{point_order, IsBefore}
 use Rattle.report_rows.specs.Costs.{node_costs, costs_of, node_point, own_cost, weighed, once, Rises, AreRowsOf, EachCounts, end_of, some_cost, some_costs, last_with, rows_with, merged_behind}

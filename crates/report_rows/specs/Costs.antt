@@ -7,7 +7,7 @@ use Rattle.hls_base.specs.declared.point.PointKind.TheVariants as kind
 use Rattle.hls_base.specs.Tallies.{count_in}
 use Rattle.ir_core.specs.declared.cfg.Node.{Node}
 use Rattle.ir_core.specs.declared.cfg.Node.TheVariants as n
-use Rattle.clock_ir.specs.declared.timed.Timed.{Timed}
+use Rattle.ir_core.specs.declared.timed.Timed.{Timed}
 use Rattle.cycle_report.specs.declared.report.Cost.{Cost}
 use Rattle.cycle_report.specs.FormulaValue.{cycles}
 use Rattle.report_rows.specs.Points.{point_order, IsBefore}

@@ -3,7 +3,7 @@ use Rattle.std.specs.Prelude.{◌≡◌, ℕ, ◌^◌, ◌<◌, ◌≤◌, not, 
 use Rattle.std.specs.List.{All, filter}
 use Rattle.ir_core.specs.declared.cfg.Memory.{Memory as DeclaredMemory}
 use Rattle.ir_core.specs.declared.cfg.Cfg.{Cfg}
-use Rattle.clock_ir.specs.declared.timed.Timed.{Timed}
+use Rattle.ir_core.specs.declared.timed.Timed.{Timed}
 use Rattle.rtl_core.specs.declared.design.Design.{Design}
 use Rattle.rtl_core.specs.declared.design.Mem.{Mem}
 use Rattle.rtl_core.specs.Netlist.{Netlist, Memory}

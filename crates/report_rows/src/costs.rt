@@ -7,10 +7,10 @@ ghost use Rattle.report_rows.specs.Points.{point_order};
 ghost use Rattle.report_rows.specs.Costs.{AreRowsOf, EachCounts, weighed, once, some_cost, some_costs, end_of, last_with, rows_with, merged_behind};
 
 use crate::points::compare;
-use clock_ir::timed::Timed;
 use cycle_report::report::{Cost, Formula};
 use hls_base::point::{Point, PointKind};
 use ir_core::cfg::Node;
+use ir_core::timed::Timed;
 use std::alloc::{AllocError, Global};
 use std::cmp::Ordering;
 

@@ -1,7 +1,9 @@
-//! The rows of a report: what each point of a timed program costs, how long the initial sequence takes, and what a circuit is built of.
+//! The times of a program and the rows of its report.
 #![tactic(auto)]
 
 pub mod costs;
+pub mod forward;
 pub mod initial;
+pub mod nodes;
 pub mod points;
 pub mod resources;

@@ -5,15 +5,15 @@ ghost use Rattle.rtl_core.specs.Netlist.{netlist_of, memory_of};
 ghost use Rattle.rtl_core.specs.Resources.{multipliers, dividers};
 ghost use Rattle.report_rows.specs.Resources.{shape_of, row_shape, declared_names, FitsRow, HasRows, IsReportable};
 
-use clock_ir::timed::Timed;
 use cycle_report::report::MemoryRow;
 use hls_base::text::Text;
 use ir_core::cfg::{Cfg, Frame, Memory};
+use ir_core::timed::Timed;
 use rtl_core::design::{Design, Mem};
 use std::alloc::{AllocError, Global};
 
 /// The multipliers and dividers of each width.
-#[derive(Clone, Copy, Debug, PartialEq, Eq)]
+#[derive(Clone, Copy, PartialEq, Eq)]
 pub struct UnitCounts {
     pub mul32: u32,
     pub mul64: u32,
@@ -22,7 +22,7 @@ pub struct UnitCounts {
 }
 
 /// The units of a circuit, and its memories with the names that the program declares.
-#[derive(Debug, Drop)]
+#[derive(Drop)]
 pub struct Resources {
     pub units: UnitCounts,
     pub memories: Vec<MemoryRow>,

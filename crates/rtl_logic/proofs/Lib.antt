@@ -12,3 +12,10 @@ mod Setting
 pub mod Showing
 mod Spreading
 mod Trees
+pub mod Leveling
+mod Comparing
+mod Giving
+mod Patterns
+mod Shifting
+mod Signs
+mod Steps

@@ -4,3 +4,5 @@ pub mod Making
 pub mod Marking
 pub mod Pruning
 pub mod Reducing
+pub mod Levels
+pub mod Arguments

@@ -4,7 +4,7 @@ ghost use Rattle.rtl_logic.specs.Keys.{keyed_atom, keyed_net, keyed_pair};
 
 use rtl_core::design::{Atom, Net, Pair};
 
-#[derive(Clone, Copy, Debug, PartialEq, Eq, PartialOrd, Ord)]
+#[derive(Clone, Copy, PartialEq, Eq, PartialOrd, Ord)]
 pub enum AtomKey {
     Constant { bits: u8, value: u128 },
     Input(u64),
@@ -12,7 +12,7 @@ pub enum AtomKey {
     Wire(u64),
 }
 
-#[derive(Clone, Copy, Debug, PartialEq, Eq, PartialOrd, Ord)]
+#[derive(Clone, Copy, PartialEq, Eq, PartialOrd, Ord)]
 pub enum Operator {
     Add,
     Sub,
@@ -27,7 +27,7 @@ pub enum Operator {
 }
 
 /// The expression of a wire, of so many bits where it does not tell them itself.
-#[derive(Clone, Copy, Debug, PartialEq, Eq, PartialOrd, Ord)]
+#[derive(Clone, Copy, PartialEq, Eq, PartialOrd, Ord)]
 pub enum NetKey {
     Copy(AtomKey),
     Not(AtomKey),

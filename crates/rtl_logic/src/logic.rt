@@ -16,7 +16,7 @@ use std::alloc::{AllocError, Global};
 use std::collections::BTreeMap;
 
 /// A circuit under construction, and the number of a wire for each expression that was made here.
-#[derive(Debug, Drop)]
+#[derive(Drop)]
 pub struct Logic {
     pub builder: Builder,
     made: BTreeMap<(u8, NetKey), u64>,

@@ -14,7 +14,7 @@ use rtl_core::design::{Atom, Design, Mem, Net, OutPin, Pair, Port, Reg, Wire};
 use std::alloc::{AllocError, Global};
 
 /// Which registers and wires are wanted, and the atoms that are still to be followed.
-#[derive(Debug, Drop)]
+#[derive(Drop)]
 struct Marks {
     regs: Vec<bool>,
     wires: Vec<bool>,
@@ -22,7 +22,7 @@ struct Marks {
 }
 
 /// The new number of each register and wire that stays.
-#[derive(Debug, Drop)]
+#[derive(Drop)]
 struct Numbers {
     regs: Vec<u64>,
     wires: Vec<u64>,

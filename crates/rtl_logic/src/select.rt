@@ -15,14 +15,14 @@ use std::alloc::{AllocError, Global};
 use std::collections::BTreeMap;
 
 /// A value, and the bit that says when it is wanted.
-#[derive(Clone, Copy, Debug, PartialEq, Eq)]
+#[derive(Clone, Copy, PartialEq, Eq)]
 pub struct Choice {
     pub when: Atom,
     pub value: Atom,
 }
 
 /// A value, and all bits that say when it is wanted.
-#[derive(Debug, Drop)]
+#[derive(Drop)]
 struct Wanted {
     when: Vec<Atom>,
     value: Atom,

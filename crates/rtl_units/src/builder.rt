@@ -15,7 +15,7 @@ use rtl_core::design::{Atom, Design, Mem, Net, Port};
 use std::alloc::{AllocError, Global};
 
 /// A part that is appended to a circuit: a memory with ports, a table of constants, a multiplier or a divider, with the atoms that it reads.
-#[derive(Debug, Drop)]
+#[derive(Drop)]
 pub enum Fragment {
     Store {
         bits: u8,
@@ -42,13 +42,13 @@ pub enum Fragment {
 }
 
 /// The atoms that show what a fragment gives: the word at each port's address, the table's word, the product, or the quotient and the remainder.
-#[derive(Debug, Drop)]
+#[derive(Drop)]
 pub struct Pins {
     pub atoms: Vec<Atom>,
 }
 
 /// A circuit under construction.
-#[derive(Debug, Drop)]
+#[derive(Drop)]
 pub struct Builder {
     pub design: Design,
 }

@@ -8,7 +8,7 @@ use rtl_core::design::{Atom, Net, Pair};
 use std::alloc::AllocError;
 
 /// The operands of a division, and whether they have signs.
-#[derive(Clone, Copy, Debug, PartialEq, Eq)]
+#[derive(Clone, Copy, PartialEq, Eq)]
 pub struct Division {
     pub bits: u8,
     pub signed: Atom,
@@ -18,7 +18,7 @@ pub struct Division {
 }
 
 /// What the divider takes in the cycle of its start.
-#[derive(Clone, Copy, Debug, PartialEq, Eq)]
+#[derive(Clone, Copy, PartialEq, Eq)]
 struct Taken {
     left: Atom,
     right: Atom,
@@ -27,7 +27,7 @@ struct Taken {
 }
 
 /// The registers of a divider. `dividend` loses its bits at the top and takes those of the quotient at the bottom.
-#[derive(Clone, Copy, Debug, PartialEq, Eq)]
+#[derive(Clone, Copy, PartialEq, Eq)]
 struct State {
     steps: Atom,
     dividend: Atom,
@@ -38,7 +38,7 @@ struct State {
 }
 
 /// The remainder with the next bit of the dividend, this less the divisor, and whether that leaves a borrow.
-#[derive(Clone, Copy, Debug, PartialEq, Eq)]
+#[derive(Clone, Copy, PartialEq, Eq)]
 struct Subtraction {
     trial: Atom,
     difference: Atom,
@@ -46,7 +46,7 @@ struct Subtraction {
 }
 
 /// The values after one step.
-#[derive(Clone, Copy, Debug, PartialEq, Eq)]
+#[derive(Clone, Copy, PartialEq, Eq)]
 struct Step {
     dividend: Atom,
     remainder: Atom,

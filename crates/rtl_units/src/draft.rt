@@ -5,7 +5,7 @@ use rtl_core::design::{Atom, Design, Net, Reg, Wire};
 use std::alloc::{AllocError, Global};
 
 /// Registers and wires that are to be appended to a design with so many of them.
-#[derive(Debug, Drop)]
+#[derive(Drop)]
 pub struct Draft {
     first_reg: u64,
     next_wire: u64,

@@ -7,14 +7,14 @@ use std::alloc::{AllocError, Global};
 use std::collections::BTreeMap;
 
 /// A subtree: one word, or the wire of a selection.
-#[derive(Clone, Copy, Debug, PartialEq, Eq, PartialOrd, Ord)]
+#[derive(Clone, Copy, PartialEq, Eq, PartialOrd, Ord)]
 enum Subtree {
     Word(u64),
     Wire(u64),
 }
 
 /// The table's words, of so many bits, and its address.
-#[derive(Clone, Copy, Debug)]
+#[derive(Clone, Copy)]
 pub struct TableOf<'a> {
     pub bits: u8,
     pub words: &'a [u64],

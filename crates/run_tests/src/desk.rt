@@ -7,7 +7,7 @@ use std::alloc::{AllocError, Global};
 use std::test::Fail;
 
 /// The files that a run begins with, and the calls of the shelf and of the output that fail, counted from 0.
-#[derive(Clone, Copy, Debug)]
+#[derive(Clone, Copy)]
 pub struct Desk<'a> {
     pub files: &'a [(&'a str, &'a [u8])],
     pub shelf_fails: &'a [u64],
@@ -15,7 +15,7 @@ pub struct Desk<'a> {
 }
 
 /// What a run leaves.
-#[derive(Debug, Drop)]
+#[derive(Drop)]
 pub struct Left {
     pub status: u8,
     pub shelf: MemoryShelf,

@@ -8,10 +8,10 @@ use Rattle.ir_core.specs.declared.body.OpKind.TheVariants as o
 use Rattle.ir_core.specs.declared.body.Operand.{Operand}
 use Rattle.ir_core.specs.declared.body.Source.{Source}
 use Rattle.ir_core.specs.declared.body.Source.TheVariants as source
-use Rattle.block_meaning.specs.Bodies.{OpTree, Shapes}
-use Rattle.lowering.specs.Operations as lower
-use Rattle.lowering.specs.Operations.{Emitted, Given, gives, added, constant, plain, defined, conversion, resized, converted, converted_from, valued, tested, assigned, promoted_value, balanced, kind_of}
-use Rattle.lowering.specs.Guards.{Guard, Guarded, guarded, outside, own_bit, under, bit_of}
+use Rattle.ir_core.specs.Bodies.{OpTree, Shapes}
+use Rattle.passes.specs.Lowering.Operations as lower
+use Rattle.passes.specs.Lowering.Operations.{Emitted, Given, gives, added, constant, plain, defined, conversion, resized, converted, converted_from, valued, tested, assigned, promoted_value, balanced, kind_of}
+use Rattle.passes.specs.Lowering.Guards.{Guard, Guarded, guarded, outside, own_bit, under, bit_of}
 use Rattle.sound_trees.specs.Ready.{IsNear, IsNearIf, OpIsReady, OpsAreReady}
 
 -- a type has a bit at least

@@ -14,20 +14,20 @@ use Rattle.pieces.specs.Kind.{kind}
 use Rattle.ir_core.specs.declared.body.OpKind.TheVariants as o
 use Rattle.ir_core.specs.declared.body.Operand.{Operand}
 use Rattle.ir_core.specs.declared.body.Out.{Out}
-use Rattle.block_meaning.specs.Bodies.{OpTree}
-use Rattle.block_meaning.specs.Trees.{ExitTree, BlockTree}
-use Rattle.lowering.specs.Operations.{Emitted, added, constant, plain, flagged, assigned, balanced}
-use Rattle.lowering.specs.Outs.{operand_eq, held, without, own_out, with_out}
-use Rattle.lowering.specs.Shapes.{first_point}
-use Rattle.lowering.specs.Expressions.{emitted, emitted_all}
-use Rattle.lowering.specs.Blocks as lower
-use Rattle.lowering.specs.Blocks.{Scope, variable_type, element_type, begun, is_live, with_exit, with_ops, value_as, set, put, condition, ends_by_test, all_set, set_before, forking, ends_by_fork, Cases, case_or, cases, ends_by_cases}
+use Rattle.ir_core.specs.Bodies.{OpTree}
+use Rattle.ir_core.specs.Trees.{ExitTree, BlockTree}
+use Rattle.passes.specs.Lowering.Operations.{Emitted, added, constant, plain, flagged, assigned, balanced}
+use Rattle.passes.specs.Lowering.Outs.{operand_eq, held, without, own_out, with_out}
+use Rattle.passes.specs.Lowering.Shapes.{first_point}
+use Rattle.passes.specs.Lowering.Expressions.{emitted, emitted_all}
+use Rattle.passes.specs.Lowering.Blocks as lower
+use Rattle.passes.specs.Lowering.Blocks.{Scope, variable_type, element_type, begun, is_live, with_exit, with_ops, value_as, set, put, condition, ends_by_test, all_set, set_before, forking, ends_by_fork, Cases, case_or, cases, ends_by_cases}
 use Rattle.convert_runs.specs.Typed.{BlockIsTyped}
 use Rattle.convert_runs.specs.Blocks.{Once}
-use Rattle.lowered_conversions.specs.Suiting.{widths_of, words_of, PureSuits, PieceSuits, PiecesSuit}
-use Rattle.lowered_conversions.proofs.Adding.{grows_on, outs_on, tested_fine}
-use Rattle.lowered_conversions.proofs.Expressions.{emitted_fine, emitted_all_fine}
-use Rattle.lowered_conversions.proofs.Blocks.{exit_on, set_typed, put_typed, test_typed, fork_typed, cases_typed}
+use Rattle.convert_runs.specs.LoweredConversions.Suiting.{widths_of, words_of, PureSuits, PieceSuits, PiecesSuit}
+use Rattle.convert_runs.proofs.LoweredConversions.Adding.{grows_on, outs_on, tested_fine}
+use Rattle.convert_runs.proofs.LoweredConversions.Expressions.{emitted_fine, emitted_all_fine}
+use Rattle.convert_runs.proofs.LoweredConversions.Blocks.{exit_on, set_typed, put_typed, test_typed, fork_typed, cases_typed}
 use Rattle.sound_trees.specs.Ready.{IsNear, AreNear, OutsAreNear, ExitIsNear, BlockIsReady}
 use Rattle.sound_trees.specs.Subscripts.{count, SubscriptsFit, PieceSubscriptsFit, PiecesSubscriptsFit}
 use Rattle.sound_trees.proofs.Adding.{Ready, Gives, added_gives, tested_gives, assigned_gives, balanced_gives}

@@ -3,15 +3,15 @@ use Rattle.std.proofs.Common.{◌≡◌, ◌∙◌, ℕ, Bool, true, false, not,
 use Rattle.hls_base.specs.declared.number.VarId.{VarId}
 use Rattle.ir_core.specs.declared.body.Operand.{Operand}
 use Rattle.ir_core.specs.declared.body.Out.{Out}
-use Rattle.block_meaning.specs.Bodies.{OpTree, Shapes}
-use Rattle.block_meaning.specs.Trees.{BlockTree, BodyTree, SequenceTree, sequence, PartTrees, no_part, more_parts, ShapeTree, fork, loop, switch, land, overlapped, SideTree, no_side, side}
-use Rattle.conversion.specs.Outs.{is_set}
-use Rattle.conversion.specs.Joining.{Guard, renamed_out, joined_ops}
-use Rattle.conversion.specs.Merging.{Branches, branches_of, opened, branched, is_taken, choices, merged, joined, is_only, is_only_side, first_block, first_of}
-use Rattle.conversion.specs.Conversion.{Scope, going_on, part_before, behind, converted_sequence, converted_behind, converted_shape, converted_side}
-use Rattle.lowering.specs.Copies.{fixed_behind, fixed_behind_shape, outs_set, parts_set, sequence_sets, shape_sets, side_sets}
+use Rattle.ir_core.specs.Bodies.{OpTree, Shapes}
+use Rattle.ir_core.specs.Trees.{BlockTree, BodyTree, SequenceTree, sequence, PartTrees, no_part, more_parts, ShapeTree, fork, loop, switch, land, overlapped, SideTree, no_side, side}
+use Rattle.passes.specs.Conversion.Outs.{is_set}
+use Rattle.passes.specs.Conversion.Joining.{Guard, renamed_out, joined_ops}
+use Rattle.passes.specs.Conversion.Merging.{Branches, branches_of, opened, branched, is_taken, choices, merged, joined, is_only, is_only_side, first_block, first_of}
+use Rattle.passes.specs.Conversion.{Scope, going_on, part_before, behind, converted_sequence, converted_behind, converted_shape, converted_side}
+use Rattle.passes.specs.Lowering.Copies.{fixed_behind, fixed_behind_shape, outs_set, parts_set, sequence_sets, shape_sets, side_sets}
 use Rattle.convert_runs.proofs.Finding.{fork_found}
-use Rattle.merged_blocks.proofs.Selections.{names, chosen_set}
+use Rattle.convert_runs.proofs.MergedBlocks.Selections.{names, chosen_set}
 use Rattle.sound_trees.specs.Trees.{SequenceHas, PartsHave}
 use Rattle.sound_trees.specs.Ready.{BlockIsReady}
 use Rattle.sound_trees.specs.Loops.{PartsOwn, BodyOwns, AreComputed}

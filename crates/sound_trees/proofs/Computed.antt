@@ -4,12 +4,12 @@ use Rattle.std.proofs.Common.{◌≡◌, ℕ, Bool, true, false, refl, List, [],
 use Rattle.ir_core.specs.declared.body.OpKind.TheVariants as o
 use Rattle.ir_core.specs.declared.body.Operand.{Operand}
 use Rattle.ir_core.specs.declared.body.Out.{Out}
-use Rattle.ir_operation.specs.Value.{value}
-use Rattle.block_meaning.specs.Bodies.{OpTree}
-use Rattle.block_meaning.specs.Trees.{BlockTree}
-use Rattle.numbering.specs.Numbering as n
-use Rattle.conversion.specs.Joining.{Guard, Joined, renamed, renamed_op, plain, bit_for, bit_in, with_guard, with_taken, with_both, with_bit, needs_guard, with_op, guarded, staying, is_conversion, converted, first_word, by_word, joined_op, joined_ops}
-use Rattle.conversion.specs.Merging.{Branches, Choice, branched, is_taken, choices, selected_bits, with_selection, with_selections, merged, joined}
+use Rattle.ir_core.specs.Value.{value}
+use Rattle.ir_core.specs.Bodies.{OpTree}
+use Rattle.ir_core.specs.Trees.{BlockTree}
+use Rattle.passes.specs.Numbering as n
+use Rattle.passes.specs.Conversion.Joining.{Guard, Joined, renamed, renamed_op, plain, bit_for, bit_in, with_guard, with_taken, with_both, with_bit, needs_guard, with_op, guarded, staying, is_conversion, converted, first_word, by_word, joined_op, joined_ops}
+use Rattle.passes.specs.Conversion.Merging.{Branches, Choice, branched, is_taken, choices, selected_bits, with_selection, with_selections, merged, joined}
 use Rattle.sound_trees.specs.Loops.{AreComputed}
 
 some_none : {A B : Type 0} {x : A} → Some x ≡ None → B

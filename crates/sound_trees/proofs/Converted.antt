@@ -1,11 +1,11 @@
 -- A converted tree is ready, where the bodies of loops that are overlapped are.
 use Rattle.std.proofs.Common.{◌≡◌, ℕ, Bool, true, false, ◌&&◌, refl, sym, subst, List, Option, Some, None}
 use Rattle.ir_core.specs.declared.body.Operand.{Operand}
-use Rattle.block_meaning.specs.Bodies.{Shapes}
-use Rattle.block_meaning.specs.Trees.{branch, BlockTree, BodyTree, SequenceTree, sequence, PartTrees, no_part, more_parts, ShapeTree, fork, loop, switch, land, overlapped, SideTree, no_side, side, ArmTrees, no_arm, more_arms}
-use Rattle.conversion.specs.Merging.{Branches, branches_of, opened, merged, joined, is_only_side, first_block, first_of}
-use Rattle.conversion.specs.Overlapping.{iteration, loop_by, chosen_test, overlapped_test}
-use Rattle.conversion.specs.Conversion.{Scope, going_on, part_before, behind, converted_sequence, converted_behind, converted_parts, converted_shape, converted_side, converted_arms}
+use Rattle.ir_core.specs.Bodies.{Shapes}
+use Rattle.ir_core.specs.Trees.{branch, BlockTree, BodyTree, SequenceTree, sequence, PartTrees, no_part, more_parts, ShapeTree, fork, loop, switch, land, overlapped, SideTree, no_side, side, ArmTrees, no_arm, more_arms}
+use Rattle.passes.specs.Conversion.Merging.{Branches, branches_of, opened, merged, joined, is_only_side, first_block, first_of}
+use Rattle.passes.specs.Conversion.Overlapping.{iteration, loop_by, chosen_test, overlapped_test}
+use Rattle.passes.specs.Conversion.{Scope, going_on, part_before, behind, converted_sequence, converted_behind, converted_parts, converted_shape, converted_side, converted_arms}
 use Rattle.convert_runs.proofs.Finding.{fork_found, no_fork_found, loop_is_no_fork, only_alone, IsOverlapped, overlapped_found}
 use Rattle.sound_trees.specs.Trees.{SequenceHas, PartsHave, ShapeHas, SideHas, ArmsHave}
 use Rattle.sound_trees.specs.Ready.{BlockIsReady}

@@ -7,18 +7,18 @@ use Rattle.ir_core.specs.declared.body.OpKind.TheVariants as o
 use Rattle.ir_core.specs.declared.body.Operand.{Operand}
 use Rattle.ir_core.specs.declared.body.Out.{Out}
 use Rattle.ir_core.specs.declared.body.Source.TheVariants as source
-use Rattle.block_meaning.specs.Bodies.{OpTree, Shapes}
-use Rattle.block_meaning.specs.Trees.{BlockTree}
-use Rattle.numbering.specs.Numbering.{Value}
-use Rattle.conversion.specs.Outs.{out, entry_value, held_or, held, is_set, with_out, with_outs}
-use Rattle.conversion.specs.Joining.{renamed, renamed_out, next_result, plain}
-use Rattle.conversion.specs.Merging.{Choice, opened, selected_bits, with_selection, with_selections}
-use Rattle.lowering.specs.Outs as lower
-use Rattle.lowering.specs.Copies.{is_fixed, is_fixed_source, fixed_in, outs_set}
+use Rattle.ir_core.specs.Bodies.{OpTree, Shapes}
+use Rattle.ir_core.specs.Trees.{BlockTree}
+use Rattle.passes.specs.Numbering.{Value}
+use Rattle.passes.specs.Conversion.Outs.{out, entry_value, held_or, held, is_set, with_out, with_outs}
+use Rattle.passes.specs.Conversion.Joining.{renamed, renamed_out, next_result, plain}
+use Rattle.passes.specs.Conversion.Merging.{Choice, opened, selected_bits, with_selection, with_selections}
+use Rattle.passes.specs.Lowering.Outs as lower
+use Rattle.passes.specs.Lowering.Copies.{is_fixed, is_fixed_source, fixed_in, outs_set}
 use Rattle.convert_runs.specs.Blocks.{Once}
 use Rattle.convert_runs.specs.Typed.{IsEarly}
 use Rattle.convert_runs.proofs.Opening.{same_number, turned_number, left_false, right_false}
-use Rattle.merged_blocks.proofs.Selections.{names}
+use Rattle.convert_runs.proofs.MergedBlocks.Selections.{names}
 use Rattle.sound_trees.specs.Ready.{BlockIsReady}
 use Rattle.sound_trees.specs.Loops.{OutsAreOwn}
 use Rattle.sound_trees.proofs.Names.{set_same}

@@ -6,15 +6,15 @@ use Rattle.c_token.specs.declared.ctype.CType.{CType}
 use Rattle.c_value.specs.Values.{width}
 use Rattle.ir_core.specs.declared.body.OpKind.TheVariants as o
 use Rattle.ir_core.specs.declared.body.Out.{Out}
-use Rattle.block_meaning.specs.Bodies.{OpTree}
-use Rattle.block_meaning.specs.Trees.{BlockTree, BodyTree, SequenceTree, sequence, PartTrees, no_part, more_parts}
-use Rattle.lowering.specs.Operations.{added, plain}
-use Rattle.lowering.specs.Blocks.{Scope, type_of, variable_type}
-use Rattle.lowering.specs.Copies.{Fixed, Copied, needs_copy, own_operand, with_own, copied_out, copied_outs, copied_block, copied_parts, copied, fixed_in, fixed_behind, fixed_behind_shape, parts_set}
+use Rattle.ir_core.specs.Bodies.{OpTree}
+use Rattle.ir_core.specs.Trees.{BlockTree, BodyTree, SequenceTree, sequence, PartTrees, no_part, more_parts}
+use Rattle.passes.specs.Lowering.Operations.{added, plain}
+use Rattle.passes.specs.Lowering.Blocks.{Scope, type_of, variable_type}
+use Rattle.passes.specs.Lowering.Copies.{Fixed, Copied, needs_copy, own_operand, with_own, copied_out, copied_outs, copied_block, copied_parts, copied, fixed_in, fixed_behind, fixed_behind_shape, parts_set}
 use Rattle.convert_runs.specs.Typed.{HasBits, OutIsTyped, OpsAreTyped, OutsAreTyped}
-use Rattle.lowered_conversions.specs.Suiting.{widths_of, words_of}
-use Rattle.lowered_conversions.proofs.Adding.{Grows, stays, grows_on, has_on, outs_on, Fine, added_fine, nothing_fine, one_early}
-use Rattle.lowered_conversions.proofs.Blocks.{exit_on, append_typed}
+use Rattle.convert_runs.specs.LoweredConversions.Suiting.{widths_of, words_of}
+use Rattle.convert_runs.proofs.LoweredConversions.Adding.{Grows, stays, grows_on, has_on, outs_on, Fine, added_fine, nothing_fine, one_early}
+use Rattle.convert_runs.proofs.LoweredConversions.Blocks.{exit_on, append_typed}
 use Rattle.sound_trees.specs.Trees.{SequenceHas, PartsHave}
 use Rattle.sound_trees.specs.Ready.{IsNear, OutsAreNear}
 use Rattle.sound_trees.proofs.Adding.{Ready, Gives, added_gives}

@@ -14,21 +14,21 @@ use Rattle.pieces.specs.Trees as tree
 use Rattle.pieces.specs.Trees.{PureTree, PureTrees}
 use Rattle.pieces.specs.Program.{ArrayTree}
 use Rattle.pieces.specs.Kind.{kind}
-use Rattle.piece_meaning.specs.Values.{lengths_in}
+use Rattle.c_meaning.specs.PieceRuns.Values.{lengths_in}
 use Rattle.ir_core.specs.declared.body.OpKind.{OpKind}
 use Rattle.ir_core.specs.declared.body.OpKind.TheVariants as o
 use Rattle.ir_core.specs.declared.body.Operand.{Operand}
 use Rattle.ir_core.specs.declared.body.Out.{Out}
-use Rattle.block_meaning.specs.Bodies.{OpTree, Shapes, dims_of}
-use Rattle.lowering.specs.Operations.{Emitted, added, plain, defined, flagged, kind_of, valued, tested, assigned, balanced}
-use Rattle.lowering.specs.Guards.{Guard, guarded, outside, only_where}
-use Rattle.lowering.specs.Outs.{held}
-use Rattle.lowering.specs.Blocks.{Scope}
-use Rattle.lowering.specs.Expressions.{Evaluated, Next, Subscripts, with_value, with_truth, under_guard, is_total, computed, operated, junction, joined, binary, unary, choice, cast_to, subscript, emitted, emitted_all, left_type, right_type}
+use Rattle.ir_core.specs.Bodies.{OpTree, Shapes, dims_of}
+use Rattle.passes.specs.Lowering.Operations.{Emitted, added, plain, defined, flagged, kind_of, valued, tested, assigned, balanced}
+use Rattle.passes.specs.Lowering.Guards.{Guard, guarded, outside, only_where}
+use Rattle.passes.specs.Lowering.Outs.{held}
+use Rattle.passes.specs.Lowering.Blocks.{Scope}
+use Rattle.passes.specs.Lowering.Expressions.{Evaluated, Next, Subscripts, with_value, with_truth, under_guard, is_total, computed, operated, junction, joined, binary, unary, choice, cast_to, subscript, emitted, emitted_all, left_type, right_type}
 use Rattle.convert_runs.specs.Typed.{HasBits, OpsAreTyped, OutsAreTyped}
-use Rattle.lowered_conversions.specs.Suiting.{widths_of, words_of, PureSuits, EachSuits}
-use Rattle.lowered_conversions.proofs.Adding.{Grows, grows_on, has_on, outs_on, tested_fine, valued_fine, balanced_fine, GuardsTyped, guards_on, outside_typed, guarded_fine}
-use Rattle.lowered_conversions.proofs.Expressions.{EvalFine, NextFine, emitted_fine, emitted_all_fine}
+use Rattle.convert_runs.specs.LoweredConversions.Suiting.{widths_of, words_of, PureSuits, EachSuits}
+use Rattle.convert_runs.proofs.LoweredConversions.Adding.{Grows, grows_on, has_on, outs_on, tested_fine, valued_fine, balanced_fine, GuardsTyped, guards_on, outside_typed, guarded_fine}
+use Rattle.convert_runs.proofs.LoweredConversions.Expressions.{EvalFine, NextFine, emitted_fine, emitted_all_fine}
 use Rattle.clock_runs.specs.Premises.{IsSoundAccess}
 use Rattle.sound_trees.specs.Ready.{IsNear, AreNear, IsNearIf, OutsAreNear, HasFew, IsChecked, OpIsReady}
 use Rattle.sound_trees.specs.Subscripts.{count, HasDimensions, SubscriptsFit, AllSubscriptsFit}

@@ -6,8 +6,8 @@ use Rattle.hls_base.specs.declared.number.VarId.{VarId}
 use Rattle.ir_core.specs.declared.body.Operand.{Operand}
 use Rattle.ir_core.specs.declared.body.Source.{Source}
 use Rattle.ir_core.specs.declared.body.Source.TheVariants as source
-use Rattle.block_meaning.specs.Bodies.{OpTree}
-use Rattle.lowering.specs.Copies.{Fixed, is_fixed_source, is_fixed, all_fixed, is_computed, with_op, with_ops}
+use Rattle.ir_core.specs.Bodies.{OpTree}
+use Rattle.passes.specs.Lowering.Copies.{Fixed, is_fixed_source, is_fixed, all_fixed, is_computed, with_op, with_ops}
 
 -- ---- lists of marks
 

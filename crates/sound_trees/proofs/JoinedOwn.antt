@@ -7,18 +7,18 @@ use Rattle.ir_core.specs.declared.body.Operand.{Operand}
 use Rattle.ir_core.specs.declared.body.Out.{Out}
 use Rattle.ir_core.specs.declared.body.Source.{Source}
 use Rattle.ir_core.specs.declared.body.Source.TheVariants as source
-use Rattle.ir_operation.specs.Value.{value}
-use Rattle.block_meaning.specs.Bodies.{OpTree, Shapes}
-use Rattle.block_meaning.specs.Trees.{BlockTree}
-use Rattle.numbering.specs.Constants.{word_of}
-use Rattle.numbering.specs.Numbering as n
-use Rattle.numbering.specs.Numbering.{Value, constant, operand_or}
-use Rattle.conversion.specs.Outs.{entry_value, held, is_set, with_outs}
-use Rattle.conversion.specs.Joining.{Joined, standing_for, renamed, renamed_op, renamed_out, next_result, is_conversion, converted, first_word, by_word, joined_op, joined_ops}
-use Rattle.conversion.specs.Merging.{joined}
-use Rattle.lowering.specs.Outs as lower
-use Rattle.lowering.specs.Copies.{Fixed, is_computed, is_fixed, is_fixed_source, all_fixed, fixed_in, outs_set, with_ops}
-use Rattle.lowering.specs.Copies as copies
+use Rattle.ir_core.specs.Value.{value}
+use Rattle.ir_core.specs.Bodies.{OpTree, Shapes}
+use Rattle.ir_core.specs.Trees.{BlockTree}
+use Rattle.passes.specs.Numbering.Constants.{word_of}
+use Rattle.passes.specs.Numbering as n
+use Rattle.passes.specs.Numbering.{Value, constant, operand_or}
+use Rattle.passes.specs.Conversion.Outs.{entry_value, held, is_set, with_outs}
+use Rattle.passes.specs.Conversion.Joining.{Joined, standing_for, renamed, renamed_op, renamed_out, next_result, is_conversion, converted, first_word, by_word, joined_op, joined_ops}
+use Rattle.passes.specs.Conversion.Merging.{joined}
+use Rattle.passes.specs.Lowering.Outs as lower
+use Rattle.passes.specs.Lowering.Copies.{Fixed, is_computed, is_fixed, is_fixed_source, all_fixed, fixed_in, outs_set, with_ops}
+use Rattle.passes.specs.Lowering.Copies as copies
 use Rattle.convert_runs.specs.Typed.{IsEarly}
 use Rattle.convert_runs.proofs.Lists.{there, within, last_or}
 use Rattle.sound_trees.specs.Ready.{HasFew, BlockIsReady, OpsAreReady}

@@ -8,13 +8,13 @@ use Rattle.ir_core.specs.declared.body.Operand.{Operand}
 use Rattle.ir_core.specs.declared.body.Out.{Out}
 use Rattle.ir_core.specs.declared.body.Source.{Source}
 use Rattle.ir_core.specs.declared.body.Source.TheVariants as source
-use Rattle.block_meaning.specs.Bodies.{OpTree, Shapes}
-use Rattle.block_meaning.specs.Trees.{ExitTree, next, branch, choose, break_, continue_, leave}
-use Rattle.numbering.specs.Equal.{operand_eq}
-use Rattle.numbering.specs.Numbering as n
-use Rattle.numbering.specs.Numbering.{Value, constant, operand_or}
-use Rattle.conversion.specs.Outs.{out, entry_value, held_or, with_out, with_outs}
-use Rattle.conversion.specs.Joining.{Guard, Joined, standing_for, renamed, renamed_op, renamed_out, renamed_exit, next_result, plain, bit_for, or_constant, bit_in, with_guard, with_taken, with_both, with_bit, needs_guard, with_op, guarded, staying, converted, first_word, by_word, joined_op, joined_ops}
+use Rattle.ir_core.specs.Bodies.{OpTree, Shapes}
+use Rattle.ir_core.specs.Trees.{ExitTree, next, branch, choose, break_, continue_, leave}
+use Rattle.passes.specs.Numbering.Equal.{operand_eq}
+use Rattle.passes.specs.Numbering as n
+use Rattle.passes.specs.Numbering.{Value, constant, operand_or}
+use Rattle.passes.specs.Conversion.Outs.{out, entry_value, held_or, with_out, with_outs}
+use Rattle.passes.specs.Conversion.Joining.{Guard, Joined, standing_for, renamed, renamed_op, renamed_out, renamed_exit, next_result, plain, bit_for, or_constant, bit_in, with_guard, with_taken, with_both, with_bit, needs_guard, with_op, guarded, staying, converted, first_word, by_word, joined_op, joined_ops}
 use Rattle.convert_runs.specs.Typed.{HasBits, OpIsTyped, OpsAreTyped}
 use Rattle.convert_runs.proofs.Joining.{TestHas, IsSound, renamed_has, guard_renamed, bit_sound, bit_grows, joined_sound}
 use Rattle.sound_trees.specs.Ready.{IsNear, AreNear, IsNearIf, OutsAreNear, ExitIsNear, OpIsReady, OpsAreReady}

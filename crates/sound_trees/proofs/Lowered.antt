@@ -7,13 +7,13 @@ use Rattle.pieces.specs.Trees as tree
 use Rattle.pieces.specs.Trees.{PureTree, PieceTree, PieceTrees}
 use Rattle.pieces.specs.Weight.{weight, piece_weights}
 use Rattle.pieces.specs.Shape.{are_marks}
-use Rattle.block_meaning.specs.Trees.{break_, continue_, leave, BlockTree, BodyTree, SequenceTree, sequence, ShapeTree, land, more_arms}
-use Rattle.lowering.specs.Shapes.{is_eligible, are_straight, first_point, or_at, point_of}
-use Rattle.lowering.specs.Blocks.{Scope, begun, is_live, with_exit, set, put, ends_by_test}
-use Rattle.lowering.specs.Lowering.{Rest, last, followed, parts_of, land_of, side_from, with_copies, own_step, stepped, is_named, lowered, lowered_piece, before_arm, arms}
-use Rattle.lowered_conversions.specs.Suiting.{words_of, PureSuits, PieceSuits, PiecesSuit}
-use Rattle.lowered_conversions.proofs.Blocks.{exit_typed}
-use Rattle.lowered_conversions.specs.Suiting as typing
+use Rattle.ir_core.specs.Trees.{break_, continue_, leave, BlockTree, BodyTree, SequenceTree, sequence, ShapeTree, land, more_arms}
+use Rattle.passes.specs.Lowering.Shapes.{is_eligible, are_straight, first_point, or_at, point_of}
+use Rattle.passes.specs.Lowering.Blocks.{Scope, begun, is_live, with_exit, set, put, ends_by_test}
+use Rattle.passes.specs.Lowering.{Rest, last, followed, parts_of, land_of, side_from, with_copies, own_step, stepped, is_named, lowered, lowered_piece, before_arm, arms}
+use Rattle.convert_runs.specs.LoweredConversions.Suiting.{words_of, PureSuits, PieceSuits, PiecesSuit}
+use Rattle.convert_runs.proofs.LoweredConversions.Blocks.{exit_typed}
+use Rattle.convert_runs.specs.LoweredConversions.Suiting as typing
 use Rattle.sound_trees.specs.Trees.{SequenceHas, PartsHave, ShapeHas, SideHas, ArmsHave}
 use Rattle.sound_trees.specs.Loops.{LoopIsReady, TestsAlone}
 use Rattle.sound_trees.specs.Subscripts.{SubscriptsFit, PieceSubscriptsFit, PiecesSubscriptsFit}

@@ -3,11 +3,11 @@ use Rattle.std.proofs.Common.{◌≡◌, ◌≤◌, ℕ, Bool, true, refl, ap, s
 use Rattle.ir_core.specs.declared.body.OpKind.TheVariants as o
 use Rattle.ir_core.specs.declared.body.Operand.{Operand}
 use Rattle.ir_core.specs.declared.body.Out.{Out}
-use Rattle.block_meaning.specs.Bodies.{OpTree, Shapes}
-use Rattle.block_meaning.specs.Trees.{next, branch, BlockTree}
-use Rattle.conversion.specs.Outs.{entry_value, held}
-use Rattle.conversion.specs.Joining.{Guard, Joined, plain, renamed_out, next_result, joined_ops}
-use Rattle.conversion.specs.Merging.{Branches, Branched, Choice, opened, branched, is_taken, choices_for, choices, others, selected_bits, with_selection, with_selections, merged, joined}
+use Rattle.ir_core.specs.Bodies.{OpTree, Shapes}
+use Rattle.ir_core.specs.Trees.{next, branch, BlockTree}
+use Rattle.passes.specs.Conversion.Outs.{entry_value, held}
+use Rattle.passes.specs.Conversion.Joining.{Guard, Joined, plain, renamed_out, next_result, joined_ops}
+use Rattle.passes.specs.Conversion.Merging.{Branches, Branched, Choice, opened, branched, is_taken, choices_for, choices, others, selected_bits, with_selection, with_selections, merged, joined}
 use Rattle.convert_runs.specs.Blocks.{IsOpen, BranchIsTyped}
 use Rattle.convert_runs.proofs.Opening.{opened_open}
 use Rattle.convert_runs.proofs.Joining.{Sound}

@@ -4,9 +4,9 @@ use Rattle.std.proofs.Common.{◌≡◌, ◌∙◌, Bool, true, false, ◌||◌,
 use Rattle.hls_base.specs.declared.number.VarId.{VarId}
 use Rattle.ir_core.specs.declared.body.Operand.{Operand}
 use Rattle.ir_core.specs.declared.body.Out.{Out}
-use Rattle.conversion.specs.Outs.{is_set}
-use Rattle.lowering.specs.Outs.{operand_eq, held, without, own_out, with_out}
-use Rattle.lowering.specs.Copies.{outs_set}
+use Rattle.passes.specs.Conversion.Outs.{is_set}
+use Rattle.passes.specs.Lowering.Outs.{operand_eq, held, without, own_out, with_out}
+use Rattle.passes.specs.Lowering.Copies.{outs_set}
 use Rattle.convert_runs.specs.Blocks.{Once}
 use Rattle.convert_runs.proofs.Opening.{turned_number, left_false, right_false}
 

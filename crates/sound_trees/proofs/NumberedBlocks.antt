@@ -7,19 +7,19 @@ use Rattle.ir_core.specs.declared.body.Operand.{Operand}
 use Rattle.ir_core.specs.declared.body.Out.{Out}
 use Rattle.ir_core.specs.declared.body.Source.{Source}
 use Rattle.ir_core.specs.declared.body.Source.TheVariants as source
-use Rattle.ir_operation.specs.Value.{count_of, value, is_defined}
-use Rattle.ir_operation.specs.Timing.{result_bits}
-use Rattle.block_meaning.specs.Bodies.{OpTree, Shapes}
-use Rattle.block_meaning.specs.Trees.{ExitTree, next, branch, choose, break_, continue_, leave, BlockTree}
-use Rattle.numbering.specs.Constants.{word_in, is_computed, computed_on, computed}
-use Rattle.numbering.specs.Numbering.{Scope, Value, Kept, Numbered, constant, result_of, operand_or, standing_for, renamed, renamed_op, first_bits, earlier, with_out, with_earlier, with_word, makes_out, numbered_with, numbered_op, numbered_ops, nothing, ops_of, renamed_out, renamed_exit, numbered_block}
-use Rattle.numbering.proofs.Equalities.{equal_alike}
-use Rattle.number_runs.proofs.Finding.{Earlier, earlier_found}
+use Rattle.ir_core.specs.Value.{count_of, value, is_defined}
+use Rattle.ir_core.specs.Timing.{result_bits}
+use Rattle.ir_core.specs.Bodies.{OpTree, Shapes}
+use Rattle.ir_core.specs.Trees.{ExitTree, next, branch, choose, break_, continue_, leave, BlockTree}
+use Rattle.passes.specs.Numbering.Constants.{word_in, is_computed, computed_on, computed}
+use Rattle.passes.specs.Numbering.{Scope, Value, Kept, Numbered, constant, result_of, operand_or, standing_for, renamed, renamed_op, first_bits, earlier, with_out, with_earlier, with_word, makes_out, numbered_with, numbered_op, numbered_ops, nothing, ops_of, renamed_out, renamed_exit, numbered_block}
+use Rattle.passes.proofs.Equalities.{equal_alike}
+use Rattle.passes.proofs.NumberRuns.Finding.{Earlier, earlier_found}
 use Rattle.convert_runs.specs.Typed.{HasBits}
 use Rattle.convert_runs.proofs.Lists.{there, within, last_or}
 use Rattle.convert_runs.proofs.Fitting.{is_access, value_fits}
 use Rattle.convert_runs.proofs.Joining.{has_more, next_has}
-use Rattle.converted_trees.proofs.Blocks.{block_typed}
+use Rattle.convert_runs.proofs.ConvertedTrees.Blocks.{block_typed}
 use Rattle.sound_trees.specs.Ready.{IsNear, AreNear, OutsAreNear, ExitIsNear, OpIsReady, OpsAreReady, BlockIsReady}
 use Rattle.sound_trees.proofs.Adding.{ready_more}
 use Rattle.sound_trees.proofs.Names.{SameNames, names_once}

@@ -7,18 +7,18 @@ use Rattle.ir_core.specs.declared.body.Operand.{Operand}
 use Rattle.ir_core.specs.declared.body.Out.{Out}
 use Rattle.ir_core.specs.declared.body.Source.{Source}
 use Rattle.ir_core.specs.declared.body.Source.TheVariants as source
-use Rattle.ir_operation.specs.Value.{value, is_defined}
-use Rattle.ir_operation.specs.Timing.{result_bits}
-use Rattle.block_meaning.specs.Bodies.{OpTree, Shapes}
-use Rattle.block_meaning.specs.Trees.{BlockTree}
-use Rattle.numbering.specs.Equal.{is_equal}
-use Rattle.numbering.specs.Constants as n
-use Rattle.numbering.specs.Constants.{word_of, word_in, computed_on, computed}
-use Rattle.numbering.specs.Numbering.{Scope, Value, Kept, Numbered, First, constant, result_of, operand_or, standing_for, renamed, renamed_op, first_bits, first_equal, joined, earlier, is_common, with_out, with_earlier, with_word, is_result, makes_out, numbered_op, numbered_ops, nothing, ops_of, renamed_out, numbered_block}
-use Rattle.numbering.proofs.Equalities.{equal_alike}
-use Rattle.number_runs.proofs.Finding.{Earlier, earlier_found}
-use Rattle.lowering.specs.Outs.{held}
-use Rattle.lowering.specs.Copies.{Fixed, is_computed, is_fixed, is_fixed_source, all_fixed, fixed_in, outs_set, with_ops}
+use Rattle.ir_core.specs.Value.{value, is_defined}
+use Rattle.ir_core.specs.Timing.{result_bits}
+use Rattle.ir_core.specs.Bodies.{OpTree, Shapes}
+use Rattle.ir_core.specs.Trees.{BlockTree}
+use Rattle.passes.specs.Numbering.Equal.{is_equal}
+use Rattle.passes.specs.Numbering.Constants as n
+use Rattle.passes.specs.Numbering.Constants.{word_of, word_in, computed_on, computed}
+use Rattle.passes.specs.Numbering.{Scope, Value, Kept, Numbered, First, constant, result_of, operand_or, standing_for, renamed, renamed_op, first_bits, first_equal, joined, earlier, is_common, with_out, with_earlier, with_word, is_result, makes_out, numbered_op, numbered_ops, nothing, ops_of, renamed_out, numbered_block}
+use Rattle.passes.proofs.Equalities.{equal_alike}
+use Rattle.passes.proofs.NumberRuns.Finding.{Earlier, earlier_found}
+use Rattle.passes.specs.Lowering.Outs.{held}
+use Rattle.passes.specs.Lowering.Copies.{Fixed, is_computed, is_fixed, is_fixed_source, all_fixed, fixed_in, outs_set, with_ops}
 use Rattle.convert_runs.specs.Typed.{IsEarly, AreEarly, OpsAreTyped, OutsAreTyped}
 use Rattle.convert_runs.proofs.Lists.{there, within, last_or}
 use Rattle.convert_runs.proofs.Joining.{has_early}

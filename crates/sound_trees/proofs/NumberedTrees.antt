@@ -4,16 +4,16 @@ use Rattle.std.proofs.Common.{◌≡◌, ◌∙◌, ◌≤◌, ℕ, Bool, true, 
 use Rattle.hls_base.specs.declared.number.VarId.{VarId}
 use Rattle.ir_core.specs.declared.body.Operand.{Operand}
 use Rattle.ir_core.specs.declared.body.Out.{Out}
-use Rattle.ir_operation.specs.Value.{value, is_defined}
-use Rattle.block_meaning.specs.Bodies.{OpTree, Shapes}
-use Rattle.block_meaning.specs.Trees.{BlockTree, BodyTree, SequenceTree, sequence, PartTrees, no_part, more_parts, ShapeTree, fork, loop, switch, land, overlapped, SideTree, no_side, side, ArmTrees, no_arm, more_arms}
-use Rattle.numbering.specs.Constants as n
-use Rattle.numbering.specs.Constants.{word_of, word_in, computed_on, computed}
-use Rattle.numbering.specs.Numbering.{Scope, Numbered, renamed, renamed_op, first_bits, earlier, with_earlier, with_word, makes_out, numbered_op, numbered_ops, nothing, ops_of, numbered_block, in_loop, numbered_sequence, numbered_parts, numbered_shape, numbered_side, numbered_arms}
-use Rattle.conversion.specs.Joining.{is_conversion, first_word}
-use Rattle.conversion.specs.Merging.{first_of}
-use Rattle.lowering.specs.Outs.{held}
-use Rattle.lowering.specs.Copies.{is_fixed, fixed_in, fixed_behind, fixed_behind_shape, outs_set, parts_set, sequence_sets, shape_sets, side_sets}
+use Rattle.ir_core.specs.Value.{value, is_defined}
+use Rattle.ir_core.specs.Bodies.{OpTree, Shapes}
+use Rattle.ir_core.specs.Trees.{BlockTree, BodyTree, SequenceTree, sequence, PartTrees, no_part, more_parts, ShapeTree, fork, loop, switch, land, overlapped, SideTree, no_side, side, ArmTrees, no_arm, more_arms}
+use Rattle.passes.specs.Numbering.Constants as n
+use Rattle.passes.specs.Numbering.Constants.{word_of, word_in, computed_on, computed}
+use Rattle.passes.specs.Numbering.{Scope, Numbered, renamed, renamed_op, first_bits, earlier, with_earlier, with_word, makes_out, numbered_op, numbered_ops, nothing, ops_of, numbered_block, in_loop, numbered_sequence, numbered_parts, numbered_shape, numbered_side, numbered_arms}
+use Rattle.passes.specs.Conversion.Joining.{is_conversion, first_word}
+use Rattle.passes.specs.Conversion.Merging.{first_of}
+use Rattle.passes.specs.Lowering.Outs.{held}
+use Rattle.passes.specs.Lowering.Copies.{is_fixed, fixed_in, fixed_behind, fixed_behind_shape, outs_set, parts_set, sequence_sets, shape_sets, side_sets}
 use Rattle.sound_trees.specs.Trees.{SequenceHas, PartsHave, ShapeHas, SideHas, ArmsHave}
 use Rattle.sound_trees.specs.Ready.{HasFew, OpsAreReady, BlockIsReady}
 use Rattle.sound_trees.specs.Loops.{OutsAreOwn, BlockOwns, PartsOwn, BodyOwns, TestsAlone, LoopIsReady, AreComputed, NumberedLoopIsReady}

@@ -9,13 +9,13 @@ use Rattle.ir_core.specs.declared.body.Operand.{Operand}
 use Rattle.ir_core.specs.declared.body.Out.{Out}
 use Rattle.ir_core.specs.declared.body.Source.{Source}
 use Rattle.ir_core.specs.declared.body.Source.TheVariants as source
-use Rattle.block_meaning.specs.Bodies.{OpTree, Shapes}
-use Rattle.block_meaning.specs.Trees.{branch, BlockTree, SequenceTree, sequence, PartTrees, no_part, more_parts, ShapeTree, fork, loop, switch, land, overlapped}
-use Rattle.block_meaning.specs.TreeRuns.{tested_by}
-use Rattle.conversion.specs.Outs.{entry_value, held_or, held, is_set, with_outs}
-use Rattle.conversion.specs.Merging.{Branches, branches_of, opened, joined, first_of}
-use Rattle.conversion.specs.Overlapping.{is_test, carried_from, carried, carried_op, carried_out, iteration}
-use Rattle.conversion.specs.Conversion.{Scope, going_on, part_before, behind, converted_sequence, converted_behind}
+use Rattle.ir_core.specs.Bodies.{OpTree, Shapes}
+use Rattle.ir_core.specs.Trees.{branch, BlockTree, SequenceTree, sequence, PartTrees, no_part, more_parts, ShapeTree, fork, loop, switch, land, overlapped}
+use Rattle.ir_core.specs.TreeRuns.{tested_by}
+use Rattle.passes.specs.Conversion.Outs.{entry_value, held_or, held, is_set, with_outs}
+use Rattle.passes.specs.Conversion.Merging.{Branches, branches_of, opened, joined, first_of}
+use Rattle.passes.specs.Conversion.Overlapping.{is_test, carried_from, carried, carried_op, carried_out, iteration}
+use Rattle.passes.specs.Conversion.{Scope, going_on, part_before, behind, converted_sequence, converted_behind}
 use Rattle.convert_runs.specs.Blocks.{Once}
 use Rattle.convert_runs.specs.Typed.{IsEarly, ExitIsTyped}
 use Rattle.convert_runs.proofs.Finding.{no_fork_found}

@@ -5,11 +5,11 @@ use Rattle.std.proofs.Common.{◌≡◌, ◌∙◌, ◌≤◌, ℕ, suc, Bool, t
 use Rattle.ir_core.specs.declared.body.OpKind.{OpKind}
 use Rattle.ir_core.specs.declared.body.OpKind.TheVariants as o
 use Rattle.ir_core.specs.declared.body.Operand.{Operand}
-use Rattle.ir_operation.specs.Value.{is_defined}
-use Rattle.block_meaning.specs.Bodies.{OpTree, Shapes}
-use Rattle.numbering.specs.Constants as n
-use Rattle.lowering.specs.Copies as lower
-use Rattle.conversion.specs.Joining.{is_conversion}
+use Rattle.ir_core.specs.Value.{is_defined}
+use Rattle.ir_core.specs.Bodies.{OpTree, Shapes}
+use Rattle.passes.specs.Numbering.Constants as n
+use Rattle.passes.specs.Lowering.Copies as lower
+use Rattle.passes.specs.Conversion.Joining.{is_conversion}
 use Rattle.convert_runs.specs.Typed.{HasBits}
 use Rattle.clock_runs.specs.Premises.{IsSoundAccess}
 use Rattle.sound_trees.specs.Ready.{IsNear, AreNear, IsNearIf, HasFew, AllHave, IsCheckedSum, IsChecked, OpIsReady}

@@ -8,8 +8,8 @@ use Rattle.ir_core.specs.declared.body.Operand.{Operand}
 use Rattle.ir_core.specs.declared.body.Out.{Out}
 use Rattle.ir_core.specs.declared.body.Source.{Source}
 use Rattle.ir_core.specs.declared.body.Source.TheVariants as source
-use Rattle.ir_operation.specs.Timing.{result_bits}
-use Rattle.block_meaning.specs.Bodies.{OpTree, Shapes}
+use Rattle.ir_core.specs.Timing.{result_bits}
+use Rattle.ir_core.specs.Bodies.{OpTree, Shapes}
 use Rattle.convert_runs.specs.Typed.{IsEarly, AreEarly, HasBits, GuardIsTyped, OpIsTyped, OpsAreTyped}
 use Rattle.convert_runs.proofs.Joining.{has_early}
 use Rattle.clock_runs.specs.Premises.{Each, IsOperandAs, IsOperand, IsOperandIf, HasWidth, IsSoundAccess, IsSoundSum, IsSoundAs, IsSoundOp, AreSoundOps}

@@ -3,17 +3,17 @@ use Rattle.std.proofs.Common.{ℕ, Bool, true, List, [], None}
 use Rattle.hls_base.specs.declared.point.Point.{Point}
 use Rattle.ir_core.specs.declared.body.Operand.{Operand}
 use Rattle.pieces.specs.Trees.{PieceTrees}
-use Rattle.block_meaning.specs.Bodies.{Shapes}
-use Rattle.block_meaning.specs.Trees.{BlockTree, BodyTree, SequenceTree}
-use Rattle.lowering.specs.Blocks as lower
-use Rattle.lowering.specs.Blocks.{begun}
-use Rattle.lowering.specs.Lowering.{last, lowered}
-use Rattle.numbering.specs.Numbering.{numbered_sequence}
-use Rattle.conversion.specs.Conversion.{Scope, converted_sequence}
-use Rattle.conversion.specs.Merging.{opened, joined, first_of}
-use Rattle.conversion.specs.Overlapping.{iteration}
+use Rattle.ir_core.specs.Bodies.{Shapes}
+use Rattle.ir_core.specs.Trees.{BlockTree, BodyTree, SequenceTree}
+use Rattle.passes.specs.Lowering.Blocks as lower
+use Rattle.passes.specs.Lowering.Blocks.{begun}
+use Rattle.passes.specs.Lowering.{last, lowered}
+use Rattle.passes.specs.Numbering.{numbered_sequence}
+use Rattle.passes.specs.Conversion.{Scope, converted_sequence}
+use Rattle.passes.specs.Conversion.Merging.{opened, joined, first_of}
+use Rattle.passes.specs.Conversion.Overlapping.{iteration}
 use Rattle.ir_layout.specs.Layout.{finish, laid_out}
-use Rattle.lowered_conversions.specs.Suiting.{widths_of, words_of, PiecesSuit}
+use Rattle.convert_runs.specs.LoweredConversions.Suiting.{widths_of, words_of, PiecesSuit}
 use Rattle.sound_trees.specs.Trees.{SequenceHas}
 use Rattle.sound_trees.specs.Ready.{BlockIsReady}
 use Rattle.sound_trees.specs.Loops.{NumberedLoopIsReady, BodyIsSound}

@@ -6,7 +6,7 @@ use Rattle.c_value.specs.Values.{int_type}
 use Rattle.pieces.specs.Trees as tree
 use Rattle.pieces.specs.Trees.{PureTree, PieceTree, row}
 use Rattle.pieces.specs.Program.{ArrayTree}
-use Rattle.piece_meaning.specs.Values.{lengths_in}
+use Rattle.c_meaning.specs.PieceRuns.Values.{lengths_in}
 use Rattle.sound_trees.specs.Subscripts.{PieceSubscriptsFit}
 
 abbrev place : Place

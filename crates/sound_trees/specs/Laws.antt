@@ -5,15 +5,15 @@ use Rattle.hls_base.specs.declared.point.Point.{Point}
 use Rattle.ir_core.specs.declared.cfg.Node.{Node}
 use Rattle.ir_core.specs.declared.stamp.Untimed.{Untimed}
 use Rattle.pieces.specs.Trees.{PieceTrees}
-use Rattle.block_meaning.specs.Bodies.{Shapes}
-use Rattle.block_meaning.specs.Trees.{SequenceTree}
-use Rattle.lowering.specs.Blocks.{Scope, begun}
-use Rattle.lowering.specs.Lowering.{last, lowered}
-use Rattle.numbering.specs.Numbering.{numbered_sequence}
-use Rattle.conversion.specs.Conversion.{converted_sequence}
+use Rattle.ir_core.specs.Bodies.{Shapes}
+use Rattle.ir_core.specs.Trees.{SequenceTree}
+use Rattle.passes.specs.Lowering.Blocks.{Scope, begun}
+use Rattle.passes.specs.Lowering.{last, lowered}
+use Rattle.passes.specs.Numbering.{numbered_sequence}
+use Rattle.passes.specs.Conversion.{converted_sequence}
 use Rattle.ir_layout.specs.Nodes.{node_of}
 use Rattle.ir_layout.specs.Layout.{laid_out}
-use Rattle.lowered_conversions.specs.Suiting.{widths_of, PiecesSuit}
+use Rattle.convert_runs.specs.LoweredConversions.Suiting.{widths_of, PiecesSuit}
 use Rattle.clock_runs.specs.Premises.{Each, IsSoundNode}
 use Rattle.sound_trees.specs.Subscripts.{PiecesSubscriptsFit}
 

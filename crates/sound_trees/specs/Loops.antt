@@ -5,12 +5,12 @@ use Rattle.ir_core.specs.declared.body.OpKind.TheVariants as o
 use Rattle.ir_core.specs.declared.body.Out.{Out}
 use Rattle.ir_core.specs.declared.body.Source.{Source}
 use Rattle.ir_core.specs.declared.body.Source.TheVariants as source
-use Rattle.block_meaning.specs.Bodies.{OpTree, Shapes}
-use Rattle.block_meaning.specs.Trees.{BlockTree, BodyTree, SequenceTree, sequence, PartTrees, no_part, more_parts, land}
-use Rattle.block_meaning.specs.TreeRuns.{tested}
-use Rattle.conversion.specs.Joining.{is_conversion, first_word}
-use Rattle.conversion.specs.Merging.{first_of}
-use Rattle.lowering.specs.Copies.{Fixed, fixed_in, fixed_behind, fixed_behind_shape, parts_set}
+use Rattle.ir_core.specs.Bodies.{OpTree, Shapes}
+use Rattle.ir_core.specs.Trees.{BlockTree, BodyTree, SequenceTree, sequence, PartTrees, no_part, more_parts, land}
+use Rattle.ir_core.specs.TreeRuns.{tested}
+use Rattle.passes.specs.Conversion.Joining.{is_conversion, first_word}
+use Rattle.passes.specs.Conversion.Merging.{first_of}
+use Rattle.passes.specs.Lowering.Copies.{Fixed, fixed_in, fixed_behind, fixed_behind_shape, parts_set}
 use Rattle.sound_trees.specs.Ready.{BlockIsReady}
 use Rattle.clock_runs.specs.Premises.{Each, IsOperandIf, AreSoundOps, NamesResult, AreApart}
 

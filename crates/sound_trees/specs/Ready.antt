@@ -4,8 +4,8 @@ use Rattle.ir_core.specs.declared.body.OpKind.{OpKind}
 use Rattle.ir_core.specs.declared.body.OpKind.TheVariants as o
 use Rattle.ir_core.specs.declared.body.Operand.{Operand}
 use Rattle.ir_core.specs.declared.body.Out.{Out}
-use Rattle.block_meaning.specs.Bodies.{OpTree, Shapes}
-use Rattle.block_meaning.specs.Trees.{ExitTree, branch, choose, BlockTree}
+use Rattle.ir_core.specs.Bodies.{OpTree, Shapes}
+use Rattle.ir_core.specs.Trees.{ExitTree, branch, choose, BlockTree}
 use Rattle.convert_runs.specs.Typed.{HasBits, BlockIsTyped}
 use Rattle.convert_runs.specs.Blocks.{Once}
 use Rattle.clock_runs.specs.Premises.{IsSoundAccess}

@@ -1,6 +1,6 @@
 -- Trees of which each block has a property, also those that never run.
 use Rattle.std.specs.Prelude.{◌≡◌, true}
-use Rattle.block_meaning.specs.Trees.{BlockTree, BodyTree, SequenceTree, sequence, PartTrees, no_part, more_parts, ShapeTree, fork, loop, switch, land, overlapped, SideTree, no_side, side, ArmTrees, no_arm, more_arms}
+use Rattle.ir_core.specs.Trees.{BlockTree, BodyTree, SequenceTree, sequence, PartTrees, no_part, more_parts, ShapeTree, fork, loop, switch, land, overlapped, SideTree, no_side, side, ArmTrees, no_arm, more_arms}
 
 -- a property of blocks, one of the test and the body of a loop that may be overlapped, and one of the body of a loop that is
 module _ (B : BlockTree → Type 0) (L : SequenceTree → SequenceTree → Type 0) (O : BodyTree → Type 0) where

@@ -1,1 +1,5 @@
+pub mod EndedLoops
+pub mod NodePoints
 pub mod Whole
+pub mod SourceCycles
+pub mod CompiledAnswers

@@ -10,38 +10,38 @@ use Rattle.c_meaning.specs.Points.{tally_of}
 use Rattle.c_meaning.specs.Run.{c_run, ended}
 use Rattle.c_meaning.proofs.Tallies.{count_in-tally_of}
 use Rattle.pieces.specs.Program.{ExpandedTree}
-use Rattle.run_steps.specs.Steps.{Ran, ran, went}
-use Rattle.piece_meaning.specs.Values.{Store}
-use Rattle.piece_meaning.specs.Pieces.{Way, pieces_run}
-use Rattle.piece_meaning.specs.Runs.{frame_of, started, result_word, host_arrays, kept_of}
+use Rattle.hls_base.specs.Steps.{Ran, ran, went}
+use Rattle.c_meaning.specs.PieceRuns.Values.{Store}
+use Rattle.c_meaning.specs.PieceRuns.Pieces.{Way, pieces_run}
+use Rattle.c_meaning.specs.PieceRuns.Runs.{frame_of, started, result_word, host_arrays, kept_of}
 use Rattle.expand_runs.specs.Reading.{IsTyped}
 use Rattle.elaborated_programs.specs.Inputs.{ProgramInputsFit}
 use Rattle.elaborated_programs.proofs.Tokens.{numbers_fit}
-use Rattle.elaborated_subscripts.proofs.Programs.{checked_fit}
+use Rattle.source_runs.proofs.ElaboratedSubscripts.Programs.{checked_fit}
 use Rattle.ir_core.specs.declared.cfg.Cfg.{Cfg}
 use Rattle.ir_core.specs.declared.stamp.Untimed.{Untimed}
-use Rattle.clock_ir.specs.declared.timed.Timed.{Timed}
+use Rattle.ir_core.specs.declared.timed.Timed.{Timed}
 use Rattle.cycle_report.specs.declared.report.Cost.{Cost}
 use Rattle.cycle_report.specs.FormulaValue.{cycles}
 use Rattle.cycle_report.specs.PlainReport.{PlainLoop}
 use Rattle.report_rows.specs.Costs.{AreRowsOf}
-use Rattle.block_meaning.specs.Bodies.{Words}
-use Rattle.flat_runs.specs.Laws.{Choice, IsFine, IsLaidOut}
-use Rattle.lower_control.specs.Holding.{Holds, none_hidden, ArraysAreShort}
-use Rattle.begun_pieces.specs.Points.{begins_at}
-use Rattle.clock_meaning.specs.ClockRuns.{timed_program, clock_run}
-use Rattle.clock_meaning.specs.ClockRuns as clock
+use Rattle.ir_core.specs.Bodies.{Words}
+use Rattle.timed_pieces.specs.FlatRuns.{Choice, IsFine, IsLaidOut}
+use Rattle.lower_runs.specs.Holding.{Holds, none_hidden, ArraysAreShort}
+use Rattle.expanded_pieces.specs.BegunPieces.Points.{begins_at}
+use Rattle.clock_ir.specs.ClockRuns.{timed_program, clock_run}
+use Rattle.clock_ir.specs.ClockRuns as clock
 use Rattle.clock_runs.specs.Laws.{run_cycles}
 use Rattle.timed_pieces.specs.Laws.{HasTimes, node_count}
 use Rattle.sound_trees.specs.Subscripts.{PiecesSubscriptsFit}
-use Rattle.sound_programs.proofs.Whole.{sound}
-use Rattle.source_types.proofs.Whole.{sources_fine}
+use Rattle.timed_pieces.proofs.SoundPrograms.Whole.{sound}
+use Rattle.source_runs.proofs.SourceTypes.Whole.{sources_fine}
 use Rattle.formula_cycles.proofs.Pieces.{formula_counts_pieces}
-use Rattle.started_words.specs.Contents.{Begins, host_words, file_words}
-use Rattle.started_words.proofs.Starting.{started_words_hold}
-use Rattle.started_words.proofs.Ending.{ended_words_show}
-use Rattle.begun_programs.specs.Laws.{HasEnds}
-use Rattle.begun_programs.proofs.Programs.{checked_begins}
+use Rattle.timed_pieces.specs.StartedWords.Contents.{Begins, host_words, file_words}
+use Rattle.timed_pieces.proofs.StartedWords.Starting.{started_words_hold}
+use Rattle.timed_pieces.proofs.StartedWords.Ending.{ended_words_show}
+use Rattle.compile_steps.specs.BegunPrograms.{HasEnds}
+use Rattle.compile_steps.proofs.BegunPrograms.Programs.{checked_begins}
 use Rattle.source_runs.specs.Laws.{IsFaultless, expanded, EndsAs, RunsAs}
 use Rattle.source_runs.proofs.Whole.{ends_as, ended_defined, same_answer, runs_as}
 use Rattle.source_answers.specs.Laws.{HaveWidths, EndsWith, IsCounted, AnswersAs, SourceProgramsAnswer}

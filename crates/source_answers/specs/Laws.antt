@@ -7,31 +7,31 @@ use Rattle.c_tree.specs.Tree.{ProgramTree}
 use Rattle.c_meaning.specs.Points.{tally_of}
 use Rattle.c_meaning.specs.Run.{c_run, ended, running}
 use Rattle.pieces.specs.Program.{ExpandedTree}
-use Rattle.piece_meaning.specs.Values.{Store}
-use Rattle.piece_meaning.specs.Runs.{frame_of, started}
+use Rattle.c_meaning.specs.PieceRuns.Values.{Store}
+use Rattle.c_meaning.specs.PieceRuns.Runs.{frame_of, started}
 use Rattle.expand_runs.specs.Reading.{IsTyped}
 use Rattle.elaborated_programs.specs.Inputs.{ProgramInputsFit}
 use Rattle.ir_core.specs.declared.cfg.Cfg.{Cfg}
 use Rattle.ir_core.specs.declared.stamp.Untimed.{Untimed}
-use Rattle.clock_ir.specs.declared.timed.Timed.{Timed}
+use Rattle.ir_core.specs.declared.timed.Timed.{Timed}
 use Rattle.cycle_report.specs.declared.report.Cost.{Cost}
 use Rattle.cycle_report.specs.FormulaValue.{cycles}
 use Rattle.cycle_report.specs.PlainReport.{PlainLoop}
 use Rattle.report_rows.specs.Costs.{AreRowsOf}
-use Rattle.block_meaning.specs.Bodies.{Words}
+use Rattle.ir_core.specs.Bodies.{Words}
 use Rattle.convert_runs.specs.Typed.{Fits}
-use Rattle.lowered_conversions.specs.Suiting as typing
+use Rattle.convert_runs.specs.LoweredConversions.Suiting as typing
 use Rattle.lower_runs.specs.Suits.{scope_of}
-use Rattle.lowering.specs.Shapes.{first_point}
-use Rattle.flat_runs.specs.Laws.{Choice, IsLaidOut, has_node}
-use Rattle.begun_pieces.specs.Points.{begins_at}
-use Rattle.clock_meaning.specs.ClockRuns.{timed_program, clock_run}
-use Rattle.clock_meaning.specs.ClockRuns as clock
+use Rattle.passes.specs.Lowering.Shapes.{first_point}
+use Rattle.timed_pieces.specs.FlatRuns.{Choice, IsLaidOut, has_node}
+use Rattle.expanded_pieces.specs.BegunPieces.Points.{begins_at}
+use Rattle.clock_ir.specs.ClockRuns.{timed_program, clock_run}
+use Rattle.clock_ir.specs.ClockRuns as clock
 use Rattle.clock_runs.specs.Laws.{IsEnded, run_cycles}
 use Rattle.timed_pieces.specs.Laws.{HasTimes, node_count}
 use Rattle.formula_cycles.specs.Ends.{LoopsLeadToTheirEnds}
 use Rattle.formula_cycles.specs.Laws.{PassesKept}
-use Rattle.started_words.specs.Contents.{Begins, host_words, file_words}
+use Rattle.timed_pieces.specs.StartedWords.Contents.{Begins, host_words, file_words}
 use Rattle.source_runs.specs.Laws.{IsFaultless, expanded}
 
 -- what variables and memories of the program hold has their widths

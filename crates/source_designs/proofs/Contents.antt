@@ -8,7 +8,7 @@ use Rattle.c_tree.specs.Tree.{ObjectTree}
 use Rattle.c_meaning.specs.Store.{lengths_in}
 use Rattle.c_meaning.specs.Run.{first_object, patterns, with_contents, contents_of}
 use Rattle.hls_base.specs.FileScope.{FileScope}
-use Rattle.core_program.specs.Core.{CoreObjectTree}
+use Rattle.pieces.specs.Resolved.Core.{CoreObjectTree}
 use Rattle.c_elaborate.specs.Objects.{object_elaborated}
 use Rattle.c_elaborate.specs.Programs.{file_object}
 use Rattle.c_expand.specs.Expansion.{is_array}
@@ -20,12 +20,12 @@ use Rattle.report_rows.specs.Initial.{greatest, filling}
 use Rattle.expanded_programs.specs.Outlines.{keeps_from, files_of, hosts_of}
 use Rattle.expanded_programs.proofs.Plain.{ArePlain}
 use Rattle.elaborated_programs.proofs.Naming.{no_lengths}
-use Rattle.block_meaning.specs.FirstContents.{elements_or_none}
-use Rattle.begun_programs.specs.Laws.{FilesFill}
+use Rattle.ir_core.specs.FirstContents.{elements_or_none}
+use Rattle.compile_steps.specs.BegunPrograms.{FilesFill}
 use Rattle.datapath.specs.Plans as plans
 use Rattle.datapath.specs.Plans.{Array, cycles_for}
-use Rattle.plan_words.proofs.Frames.{array_in}
-use Rattle.source_circuits.proofs.Left.{first_rows}
+use Rattle.source_designs.proofs.PlanWords.Frames.{array_in}
+use Rattle.source_designs.proofs.SourceCircuits.Left.{first_rows}
 
 -- ---- scalars
 

@@ -7,26 +7,26 @@ use Rattle.c_token.specs.declared.ctype.CType.{CType}
 use Rattle.c_token.specs.declared.ctype.CType.TheVariants as t
 use Rattle.c_tree.specs.Tree.{ParamTree}
 use Rattle.c_value.specs.Values.{width}
-use Rattle.core_program.specs.Core.{CoreObjectTree}
+use Rattle.pieces.specs.Resolved.Core.{CoreObjectTree}
 use Rattle.c_elaborate.specs.Objects.{object_elaborated}
 use Rattle.c_elaborate.specs.Programs.{objects_of_params}
-use Rattle.cosim_pins.specs.FunctionPins.{scalar_bits, array_shape, array_shapes}
+use Rattle.cosim_levels.specs.Pins.FunctionPins.{scalar_bits, array_shape, array_shapes}
 use Rattle.piece_making.specs.declared.frame.Home.TheVariants as home
 use Rattle.piece_making.specs.Making.{variable_number, array_number}
 use Rattle.piece_making.specs.Objects.{array_like}
 use Rattle.pieces.specs.Program.{ArrayTree, ExpandedTree}
 use Rattle.c_expand.specs.Expansion as ex
 use Rattle.ir_lower.specs.Frames.{result_width}
-use Rattle.host_pins.specs.FramePins.{result_bits}
-use Rattle.elaborate_runs.specs.Homes.{Each}
-use Rattle.elaborate_runs.specs.Resolved.{HasLengths}
+use Rattle.rtl_core.specs.FramePins.{result_bits}
+use Rattle.c_elaborate.specs.Homes.{Each}
+use Rattle.c_elaborate.specs.Resolved.{HasLengths}
 use Rattle.expanded_programs.specs.Outlines.{hosts_of, tops_from, scalar_kinds}
 use Rattle.expanded_programs.proofs.Entries.{HasFrom, from_first, from_rest}
-use Rattle.lowered_conversions.proofs.Expressions.{mapped}
-use Rattle.operator_words.proofs.Resizing.{bits_case}
+use Rattle.convert_runs.proofs.LoweredConversions.Expressions.{mapped}
+use Rattle.lower_runs.proofs.OperatorWords.Resizing.{bits_case}
 use Rattle.datapath.specs.Plans.{Array}
-use Rattle.plan_words.proofs.Frames.{array_in}
-use Rattle.source_circuits.proofs.Left.{shape_of, shapes}
+use Rattle.source_designs.proofs.PlanWords.Frames.{array_in}
+use Rattle.source_designs.proofs.SourceCircuits.Left.{shape_of, shapes}
 
 -- the objects that parameters become
 abbrev pub objects : List ParamTree → List CoreObjectTree

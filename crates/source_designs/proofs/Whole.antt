@@ -8,25 +8,25 @@ use Rattle.hls_base.specs.declared.number.VarId.{VarId}
 use Rattle.c_tree.specs.Terminals.{terminals}
 use Rattle.c_tree.specs.Tree.{FunctionTree, ProgramTree}
 use Rattle.c_value.specs.Values.{width}
-use Rattle.c_checked.specs.Limits.{limit_faults, new_function_places, file_arrays, file_objects, kept_faults}
-use Rattle.c_checked.specs.Recursion.{callers, recursion_faults}
-use Rattle.c_checked.specs.Programs.{body_names, items_faults, top_faults}
+use Rattle.c_meaning.specs.Checks.Limits.{limit_faults, new_function_places, file_arrays, file_objects, kept_faults}
+use Rattle.c_meaning.specs.Checks.Recursion.{callers, recursion_faults}
+use Rattle.c_meaning.specs.Checks.Programs.{body_names, items_faults, top_faults}
 use Rattle.c_meaning.specs.Run.{first_contents}
-use Rattle.c_box.specs.CAnswers.{c_answers}
-use Rattle.cosim_pins.specs.FunctionPins.{scalar_bits, array_shapes, interface_of}
-use Rattle.core_program.specs.Core.{CoreFunctionTree, CoreProgramTree}
+use Rattle.cosim_levels.specs.CAnswers.{c_answers}
+use Rattle.cosim_levels.specs.Pins.FunctionPins.{scalar_bits, array_shapes, interface_of}
+use Rattle.pieces.specs.Resolved.Core.{CoreFunctionTree, CoreProgramTree}
 use Rattle.c_elaborate.specs.Programs.{function_elaborated, objects_of_params, signatures, program_elaborated}
 use Rattle.c_expand.specs.Expansion as ex
 use Rattle.pieces.specs.Program.{ArrayTree, ExpandedTree}
-use Rattle.elaborate_runs.specs.Homes.{Each}
-use Rattle.elaborate_runs.specs.Resolved.{HasLengths, file_scene_of}
-use Rattle.elaborate_runs.proofs.Lists.{each-append}
-use Rattle.elaborate_runs.proofs.Sizes.{left_nil}
-use Rattle.elaborate_runs.proofs.FaultlessPrograms.{faultless_resolved}
-use Rattle.elaborate_runs.proofs.Functions.{params_first}
-use Rattle.elaborate_runs.proofs.Grammar.{grammar_blocks}
-use Rattle.elaborate_runs.proofs.Runs.{topped}
-use Rattle.expand_calls.specs.Programs.{IsProgramSound}
+use Rattle.c_elaborate.specs.Homes.{Each}
+use Rattle.c_elaborate.specs.Resolved.{HasLengths, file_scene_of}
+use Rattle.c_elaborate.proofs.ElaborateRuns.Lists.{each-append}
+use Rattle.c_elaborate.proofs.ElaborateRuns.Sizes.{left_nil}
+use Rattle.c_elaborate.proofs.ElaborateRuns.FaultlessPrograms.{faultless_resolved}
+use Rattle.c_elaborate.proofs.ElaborateRuns.Functions.{params_first}
+use Rattle.c_elaborate.proofs.ElaborateRuns.Grammar.{grammar_blocks}
+use Rattle.c_elaborate.proofs.ElaborateRuns.Runs.{topped}
+use Rattle.expanded_programs.specs.Calls.Programs.{IsProgramSound}
 use Rattle.expanded_programs.specs.Outlines.{files_of, hosts_of, tops_from, scalar_kinds}
 use Rattle.expanded_programs.proofs.Entries.{HasFrom}
 use Rattle.expanded_programs.proofs.TopStores.{params, kept_count, outlined, made, params_types, all_arrays}
@@ -35,22 +35,22 @@ use Rattle.elaborated_programs.proofs.Tokens.{numbers_fit}
 use Rattle.elaborated_programs.proofs.Whole.{elaborated_sound}
 use Rattle.ir_core.specs.declared.cfg.Cfg.{Cfg}
 use Rattle.ir_lower.specs.Frames.{FrameView, result_width, frame_view}
-use Rattle.clock_ir.specs.declared.timed.Timed.{Timed}
+use Rattle.ir_core.specs.declared.timed.Timed.{Timed}
 use Rattle.reg_binding.specs.declared.registers.Registers.{Registers}
 use Rattle.rtl_core.specs.Interface.{ArrayShape, Interface}
 use Rattle.rtl_core.specs.Agreement.{Agrees}
 use Rattle.report_rows.specs.Initial as frames
 use Rattle.compile_steps.specs.Resets.{expanded_frame}
-use Rattle.block_meaning.specs.FirstContents.{elements_or_none}
-use Rattle.host_pins.specs.FramePins.{result_bits}
-use Rattle.begun_programs.specs.Laws.{FilesFill}
-use Rattle.begun_programs.proofs.Arrays.{files_inner, plain_inner}
+use Rattle.ir_core.specs.FirstContents.{elements_or_none}
+use Rattle.rtl_core.specs.FramePins.{result_bits}
+use Rattle.compile_steps.specs.BegunPrograms.{FilesFill}
+use Rattle.compile_steps.proofs.BegunPrograms.Arrays.{files_inner, plain_inner}
 use Rattle.datapath.specs.Plans.{Plan, Array, Savings, plan_of, interface, initial_cycles}
 use Rattle.datapath.specs.Answers.{first_file_scope}
-use Rattle.plan_words.proofs.Whole.{arrays_same, params_same, kept_same, widths_same}
+use Rattle.source_designs.proofs.PlanWords.Whole.{arrays_same, params_same, kept_same, widths_same}
 use Rattle.source_runs.specs.Laws.{IsFaultless, expanded}
-use Rattle.source_circuits.proofs.Left.{shape_of, shapes, first_rows}
-use Rattle.source_circuits.proofs.Whole.{circuits_agree}
+use Rattle.source_designs.proofs.SourceCircuits.Left.{shape_of, shapes, first_rows}
+use Rattle.source_designs.proofs.SourceCircuits.Whole.{circuits_agree}
 use Rattle.source_designs.specs.Laws.{SourceDesignsAgree}
 use Rattle.source_designs.proofs.Pins.{objects, scalars_are, arrays_shaped, result_shown}
 use Rattle.source_designs.proofs.Contents.{values_are, rows_are, cycles_are}

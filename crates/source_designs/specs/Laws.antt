@@ -5,15 +5,15 @@ use Rattle.hls_base.specs.declared.point.Point.{Point}
 use Rattle.hls_base.specs.declared.settings.Units.{Units}
 use Rattle.c_tree.specs.Tree.{FunctionTree, ProgramTree}
 use Rattle.c_meaning.specs.Run.{function_at, first_contents}
-use Rattle.c_box.specs.CAnswers.{c_answers}
-use Rattle.cosim_pins.specs.FunctionPins.{interface_of}
-use Rattle.piece_meaning.specs.Runs.{frame_of}
+use Rattle.cosim_levels.specs.CAnswers.{c_answers}
+use Rattle.cosim_levels.specs.Pins.FunctionPins.{interface_of}
+use Rattle.c_meaning.specs.PieceRuns.Runs.{frame_of}
 use Rattle.elaborated_programs.specs.Inputs.{ProgramInputsFit}
 use Rattle.ir_core.specs.declared.cfg.Cfg.{Cfg}
 use Rattle.ir_core.specs.declared.stamp.Untimed.{Untimed}
-use Rattle.lowering.specs.Shapes.{first_point}
+use Rattle.passes.specs.Lowering.Shapes.{first_point}
 use Rattle.ir_lower.specs.Frames.{frame_view}
-use Rattle.clock_ir.specs.declared.timed.Timed.{Timed}
+use Rattle.ir_core.specs.declared.timed.Timed.{Timed}
 use Rattle.reg_binding.specs.declared.registers.Registers.{Registers}
 use Rattle.rtl_core.specs.Netlist.{Netlist}
 use Rattle.rtl_core.specs.Agreement.{Agrees}
@@ -21,7 +21,7 @@ use Rattle.cycle_report.specs.PlainReport.{PlainLoop, PlainReport}
 use Rattle.report_rows.specs.Costs.{AreRowsOf}
 use Rattle.report_rows.specs.Initial.{initial_cycles}
 use Rattle.compile_steps.specs.Resets.{expanded_frame}
-use Rattle.flat_runs.specs.Laws.{Choice, IsLaidOut}
+use Rattle.timed_pieces.specs.FlatRuns.{Choice, IsLaidOut}
 use Rattle.timed_pieces.specs.Laws.{HasTimes}
 use Rattle.datapath.specs.Plans.{Savings, plan_of}
 use Rattle.circuit_agreement.specs.Answers.{AgreesWithRun}

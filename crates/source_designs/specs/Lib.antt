@@ -1,1 +1,4 @@
+pub mod PlanWords
+pub mod PlanAnswers
+pub mod SourceCircuits
 pub mod Laws

@@ -2,3 +2,6 @@
 #![tactic(auto)]
 
 pub mod laws;
+pub mod plan_answers;
+pub mod plan_words;
+pub mod source_circuits;

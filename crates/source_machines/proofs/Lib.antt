@@ -1,2 +1,5 @@
+pub mod ForwardPrograms
+pub mod SmallTimes
+pub mod WholePrograms
 mod Named
 pub mod Whole

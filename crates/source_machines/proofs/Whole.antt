@@ -4,20 +4,20 @@ use Rattle.c_tree.specs.Terminals.{terminals}
 use Rattle.hls_base.specs.declared.point.Point.{Point}
 use Rattle.c_elaborate.specs.Programs.{program_elaborated}
 use Rattle.c_expand.specs.Expansion.{variables_of}
-use Rattle.piece_meaning.specs.Runs.{frame_of}
+use Rattle.c_meaning.specs.PieceRuns.Runs.{frame_of}
 use Rattle.elaborated_programs.proofs.Tokens.{numbers_fit}
 use Rattle.elaborated_programs.proofs.Whole.{elaborated_sound}
-use Rattle.elaborated_subscripts.proofs.Programs.{checked_fit}
+use Rattle.source_runs.proofs.ElaboratedSubscripts.Programs.{checked_fit}
 use Rattle.expanded_programs.proofs.TopStores.{kept_count, kept_types, params_types, made, outlined, params}
-use Rattle.source_types.proofs.Whole.{sources_fine}
-use Rattle.begun_pieces.specs.Points.{begins_at}
-use Rattle.flat_runs.specs.Laws.{IsLaidOut}
-use Rattle.clock_meaning.specs.ClockRuns.{timed_program}
+use Rattle.source_runs.proofs.SourceTypes.Whole.{sources_fine}
+use Rattle.expanded_pieces.specs.BegunPieces.Points.{begins_at}
+use Rattle.timed_pieces.specs.FlatRuns.{IsLaidOut}
+use Rattle.clock_ir.specs.ClockRuns.{timed_program}
 use Rattle.clock_runs.specs.Laws.{IsEnded}
 use Rattle.clock_machine.specs.Starts.{KeptThere, ParametersThere}
 use Rattle.source_runs.specs.Laws.{expanded}
-use Rattle.whole_programs.specs.Laws.{ScheduledIsReady}
-use Rattle.whole_programs.proofs.Machines.{ends_machines}
+use Rattle.source_machines.specs.WholePrograms.{ScheduledIsReady}
+use Rattle.source_machines.proofs.WholePrograms.Machines.{ends_machines}
 use Rattle.source_machines.specs.Laws.{SourceProgramsAreReady, SourceFramesAreNamed, EndedSourcesEndMachines}
 use Rattle.source_machines.proofs.Named.{kept_there, tops_there}
 

@@ -6,20 +6,20 @@ use Rattle.hls_base.specs.declared.settings.Units.{Units}
 use Rattle.c_tree.specs.Tree.{ProgramTree}
 use Rattle.cycle_report.specs.PlainReport.{PlainLoop}
 use Rattle.pieces.specs.Program.{ExpandedTree}
-use Rattle.piece_meaning.specs.Runs.{frame_of}
+use Rattle.c_meaning.specs.PieceRuns.Runs.{frame_of}
 use Rattle.ir_core.specs.declared.cfg.Cfg.{Cfg}
 use Rattle.ir_core.specs.declared.cfg.Frame.{Frame}
 use Rattle.ir_core.specs.declared.stamp.Untimed.{Untimed}
-use Rattle.lowering.specs.Shapes.{first_point}
-use Rattle.clock_ir.specs.declared.timed.Timed.{Timed}
-use Rattle.block_meaning.specs.Bodies.{Words}
-use Rattle.flat_runs.specs.Laws.{Choice, IsLaidOut}
+use Rattle.passes.specs.Lowering.Shapes.{first_point}
+use Rattle.ir_core.specs.declared.timed.Timed.{Timed}
+use Rattle.ir_core.specs.Bodies.{Words}
+use Rattle.timed_pieces.specs.FlatRuns.{Choice, IsLaidOut}
 use Rattle.timed_pieces.specs.Laws.{HasTimes}
-use Rattle.clock_meaning.specs.ClockRuns.{timed_program}
+use Rattle.clock_ir.specs.ClockRuns.{timed_program}
 use Rattle.clock_machine.specs.Starts.{IsNamed}
 use Rattle.source_runs.specs.Laws.{IsFaultless, expanded, EndsAs}
-use Rattle.whole_programs.specs.Laws.{IsReady}
-use Rattle.whole_programs.specs.Machines.{MachinesEndAfter}
+use Rattle.source_machines.specs.WholePrograms.{IsReady}
+use Rattle.source_machines.specs.WholePrograms.Machines.{MachinesEndAfter}
 
 abbrev pub SourceProgramsAreReady : Type 0
 SourceProgramsAreReady = (source : List ℕ) (p : ProgramTree) (top : ℕ) (name : List ℕ) → IsFaultless source p top name

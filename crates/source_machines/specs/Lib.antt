@@ -1,1 +1,4 @@
+pub mod ForwardPrograms
+pub mod SmallTimes
+pub mod WholePrograms
 pub mod Laws

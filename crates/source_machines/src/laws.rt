@@ -1,7 +1,7 @@
 //! Laws of the machines of sources.
 ghost use Rattle.source_machines.specs.Laws.{SourceProgramsAreReady, SourceFramesAreNamed, EndedSourcesEndMachines};
 
-use whole_programs::laws::scheduled_is_ready;
+use crate::whole_programs::scheduled_is_ready;
 
 /// A program that is laid out and scheduled from a source without faults has all that a clock machine takes for granted.
 pub fn source_programs_are_ready()

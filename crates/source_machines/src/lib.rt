@@ -1,4 +1,7 @@
-//! The machine of the program that a source is: it begins with the program's first contents, and ends where the run in C does.
+//! The machine of the program that a source is: its times are there and small, and it ends where the run in C does.
 #![tactic(auto)]
 
+pub mod forward_programs;
 pub mod laws;
+pub mod small_times;
+pub mod whole_programs;

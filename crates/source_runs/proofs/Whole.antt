@@ -8,11 +8,11 @@ use Rattle.c_tree.specs.Tree.{ProgramTree}
 use Rattle.c_meaning.specs.Run.{Answer, ended, undefined, running, c_run}
 use Rattle.c_elaborate.specs.Programs.{program_elaborated}
 use Rattle.pieces.specs.Program.{ExpandedTree}
-use Rattle.run_steps.specs.Steps as steps
-use Rattle.run_steps.specs.Steps.{Outcome, Ran, ran, went, waiting}
-use Rattle.piece_meaning.specs.Values.{Store}
-use Rattle.piece_meaning.specs.Pieces.{Way, pieces_run}
-use Rattle.piece_meaning.specs.Runs.{frame_of, started, answer_of, answer, pieces_answer, result_word, host_arrays, kept_of}
+use Rattle.hls_base.specs.Steps as steps
+use Rattle.hls_base.specs.Steps.{Outcome, Ran, ran, went, waiting}
+use Rattle.c_meaning.specs.PieceRuns.Values.{Store}
+use Rattle.c_meaning.specs.PieceRuns.Pieces.{Way, pieces_run}
+use Rattle.c_meaning.specs.PieceRuns.Runs.{frame_of, started, answer_of, answer, pieces_answer, result_word, host_arrays, kept_of}
 use Rattle.expand_runs.specs.Laws.{IsDefined}
 use Rattle.expand_runs.specs.Reading.{IsTyped}
 use Rattle.elaborated_programs.specs.Inputs.{ProgramInputsFit}
@@ -20,22 +20,22 @@ use Rattle.elaborated_programs.proofs.Whole.{checked_kept}
 use Rattle.elaborated_programs.proofs.Tokens.{numbers_fit}
 use Rattle.ir_core.specs.declared.cfg.Cfg.{Cfg}
 use Rattle.ir_core.specs.declared.stamp.Untimed.{Untimed}
-use Rattle.clock_ir.specs.declared.timed.Timed.{Timed}
+use Rattle.ir_core.specs.declared.timed.Timed.{Timed}
 use Rattle.cycle_report.specs.PlainReport.{PlainLoop}
-use Rattle.block_meaning.specs.Bodies.{Words}
-use Rattle.flat_runs.specs.Laws.{Choice, IsFine, IsLaidOut}
-use Rattle.begun_pieces.specs.Points.{begins_at}
-use Rattle.source_types.proofs.Whole.{sources_fine}
-use Rattle.elaborated_subscripts.proofs.Programs.{checked_fit}
+use Rattle.ir_core.specs.Bodies.{Words}
+use Rattle.timed_pieces.specs.FlatRuns.{Choice, IsFine, IsLaidOut}
+use Rattle.expanded_pieces.specs.BegunPieces.Points.{begins_at}
+use Rattle.source_runs.proofs.SourceTypes.Whole.{sources_fine}
+use Rattle.source_runs.proofs.ElaboratedSubscripts.Programs.{checked_fit}
 use Rattle.timed_pieces.specs.Laws.{HasTimes, ClockKeepsRun, node_count}
-use Rattle.clock_meaning.specs.ClockRuns.{timed_program, clock_run}
+use Rattle.clock_ir.specs.ClockRuns.{timed_program, clock_run}
 use Rattle.clock_runs.specs.Laws.{IsEnded, run_cycles}
 use Rattle.convert_runs.specs.Typed.{Fits}
-use Rattle.lowered_conversions.specs.Suiting as typing
+use Rattle.convert_runs.specs.LoweredConversions.Suiting as typing
 use Rattle.lower_runs.specs.Suits.{scope_of}
-use Rattle.lower_control.specs.Holding.{Holds, none_hidden}
+use Rattle.lower_runs.specs.Holding.{Holds, none_hidden}
 use Rattle.sound_trees.specs.Subscripts.{PiecesSubscriptsFit}
-use Rattle.sound_programs.proofs.Whole as scheduled
+use Rattle.timed_pieces.proofs.SoundPrograms.Whole as scheduled
 use Rattle.source_runs.specs.Laws.{IsFaultless, expanded, EndsAs, RunsAs, SourceProgramsKeepRuns}
 
 -- ---- what an answer says of the pieces' run

@@ -10,30 +10,30 @@ use Rattle.c_token.specs.Replacement.{Becomes}
 use Rattle.c_tree.specs.Terminals.{terminals}
 use Rattle.c_tree.specs.Tree.{ProgramTree}
 use Rattle.c_tree.specs.Grammar.{DerivesProgram}
-use Rattle.c_checked.specs.Programs.{top_name, program_faults}
+use Rattle.c_meaning.specs.Checks.Programs.{top_name, program_faults}
 use Rattle.c_meaning.specs.Run.{c_run, ended, running}
 use Rattle.c_elaborate.specs.Programs.{program_elaborated}
 use Rattle.c_expand.specs.Expansion.{expansion}
 use Rattle.pieces.specs.Program.{ExpandedTree}
-use Rattle.piece_meaning.specs.Values.{Store}
-use Rattle.piece_meaning.specs.Runs.{frame_of, started, result_word, host_arrays, kept_of}
+use Rattle.c_meaning.specs.PieceRuns.Values.{Store}
+use Rattle.c_meaning.specs.PieceRuns.Runs.{frame_of, started, result_word, host_arrays, kept_of}
 use Rattle.expand_runs.specs.Reading.{IsTyped}
 use Rattle.elaborated_programs.specs.Inputs.{ProgramInputsFit}
 use Rattle.ir_core.specs.declared.cfg.Cfg.{Cfg}
 use Rattle.ir_core.specs.declared.stamp.Untimed.{Untimed}
-use Rattle.clock_ir.specs.declared.timed.Timed.{Timed}
+use Rattle.ir_core.specs.declared.timed.Timed.{Timed}
 use Rattle.cycle_report.specs.PlainReport.{PlainLoop}
-use Rattle.block_meaning.specs.Bodies.{Words}
+use Rattle.ir_core.specs.Bodies.{Words}
 use Rattle.convert_runs.specs.Typed.{Fits}
-use Rattle.lowered_conversions.specs.Suiting as typing
+use Rattle.convert_runs.specs.LoweredConversions.Suiting as typing
 use Rattle.lower_runs.specs.Suits.{scope_of}
-use Rattle.lower_control.specs.Holding.{Holds, none_hidden}
-use Rattle.flat_runs.specs.Laws.{Choice, IsFine, IsLaidOut, AreDone}
-use Rattle.begun_pieces.specs.Points.{begins_at}
-use Rattle.clock_meaning.specs.ClockRuns.{timed_program, clock_run}
-use Rattle.clock_meaning.specs.ClockRuns as clock
+use Rattle.lower_runs.specs.Holding.{Holds, none_hidden}
+use Rattle.timed_pieces.specs.FlatRuns.{Choice, IsFine, IsLaidOut, AreDone}
+use Rattle.expanded_pieces.specs.BegunPieces.Points.{begins_at}
+use Rattle.clock_ir.specs.ClockRuns.{timed_program, clock_run}
+use Rattle.clock_ir.specs.ClockRuns as clock
 use Rattle.clock_runs.specs.Laws.{IsEnded, run_cycles}
-use Rattle.piece_meaning.specs.Pieces as pieces
+use Rattle.c_meaning.specs.PieceRuns.Pieces as pieces
 use Rattle.timed_pieces.specs.Laws.{HasTimes, node_count}
 
 -- The program that a source is, without faults for the top function of this name.

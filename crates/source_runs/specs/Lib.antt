@@ -1,1 +1,4 @@
+pub mod FinePieces
+pub mod SourceTypes
+pub mod ElaboratedSubscripts
 pub mod Laws

@@ -11,17 +11,17 @@ use Rattle.c_meaning.specs.Points.{count_point, count_all, times}
 use Rattle.ir_core.specs.declared.cfg.Cfg.{Cfg}
 use Rattle.ir_core.specs.declared.cfg.Node.{Node}
 use Rattle.ir_core.specs.declared.stamp.Untimed.{Untimed}
-use Rattle.run_steps.specs.Steps.{Ran}
-use Rattle.block_meaning.specs.Bodies.{Words}
-use Rattle.block_meaning.specs.FirstContents.{first_words}
-use Rattle.block_meaning.specs.FlatRuns.{flat_run}
-use Rattle.machine_laws.specs.Halts.{is_ended}
-use Rattle.machine_laws.specs.declared.machine.Halt.TheVariants as halt
-use Rattle.seq_machine.specs.Rest.{IsWhole, GoesOn, Passes, beginning, rest, EndsSo, FailsSo}
-use Rattle.seq_machine.specs.States.{words_of}
-use Rattle.seq_machine.specs.declared.machine.SeqMachine.{SeqMachine}
-use Rattle.seq_machine.specs.declared.state.State.{State}
-use Rattle.seq_machine.proofs.Going.{goes_passing, passes_no_points, passes_then}
+use Rattle.hls_base.specs.Steps.{Ran}
+use Rattle.ir_core.specs.Bodies.{Words}
+use Rattle.ir_core.specs.FirstContents.{first_words}
+use Rattle.ir_core.specs.FlatRuns.{flat_run}
+use Rattle.ir_core.specs.Halts.{is_ended}
+use Rattle.ir_core.specs.declared.machine.Halt.TheVariants as halt
+use Rattle.flat_programs.specs.Machine.Rest.{IsWhole, GoesOn, Passes, beginning, rest, EndsSo, FailsSo}
+use Rattle.flat_programs.specs.Machine.States.{words_of}
+use Rattle.flat_programs.specs.declared.machine.machine.SeqMachine.{SeqMachine}
+use Rattle.flat_programs.specs.declared.machine.state.State.{State}
+use Rattle.flat_programs.proofs.MachineLemmas.Going.{goes_passing, passes_no_points, passes_then}
 use Rattle.stage_runs.specs.declared.stage.PointCount.{PointCount}
 use Rattle.stage_runs.specs.declared.stage.Stage.{Stage}
 use Rattle.stage_runs.specs.Points.{point_of, node_points, counted, HasPassed}

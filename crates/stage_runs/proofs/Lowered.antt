@@ -4,9 +4,9 @@ use Rattle.hls_base.specs.declared.point.Point.{Point}
 use Rattle.pieces.specs.declared.expanded.Expanded.{Expanded}
 use Rattle.pieces.specs.Program.{ExpandedTree, expanded_of}
 use Rattle.ir_core.specs.declared.tree.BlockTree.{BlockTree}
-use Rattle.block_meaning.specs.Trees.{sequence_of, side}
-use Rattle.lowering.specs.Shapes.{first_point}
-use Rattle.lowering.specs.Lowering.{scope_of, last, lowered, lowering, side_from}
+use Rattle.ir_core.specs.Trees.{sequence_of, side}
+use Rattle.passes.specs.Lowering.Shapes.{first_point}
+use Rattle.passes.specs.Lowering.{scope_of, last, lowered, lowering, side_from}
 use Rattle.ir_lower.specs.Frames.{frame_view, frame_of}
 use Rattle.compile_steps.specs.Flat.{tree_of}
 use Rattle.compile_steps.specs.Resets.{expanded_frame}

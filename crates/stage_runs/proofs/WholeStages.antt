@@ -4,7 +4,7 @@ use Rattle.std.proofs.lemmas.List.{length-map}
 use Rattle.hls_base.specs.declared.point.Point.{Point}
 use Rattle.c_value.specs.Values.{width}
 use Rattle.c_tree.specs.Tree.{ProgramTree}
-use Rattle.c_checked.specs.Programs.{program_faults, top_name}
+use Rattle.c_meaning.specs.Checks.Programs.{program_faults, top_name}
 use Rattle.checked_source.specs.Sources.{IsTheProgramOf, end_of}
 use Rattle.c_elaborate.specs.Programs.{program_elaborated}
 use Rattle.c_expand.specs.Expansion.{expansion}
@@ -13,16 +13,16 @@ use Rattle.ir_core.specs.declared.cfg.Cfg.{Cfg}
 use Rattle.ir_core.specs.declared.cfg.Memory.{Memory}
 use Rattle.ir_core.specs.declared.stamp.Untimed.{Untimed}
 use Rattle.ir_lower.specs.Frames.{FrameView, memory_view}
-use Rattle.lowering.specs.Lowering.{scope_of}
-use Rattle.lowered_conversions.specs.Suiting.{PiecesSuit}
-use Rattle.layout_runs.specs.There.{SequenceThere}
-use Rattle.layout_runs.specs.Laws.{LayoutIsWhole}
-use Rattle.seq_machine.specs.Rest.{memory_dims}
-use Rattle.whole_trees.specs.Laws.{LoweredIsThere, NumberedIsThere, ConvertedIsThere}
+use Rattle.passes.specs.Lowering.{scope_of}
+use Rattle.convert_runs.specs.LoweredConversions.Suiting.{PiecesSuit}
+use Rattle.flat_programs.specs.There.{SequenceThere}
+use Rattle.flat_programs.specs.Laws.{LayoutIsWhole}
+use Rattle.flat_programs.specs.Machine.Rest.{memory_dims}
+use Rattle.valid_trees.specs.WholeTrees.{LoweredIsThere, NumberedIsThere, ConvertedIsThere}
 use Rattle.clock_machine.specs.Starts.{IsNamed}
 use Rattle.source_machines.specs.Laws.{IsFrameOf, SourceFramesAreNamed}
 use Rattle.source_runs.specs.Laws.{IsFaultless}
-use Rattle.source_types.specs.Laws.{SourcesHaveFinePieces}
+use Rattle.source_runs.specs.SourceTypes.{SourcesHaveFinePieces}
 use Rattle.compile_steps.specs.Flat.{variable_widths, tree_of, numbered_of}
 use Rattle.compile_steps.specs.Resets.{array_memory}
 use Rattle.stage_runs.specs.declared.stage.StageName.{StageName}

@@ -6,7 +6,7 @@ use Rattle.hls_base.specs.declared.inputs.Inputs.{Inputs}
 use Rattle.hls_base.specs.declared.refusal.Refusal.{Refusal}
 use Rattle.c_tree.specs.Tree as tree
 use Rattle.c_tree.specs.Tree.{FunctionTree, ProgramTree}
-use Rattle.c_checked.specs.Programs.{program_faults, top_name}
+use Rattle.c_meaning.specs.Checks.Programs.{program_faults, top_name}
 use Rattle.c_meaning.specs.declared.outcome.Final.{Final}
 use Rattle.c_meaning.specs.Run.{c_run, first_contents}
 use Rattle.checked_source.specs.Sources.{IsTheProgramOf}
@@ -16,10 +16,10 @@ use Rattle.c_expand.specs.Expansion.{expansion, IsOverweight}
 use Rattle.pieces.specs.Program.{ExpandedTree}
 use Rattle.ir_core.specs.declared.cfg.Cfg.{Cfg}
 use Rattle.ir_core.specs.declared.stamp.Untimed.{Untimed}
-use Rattle.machine_laws.specs.declared.machine.Halt.TheVariants as halt
+use Rattle.ir_core.specs.declared.machine.Halt.TheVariants as halt
 use Rattle.program_validity.specs.Programs.{is_valid}
 use Rattle.cycle_report.specs.FormulaValue.{cycles}
-use Rattle.run_file.specs.RunFile.{reading_of, inputs}
+use Rattle.cosim_levels.specs.RunFile.{reading_of, inputs}
 use Rattle.cosim_levels.specs.Levels.{EndsWith}
 use Rattle.stage_runs.specs.declared.stage.Stage.{Stage}
 use Rattle.stage_runs.specs.declared.stage.StageFault.{StageFault}

@@ -6,9 +6,9 @@ use Rattle.c_meaning.specs.Points.{count_all}
 use Rattle.ir_core.specs.declared.cfg.Node.{Node}
 use Rattle.ir_core.specs.declared.cfg.Node.TheVariants as node
 use Rattle.ir_core.specs.declared.stamp.Untimed.{Untimed}
-use Rattle.run_steps.specs.Steps.{Ran}
-use Rattle.block_meaning.specs.Bodies.{Words}
-use Rattle.seq_machine.specs.Rest.{Passes}
+use Rattle.hls_base.specs.Steps.{Ran}
+use Rattle.ir_core.specs.Bodies.{Words}
+use Rattle.flat_programs.specs.Machine.Rest.{Passes}
 use Rattle.stage_runs.specs.declared.stage.PointCount.{PointCount}
 
 abbrev pub point_of : Node Untimed → Point

@@ -15,16 +15,16 @@ use Rattle.ir_core.specs.declared.cfg.Node.{Node}
 use Rattle.ir_core.specs.declared.cfg.Node.TheVariants as node
 use Rattle.ir_core.specs.declared.stamp.Untimed.{Untimed}
 use Rattle.ir_core.specs.declared.tree.BlockTree.{BlockTree}
-use Rattle.block_meaning.specs.Bodies.{Words}
-use Rattle.block_meaning.specs.FirstContents.{first_words}
-use Rattle.block_meaning.specs.FlatRuns.{flat_run}
-use Rattle.block_meaning.specs.Trees.{SequenceTree, sequence_of}
-use Rattle.lowering.specs.Shapes.{first_point}
+use Rattle.ir_core.specs.Bodies.{Words}
+use Rattle.ir_core.specs.FirstContents.{first_words}
+use Rattle.ir_core.specs.FlatRuns.{flat_run}
+use Rattle.ir_core.specs.Trees.{SequenceTree, sequence_of}
+use Rattle.passes.specs.Lowering.Shapes.{first_point}
 use Rattle.ir_lower.specs.Frames.{frame_view}
 use Rattle.ir_layout.specs.Layout.{laid_out}
 use Rattle.ir_layout.specs.Nodes.{node_of}
-use Rattle.machine_laws.specs.declared.machine.Halt.TheVariants as halt
-use Rattle.seq_machine.specs.Rest.{memory_dims, EndsSo, FailsSo}
+use Rattle.ir_core.specs.declared.machine.Halt.TheVariants as halt
+use Rattle.flat_programs.specs.Machine.Rest.{memory_dims, EndsSo, FailsSo}
 use Rattle.compile_steps.specs.Flat.{tree_of, numbered_of, converted_of}
 use Rattle.compile_steps.specs.Resets.{expanded_frame}
 use Rattle.stage_runs.specs.declared.stage.Stage.{Stage}

@@ -6,7 +6,7 @@ use Rattle.c_expand.specs.Expansion.{expansion}
 use Rattle.pieces.specs.Program.{ExpandedTree}
 use Rattle.ir_core.specs.declared.cfg.Cfg.{Cfg}
 use Rattle.ir_core.specs.declared.stamp.Untimed.{Untimed}
-use Rattle.seq_machine.specs.Rest.{IsWhole}
+use Rattle.flat_programs.specs.Machine.Rest.{IsWhole}
 use Rattle.source_runs.specs.Laws.{IsFaultless}
 use Rattle.stage_runs.specs.declared.stage.StageName.{StageName}
 use Rattle.stage_runs.specs.Stages.{IsStageOf}

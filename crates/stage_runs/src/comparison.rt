@@ -6,7 +6,7 @@ ghost use Rattle.stage_runs.specs.Agreement.{Agrees};
 use crate::stage::{PointCount, Stage, StageName, StageRuns};
 use c_meaning::outcome::Final;
 use hls_base::words::Words;
-use machine_laws::machine::Halt;
+use ir_core::machine::Halt;
 
 fn is_same(words: &Words, others: &Words) -> bool
     ensures { IsTrue result ↔ (words.now ≡ others.now) }

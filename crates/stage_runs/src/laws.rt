@@ -1,10 +1,10 @@
 //! Laws of the stages of a source.
 ghost use Rattle.stage_runs.specs.Whole.{SourcesHaveWholeStages};
 
-use layout_runs::laws::layout_is_whole;
+use flat_programs::layout_runs::layout_is_whole;
 use source_machines::laws::source_frames_are_named;
-use source_types::laws::sources_have_fine_pieces;
-use whole_trees::laws::{converted_is_there, lowered_is_there, numbered_is_there};
+use source_runs::source_types::sources_have_fine_pieces;
+use valid_trees::whole_trees::{converted_is_there, lowered_is_there, numbered_is_there};
 
 /// The programs of the stages of a source without faults set variables and take memories that they have.
 pub fn sources_have_whole_stages()

@@ -109,7 +109,7 @@ fn push_stages(alloc: Global, lines: &mut Vec<u8>, stages: &[Stage]) -> Result<(
 }
 
 /// The status of a comparison, and its lines.
-#[derive(Debug, Drop)]
+#[derive(Drop)]
 pub struct Answer {
     pub status: u8,
     pub lines: Vec<u8>,

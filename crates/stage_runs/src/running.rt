@@ -1,29 +1,29 @@
 //! A flat program is run to its end, and what the machine shows then.
 ghost use Rattle.std.specs.Prelude.{◌≡◌, ◌+◌, ◌≤◌, ◌<◌, length, map, IfOk, OnOk};
 ghost use Rattle.hls_base.specs.Tallies.{count_in};
-ghost use Rattle.block_meaning.specs.FirstContents.{first_words};
+ghost use Rattle.ir_core.specs.FirstContents.{first_words};
 ghost use Rattle.cycle_report.specs.FormulaValue.{cycles};
 ghost use Rattle.program_validity.specs.Programs.{is_valid};
-ghost use Rattle.seq_machine.specs.Rest.{IsWhole, rest};
-ghost use Rattle.seq_machine.specs.States.{words_of};
+ghost use Rattle.flat_programs.specs.Machine.Rest.{IsWhole, rest};
+ghost use Rattle.flat_programs.specs.Machine.States.{words_of};
 ghost use Rattle.stage_runs.specs.Points.{HasPassed, node_points};
 ghost use Rattle.stage_runs.specs.Stages.{AreElements, AreArrays, IsToldOf, step_costs};
 
 use crate::points::point_counts;
 use crate::stage::{Stage, StageName};
 use crate::steps::tallied_steps;
+use c_machine::state::meter::Meter;
 use c_meaning::laws::tallies_count;
 use c_meaning::outcome::Final;
-use c_state::meter::Meter;
+use flat_programs::machine::machine::SeqMachine;
 use hls_base::inputs::Inputs;
 use hls_base::number::ArrayId;
 use hls_base::refusal::impossible;
 use hls_base::words::{Arrays, Words};
 use ir_core::cfg::Cfg;
+use ir_core::machine::{Halt, Machine};
 use ir_core::stamp::Untimed;
-use machine_laws::machine::{Halt, Machine};
 use program_validity::program::valid;
-use seq_machine::machine::SeqMachine;
 use std::alloc::{AllocError, Global};
 
 /// One step, whose point is counted.

@@ -3,14 +3,14 @@ ghost use Rattle.std.specs.Prelude.{◌≡◌, [], Some, IfOk, map, slice_get};
 ghost use Rattle.std.specs.Option.{IfSome};
 ghost use Rattle.c_tree.specs.Tree as tree;
 ghost use Rattle.c_tree.specs.View.{program_of, item_of, function_of};
-ghost use Rattle.c_checked.specs.Programs.{program_faults, top_name};
+ghost use Rattle.c_meaning.specs.Checks.Programs.{program_faults, top_name};
 ghost use Rattle.c_meaning.specs.Run.{c_run, first_contents};
 ghost use Rattle.checked_source.specs.Sources.{IsTheProgramOf};
 ghost use Rattle.checked_source.specs.SourceFaults.{IsSourceFault};
 ghost use Rattle.c_elaborate.specs.Programs.{program_elaborated};
 ghost use Rattle.c_expand.specs.Expansion.{expansion, IsOverweight};
 ghost use Rattle.pieces.specs.Program.{expanded_of};
-ghost use Rattle.run_file.specs.RunFile.{reading_of, inputs};
+ghost use Rattle.cosim_levels.specs.RunFile.{reading_of, inputs};
 ghost use Rattle.cosim_levels.specs.Levels.{EndsWith};
 ghost use Rattle.stage_runs.specs.Whole.{HasWholeStages};
 ghost use Rattle.stage_runs.specs.Agreement.{IfRefusal, IsRefusedAs, IsStageRun, AreStageRuns, AreRunsOf, all_names};
@@ -19,23 +19,23 @@ use crate::laws::sources_have_whole_stages;
 use crate::running::run_stage;
 use crate::stage::{Stage, StageFault, StageInputs, StageName, StageRuns};
 use crate::trees::flat_stage;
-use c_checked::checked::Checked;
+use c_meaning::checks::Checked;
 use c_meaning::outcome::Final;
 use c_tree::function::Function;
 use c_tree::program::Item;
 use checked_source::read::read_checked;
 use compile_steps::steps::expanded;
+use cosim_levels::fault::RunFault;
 use cosim_levels::levels::c_level;
+use cosim_levels::read::read;
 use cosim_levels::verdict::Stop;
 use hls_base::inputs::Inputs;
 use hls_base::refusal::Fail;
 use pieces::expanded::Expanded;
-use run_file::fault::RunFault;
-use run_file::read::read;
 use std::alloc::{AllocError, Global};
 
 /// What the stages of a program are run with, and what its run in C ended with.
-#[derive(Debug, Drop)]
+#[derive(Drop)]
 struct Given {
     plain: bool,
     inputs: Inputs,

@@ -4,11 +4,11 @@ use hls_base::point::Point;
 use hls_base::refusal::Refusal;
 use hls_base::text::Text;
 use hls_base::words::Arrays;
-use machine_laws::machine::Halt;
+use ir_core::machine::Halt;
 use std::alloc::{AllocError, AllocFailed};
 
 /// A stage of a program's tree of blocks: as its pieces are lowered, then with equal operations as one, then with forks and loops converted.
-#[derive(Clone, Copy, Debug, PartialEq, Eq)]
+#[derive(Clone, Copy, PartialEq, Eq)]
 pub enum StageName {
     Lowered,
     Numbered,
@@ -16,7 +16,7 @@ pub enum StageName {
 }
 
 /// What is run: a source, its top function, its run file, whether no loop may be overlapped, and how many points the run in C may pass.
-#[derive(Debug, Drop)]
+#[derive(Drop)]
 pub struct StageInputs {
     pub source: Text,
     pub top: Text,
@@ -26,7 +26,7 @@ pub struct StageInputs {
 }
 
 /// How often a run passed a point, and how often the run in C did.
-#[derive(Debug, Drop)]
+#[derive(Drop)]
 pub struct PointCount {
     pub point: Point,
     pub count: u128,
@@ -34,7 +34,7 @@ pub struct PointCount {
 }
 
 /// Whether the program of a stage is valid, and what its run came to: its end, its result, the elements of the arrays of the host, its steps, and how often it passed the point of each node. The steps that the points of the run in C give are `tallied`.
-#[derive(Debug, Drop)]
+#[derive(Drop)]
 pub struct Stage {
     pub name: StageName,
     pub valid: bool,
@@ -47,14 +47,14 @@ pub struct Stage {
 }
 
 /// The run in C, and those of the stages in their order.
-#[derive(Debug, Drop)]
+#[derive(Drop)]
 pub struct StageRuns {
     pub ended: Final,
     pub stages: Vec<Stage>,
 }
 
 /// Why nothing is compared: the source is refused, or this line of the run file, or the run in C does not end, or there was no memory.
-#[derive(Clone, Copy, Debug, PartialEq, Eq)]
+#[derive(Clone, Copy, PartialEq, Eq)]
 pub enum StageFault {
     Refused(Refusal),
     Line(u32),

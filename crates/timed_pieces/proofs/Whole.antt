@@ -1,11 +1,11 @@
 -- The clocked run of scheduled pieces.
 use Rattle.std.proofs.Common.{◌≡◌, ◌∙◌, ℕ, ◌+◌, ap, sym, filter, Option, arith}
-use Rattle.run_steps.specs.Steps.{went, Ran, ran}
-use Rattle.block_meaning.specs.Bodies.{Words}
-use Rattle.block_meaning.specs.FlatRuns.{flat_run}
-use Rattle.schedule_runs.proofs.Programs.{scheduled_keeps}
-use Rattle.flat_runs.specs.Laws.{has_node}
-use Rattle.flat_runs.proofs.Whole.{flat_runs}
+use Rattle.hls_base.specs.Steps.{went, Ran, ran}
+use Rattle.ir_core.specs.Bodies.{Words}
+use Rattle.ir_core.specs.FlatRuns.{flat_run}
+use Rattle.timed_pieces.proofs.ScheduleRuns.Programs.{scheduled_keeps}
+use Rattle.timed_pieces.specs.FlatRuns.{has_node}
+use Rattle.timed_pieces.proofs.FlatRuns.Whole.{flat_runs}
 use Rattle.timed_pieces.specs.Laws.{node_count, ScheduledPiecesKeepRuns}
 
 nothing_more : (n : ℕ) → n + 0 ≡ n

@@ -7,21 +7,21 @@ use Rattle.hls_base.specs.declared.settings.Units.{Units}
 use Rattle.ir_core.specs.declared.cfg.Cfg.{Cfg}
 use Rattle.ir_core.specs.declared.stamp.Untimed.{Untimed}
 use Rattle.ir_lower.specs.Frames.{frame_view}
-use Rattle.clock_ir.specs.declared.timed.Timed.{Timed}
+use Rattle.ir_core.specs.declared.timed.Timed.{Timed}
 use Rattle.cycle_report.specs.PlainReport.{PlainLoop}
-use Rattle.program_times.specs.Timing.{AreTimedAs}
+use Rattle.report_rows.specs.Timing.{AreTimedAs}
 use Rattle.pieces.specs.Trees.{PieceTrees}
-use Rattle.run_steps.specs.Steps.{ran, went, waiting}
-use Rattle.piece_meaning.specs.Values.{Store}
-use Rattle.piece_meaning.specs.Pieces as p
-use Rattle.piece_meaning.specs.Pieces.{Frame, pieces_run}
-use Rattle.block_meaning.specs.Bodies.{Words}
+use Rattle.hls_base.specs.Steps.{ran, went, waiting}
+use Rattle.c_meaning.specs.PieceRuns.Values.{Store}
+use Rattle.c_meaning.specs.PieceRuns.Pieces as p
+use Rattle.c_meaning.specs.PieceRuns.Pieces.{Frame, pieces_run}
+use Rattle.ir_core.specs.Bodies.{Words}
 use Rattle.convert_runs.specs.Typed.{Fits}
-use Rattle.lowered_conversions.specs.Suiting as typing
+use Rattle.convert_runs.specs.LoweredConversions.Suiting as typing
 use Rattle.lower_runs.specs.Suits.{scope_of}
-use Rattle.lower_control.specs.Holding.{Holds, none_hidden}
-use Rattle.flat_runs.specs.Laws.{Choice, IsFine, IsLaidOut, has_node, AreDone}
-use Rattle.clock_meaning.specs.ClockRuns.{ended, timed_program, clock_run}
+use Rattle.lower_runs.specs.Holding.{Holds, none_hidden}
+use Rattle.timed_pieces.specs.FlatRuns.{Choice, IsFine, IsLaidOut, has_node, AreDone}
+use Rattle.clock_ir.specs.ClockRuns.{ended, timed_program, clock_run}
 use Rattle.clock_runs.specs.Premises.{IsSoundProgram}
 use Rattle.clock_runs.specs.Laws.{IsEnded, run_cycles}
 

@@ -1,1 +1,6 @@
+pub mod FlatRuns
+pub mod ScheduleRuns
 pub mod Laws
+pub mod SoundPrograms
+pub mod TimedValidity
+pub mod StartedWords

@@ -8,10 +8,10 @@ use Rattle.hls_base.specs.declared.number.ArrayId.{ArrayId}
 use Rattle.hls_base.specs.declared.point.PointKind.{PointKind}
 use Rattle.hls_base.specs.declared.point.PointKind.TheVariants as point
 use Rattle.c_token.specs.declared.ctype.CType.{CType}
-use Rattle.core_program.specs.Core as core
-use Rattle.core_program.specs.Core.{CoreTree, CoreObjectTree, CoreInitTree, CoreActionTree}
-use Rattle.core_meaning.specs.Statements.{action_tree}
-use Rattle.core_meaning.specs.Kinds.{kind_of}
+use Rattle.pieces.specs.Resolved.Core as core
+use Rattle.pieces.specs.Resolved.Core.{CoreTree, CoreObjectTree, CoreInitTree, CoreActionTree}
+use Rattle.c_meaning.specs.CoreRuns.Statements.{action_tree}
+use Rattle.c_meaning.specs.CoreRuns.Kinds.{kind_of}
 use Rattle.pieces.specs.Trees as tree
 use Rattle.pieces.specs.Trees.{PureTree, PureTrees}
 use Rattle.piece_making.specs.declared.frame.Home.{Home}
@@ -24,9 +24,9 @@ use Rattle.piece_making.specs.Calls.{Call, point_in}
 use Rattle.piece_making.specs.Assigning.{Change, step, one, apply, new_value, target_read}
 use Rattle.c_expand.specs.Expressions.{Callee, expression}
 use Rattle.c_expand.specs.Statements.{marked, valued, changed, action, actions, item_value, filled, initialised, scalar_declared, declared_as, declare, tested, stepped, result_variable, result_set, returned, is_call, subscripts_at, at_least_one}
-use Rattle.expand_statements.specs.Scopes.{Setting, Reach, IsArray, IsSoundIn, TestSound, ReturnSound, ActionsSound, ItemsSound, InitSound, objects_in, reach}
-use Rattle.expand_statements.specs.Each.{IfThere, EachItem, InInit, EachAction}
-use Rattle.lower_control.specs.Holding.{IsThere}
+use Rattle.expanded_programs.specs.Statements.Scopes.{Setting, Reach, IsArray, IsSoundIn, TestSound, ReturnSound, ActionsSound, ItemsSound, InitSound, objects_in, reach}
+use Rattle.expanded_programs.specs.Statements.Each.{IfThere, EachItem, InInit, EachAction}
+use Rattle.lower_runs.specs.Holding.{IsThere}
 use Rattle.typed_pieces.specs.Typed.{IsTyped, AreTyped}
 use Rattle.typed_pieces.specs.Types.{HasTypes}
 use Rattle.typed_pieces.specs.Worlds.{World, Knows, Makes, Anything, Value, HasArray, IsNoted, frame_at}

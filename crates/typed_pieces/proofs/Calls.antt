@@ -6,19 +6,19 @@ use Rattle.hls_base.specs.declared.point.PointKind.TheVariants as point
 use Rattle.hls_base.specs.declared.number.VarId.{VarId}
 use Rattle.c_token.specs.declared.ctype.CType.{CType}
 use Rattle.c_value.specs.Values.{int_type}
-use Rattle.core_program.specs.Core.{FileObjectTree, CoreFunctionTree, CoreProgramTree}
+use Rattle.pieces.specs.Resolved.Core.{FileObjectTree, CoreFunctionTree, CoreProgramTree}
 use Rattle.pieces.specs.declared.piece.CallId.{CallId}
 use Rattle.piece_making.specs.declared.frame.Home.{Home}
 use Rattle.piece_making.specs.Leaving.{any_leaves}
 use Rattle.piece_making.specs.Making.{State}
 use Rattle.piece_making.specs.Calls.{Call, point_in}
-use Rattle.piece_meaning.specs.Pieces.{Frame}
+use Rattle.c_meaning.specs.PieceRuns.Pieces.{Frame}
 use Rattle.c_expand.specs.Expressions.{Given, Callee, value_or_zero}
 use Rattle.c_expand.specs.Expansion.{end_of, run_through, within, value_of, opened, opened_as}
 use Rattle.c_expand.specs.Expansion as expansion
-use Rattle.expand_statements.specs.Scopes.{Setting, enter}
-use Rattle.expand_calls.specs.Programs.{setting_of, at_start, IsProgramSound}
-use Rattle.operator_words.specs.Words.{IsType}
+use Rattle.expanded_programs.specs.Statements.Scopes.{Setting, enter}
+use Rattle.expanded_programs.specs.Calls.Programs.{setting_of, at_start, IsProgramSound}
+use Rattle.lower_runs.specs.OperatorWords.Words.{IsType}
 use Rattle.typed_pieces.specs.Typed.{PieceTyped}
 use Rattle.typed_pieces.specs.Types.{ProgramHasTypes}
 use Rattle.typed_pieces.specs.Worlds.{World, Later, Makes, Anything, IsValue, frame_at}

@@ -9,19 +9,19 @@ use Rattle.c_value.specs.Constant.{ConstantValue, constant_value}
 use Rattle.c_tree.specs.Tree as tree
 use Rattle.c_tree.specs.Tree.{Tree, ObjectTree, StmtTree, ElseTree, FirstTree, StmtTrees}
 use Rattle.c_meaning.specs.Store.{declared_by, declared_in, declared_first}
-use Rattle.core_program.specs.Core.{CoreStmtTree, stmt_row}
+use Rattle.pieces.specs.Resolved.Core.{CoreStmtTree, stmt_row}
 use Rattle.c_elaborate.specs.declared.functions.Signature.{Signature}
 use Rattle.c_elaborate.specs.declared.blocks.Scene.{Scene}
 use Rattle.c_elaborate.specs.Expressions.{kind_of, elaborated}
 use Rattle.c_elaborate.specs.Objects.{objects_of, first_objects}
 use Rattle.c_elaborate.specs.Scenes.{opened, labelled_by, declared, all_declared}
 use Rattle.c_elaborate.specs.Statements.{value_pattern, label_pattern, declarations, item, statement, else_statement, first_statements, statements}
-use Rattle.elaborate_runs.proofs.Expressions.{same_kind}
-use Rattle.elaborate_runs.proofs.Lifetimes.{labels_all}
-use Rattle.operator_results.proofs.Ranges.{pattern_below}
-use Rattle.operator_words.proofs.Resizing.{count_is}
-use Rattle.ir_operation.specs.Value.{count_of}
-use Rattle.valid_lowering.specs.Proper.{WordFits}
+use Rattle.c_elaborate.proofs.ElaborateRuns.Expressions.{same_kind}
+use Rattle.c_elaborate.proofs.ElaborateRuns.Lifetimes.{labels_all}
+use Rattle.c_meaning.proofs.Ranges.{pattern_below}
+use Rattle.lower_runs.proofs.OperatorWords.Resizing.{count_is}
+use Rattle.ir_core.specs.Value.{count_of}
+use Rattle.valid_trees.specs.ValidLowering.Proper.{WordFits}
 use Rattle.typed_pieces.specs.Types.{CasesFit, ElseCasesFit, AllCasesFit}
 
 -- ---- labels

@@ -7,7 +7,7 @@ use Rattle.c_token.specs.declared.ctype.CType.{CType}
 use Rattle.c_tree.specs.declared.operator.Binary.{Binary}
 use Rattle.c_value.specs.Values.{int_type, bool_type}
 use Rattle.c_value.specs.Operators.{binary_kind}
-use Rattle.core_program.specs.declared.expression.Cell.{Cell}
+use Rattle.pieces.specs.declared.resolved.expression.Cell.{Cell}
 use Rattle.pieces.specs.Trees as tree
 use Rattle.pieces.specs.Trees.{PureTree, PureTrees, PieceTree, piece_row}
 use Rattle.pieces.specs.Kind.{kind}
@@ -19,7 +19,7 @@ use Rattle.piece_making.specs.Calls.{Call, variable, array, point_in}
 use Rattle.piece_making.specs.Assigning.{Change, store, store_at, assigned, bumped, bumped_behind, new_value, computed, target_read, read_at, one}
 use Rattle.c_expand.specs.Expressions.{set_unused, discarded, arm, decided, to_bool, same, fork_of, is_or, forked, operated, chosen}
 use Rattle.expand_runs.specs.Sound.{Objects}
-use Rattle.operator_words.specs.Words.{IsType}
+use Rattle.lower_runs.specs.OperatorWords.Words.{IsType}
 use Rattle.typed_pieces.specs.Typed.{IsTyped, AreTyped, PiecesTyped}
 use Rattle.typed_pieces.specs.Worlds.{World, Later, Makes, MakesLater, Anything, IsValue, Value, Inside, frame_at}
 use Rattle.typed_pieces.specs.Standing.{Names}

@@ -8,11 +8,11 @@ use Rattle.c_token.specs.declared.ctype.CType.{CType}
 use Rattle.c_value.specs.Values.{int_type}
 use Rattle.c_tree.specs.Tree as tree
 use Rattle.c_tree.specs.Tree.{Tree, TargetTree, Trees, ActionTree, InitTree, InitTrees, ObjectTree, StmtTree, ElseTree, FirstTree, StmtTrees, ParamTree, FunctionTree, ItemTree, ProgramTree}
-use Rattle.c_checked.specs.Limits.{file_objects}
+use Rattle.c_meaning.specs.Checks.Limits.{file_objects}
 use Rattle.c_meaning.specs.Store.{lengths_in, declared_by, declared_in, declared_first}
 use Rattle.c_meaning.specs.Statement.{items_of, rows_of}
-use Rattle.core_program.specs.declared.expression.Cell.{Cell}
-use Rattle.core_program.specs.Core.{CoreTree, CoreStmtTree, CoreObjectTree, FileObjectTree, CoreFunctionTree, stmt_row}
+use Rattle.pieces.specs.declared.resolved.expression.Cell.{Cell}
+use Rattle.pieces.specs.Resolved.Core.{CoreTree, CoreStmtTree, CoreObjectTree, FileObjectTree, CoreFunctionTree, stmt_row}
 use Rattle.c_elaborate.specs.declared.names.Binding.{Binding}
 use Rattle.c_elaborate.specs.declared.functions.Signature.{Signature}
 use Rattle.c_elaborate.specs.declared.blocks.Scene.{Scene}
@@ -22,9 +22,9 @@ use Rattle.c_elaborate.specs.Objects.{object_elaborated, objects_of, else_object
 use Rattle.c_elaborate.specs.Scenes.{file_scene, opened, labelled_by, declared, all_declared}
 use Rattle.c_elaborate.specs.Statements.{init_elaborated, declarations, item, statement, else_statement, first_statements, statements}
 use Rattle.c_elaborate.specs.Programs.{file_object, file_names, objects_of_params, function_elaborated, function_of_item, functions_elaborated, signature_of, signatures}
-use Rattle.elaborate_runs.proofs.Lifetimes.{labels_all}
-use Rattle.expand_statements.specs.Each.{IfThere, EachItem, InInit, EachAction, InStmt, InElse, InStmts}
-use Rattle.operator_words.specs.Words.{IsType}
+use Rattle.c_elaborate.proofs.ElaborateRuns.Lifetimes.{labels_all}
+use Rattle.expanded_programs.specs.Statements.Each.{IfThere, EachItem, InInit, EachAction, InStmt, InElse, InStmts}
+use Rattle.lower_runs.specs.OperatorWords.Words.{IsType}
 use Rattle.typed_pieces.specs.Types.{HasTypes, TargetHasTypes, EachHasTypes, ArgumentHasTypes, ArgumentsHaveTypes, AllCasesFit, FunctionHasTypes}
 use Rattle.typed_pieces.specs.Sources.{TreeHasTypes, TargetTreeHasTypes, TreesHaveTypes, IfTreeHasTypes, ActionsHaveTypes, InitHasTypes, InitsHaveTypes, IfInitHasTypes, ObjectsHaveTypes, StmtHasTypes, ElseHasTypes, FirstHasTypes, StmtsHaveTypes, IfType, IfBodyHasTypes, ParamsHaveTypes, ItemsHaveTypes}
 use Rattle.typed_pieces.specs.Laws.{ElaboratedHasTypes}

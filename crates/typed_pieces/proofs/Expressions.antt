@@ -5,10 +5,10 @@ use Rattle.hls_base.specs.declared.place.Place.{Place}
 use Rattle.c_token.specs.declared.ctype.CType.{CType}
 use Rattle.c_tree.specs.declared.operator.Binary.{Binary}
 use Rattle.c_value.specs.Operators.{unary_kind, binary_kind}
-use Rattle.core_program.specs.declared.expression.Cell.{Cell}
-use Rattle.core_program.specs.Core as core
-use Rattle.core_program.specs.Core.{CoreTree, CoreTargetTree, CoreTrees, ArgumentTree, ArgumentTrees}
-use Rattle.core_meaning.specs.Kinds.{kind_of}
+use Rattle.pieces.specs.declared.resolved.expression.Cell.{Cell}
+use Rattle.pieces.specs.Resolved.Core as core
+use Rattle.pieces.specs.Resolved.Core.{CoreTree, CoreTargetTree, CoreTrees, ArgumentTree, ArgumentTrees}
+use Rattle.c_meaning.specs.CoreRuns.Kinds.{kind_of}
 use Rattle.pieces.specs.Trees.{PureTree, row}
 use Rattle.piece_making.specs.declared.effects.Effects.{Effects}
 use Rattle.piece_making.specs.Acting.{either, no_effects, effects, effects_of_all, effects_of_arguments}

@@ -7,8 +7,8 @@ use Rattle.std.proofs.lemmas.Option.{none-some, same_Some}
 use Rattle.hls_base.specs.declared.number.Kept.{Kept}
 use Rattle.c_token.specs.declared.ctype.CType.{CType}
 use Rattle.c_value.specs.Values.{width}
-use Rattle.core_program.specs.Core as core
-use Rattle.core_program.specs.Core.{CoreObjectTree, FileObjectTree, CoreFunctionTree, ArgumentTrees}
+use Rattle.pieces.specs.Resolved.Core as core
+use Rattle.pieces.specs.Resolved.Core.{CoreObjectTree, FileObjectTree, CoreFunctionTree, ArgumentTrees}
 use Rattle.pieces.specs.Trees as tree
 use Rattle.piece_making.specs.declared.frame.Home.{Home}
 use Rattle.piece_making.specs.declared.frame.Home.TheVariants as home
@@ -18,7 +18,7 @@ use Rattle.c_expand.specs.Expressions as e
 use Rattle.c_expand.specs.Expressions.{Given}
 use Rattle.c_expand.specs.Expansion.{parameter, parameters, locals, homes_for, is_array, is_kept, kept_scalar, kept_scalars, first_kept, file_home, kept_behind, file_homes, top_parameters}
 use Rattle.expand_runs.specs.Laws.{FillsObject, AreWords}
-use Rattle.expand_statements.specs.Scopes.{Setting, Reach, IsScalar, IsArray, TakesAll, objects_in}
+use Rattle.expanded_programs.specs.Statements.Scopes.{Setting, Reach, IsScalar, IsArray, TakesAll, objects_in}
 use Rattle.typed_pieces.specs.Typed.{IsTyped}
 use Rattle.typed_pieces.specs.Worlds.{World, Later, Knows, Makes, HasArray, frame_at}
 use Rattle.typed_pieces.specs.Standing.{AreGiven, FileFits, OwnFits}

@@ -14,3 +14,4 @@ pub mod Cases
 pub mod Elaborated
 pub mod Grammar
 pub mod Proper
+pub mod FittingSubscripts

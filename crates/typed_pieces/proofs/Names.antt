@@ -2,17 +2,17 @@
 use Rattle.std.proofs.Common.{◌≡◌, ◌∙◌, ◌<◌, ◌≤◌, ◌⊎◌, inl, inr, ℕ, false, refl, ap, sym, subst, arith, slice_get, Some}
 use Rattle.std.proofs.lemmas.Bool.{false≢true}
 use Rattle.c_token.specs.declared.ctype.CType.{CType}
-use Rattle.core_program.specs.declared.expression.Scope.{Scope}
-use Rattle.core_program.specs.declared.expression.Scope.TheVariants as scope
-use Rattle.core_program.specs.Core.{FileObjectTree, CoreObjectTree}
+use Rattle.pieces.specs.declared.resolved.expression.Scope.{Scope}
+use Rattle.pieces.specs.declared.resolved.expression.Scope.TheVariants as scope
+use Rattle.pieces.specs.Resolved.Core.{FileObjectTree, CoreObjectTree}
 use Rattle.piece_making.specs.declared.frame.Home.{Home}
 use Rattle.piece_making.specs.declared.frame.Home.TheVariants as home
 use Rattle.piece_making.specs.declared.work.Slot.{Slot}
 use Rattle.piece_making.specs.Making.{State, noted}
 use Rattle.piece_making.specs.Calls.{Call, homes_in, read_of, variable_in, array_in}
-use Rattle.expand_statements.specs.Scopes.{Setting, Reach, IsScalar, IsArray, ScalarIn, VariableIn, ArrayIn, objects_in}
-use Rattle.operator_words.specs.Words.{IsType}
-use Rattle.lower_control.specs.Holding.{IsThere}
+use Rattle.expanded_programs.specs.Statements.Scopes.{Setting, Reach, IsScalar, IsArray, ScalarIn, VariableIn, ArrayIn, objects_in}
+use Rattle.lower_runs.specs.OperatorWords.Words.{IsType}
+use Rattle.lower_runs.specs.Holding.{IsThere}
 use Rattle.typed_pieces.specs.Worlds.{World, Later, IsValue, HasArray, IsNoted, frame_at}
 use Rattle.typed_pieces.specs.Standing.{Names, FileFits, OwnFits, Stands}
 use Rattle.typed_pieces.proofs.Typing.{number_typed, variable_typed}

@@ -14,9 +14,9 @@ use Rattle.piece_making.specs.declared.work.Slot.{Slot}
 use Rattle.piece_making.specs.Making.{State, Part, gives, then_, emit, inside, inside_switch, label, declared, fresh, fresh_result, add_array, new_slot, note_array, next_call, next_loop, set_own}
 use Rattle.expand_runs.specs.Growing.{Begins}
 use Rattle.expand_runs.proofs.Growing.{begins_more, last_one, slots_here, slots_there, slots_length}
-use Rattle.expand_calls.proofs.Lists.{get_last, get_before}
-use Rattle.operator_words.specs.Words.{IsType}
-use Rattle.valid_lowering.specs.Proper.{WordFits, LabelsFit}
+use Rattle.expanded_programs.proofs.Calls.Lists.{get_last, get_before}
+use Rattle.lower_runs.specs.OperatorWords.Words.{IsType}
+use Rattle.valid_trees.specs.ValidLowering.Proper.{WordFits, LabelsFit}
 use Rattle.typed_pieces.specs.Typed.{IsTyped, AreTyped, PieceTyped, PiecesTyped}
 use Rattle.typed_pieces.specs.Worlds.{ArraysHaveLengths, World, Later, Knows, Makes, MakesLater, Anything, Value, Inside, HasArray, IsNoted, frame_at}
 use Rattle.typed_pieces.proofs.Typing.{typed_more, each_more, pieces_more, pieces_append, variable_typed}

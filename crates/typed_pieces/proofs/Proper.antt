@@ -3,11 +3,11 @@ use Rattle.std.proofs.Common.{subst}
 use Rattle.pieces.specs.Trees as tree
 use Rattle.pieces.specs.Trees.{PureTree, PureTrees, PieceTree, PieceTrees}
 use Rattle.pieces.specs.Kind.{kind}
-use Rattle.piece_meaning.specs.Pieces.{Frame}
+use Rattle.c_meaning.specs.PieceRuns.Pieces.{Frame}
 use Rattle.lower_runs.specs.Suits.{Suits, EachSuits}
-use Rattle.lower_control.specs.Holding.{none_hidden}
-use Rattle.valid_lowering.specs.Proper.{IsOfOperator}
-use Rattle.valid_lowering.proofs.Types.{proper}
+use Rattle.lower_runs.specs.Holding.{none_hidden}
+use Rattle.valid_trees.specs.ValidLowering.Proper.{IsOfOperator}
+use Rattle.valid_trees.proofs.ValidLowering.Types.{proper}
 use Rattle.typed_pieces.specs.Typed.{PieceTyped, PiecesTyped}
 use Rattle.typed_pieces.specs.Operators.{PureOperates, EachOperates, PieceOperates, PiecesOperate}
 use Rattle.typed_pieces.specs.Laws.{TypedPiecesOperate}

@@ -6,9 +6,9 @@ use Rattle.hls_base.specs.declared.point.PointKind.{PointKind}
 use Rattle.hls_base.specs.declared.point.PointKind.TheVariants as point
 use Rattle.c_token.specs.declared.ctype.CType.{CType}
 use Rattle.c_value.specs.Values.{promoted}
-use Rattle.core_program.specs.Core as core
-use Rattle.core_program.specs.Core.{CoreTree, CoreActionTree, CoreStmtTree, CoreStmtTrees, CoreElseTree}
-use Rattle.core_meaning.specs.Kinds.{kind_of}
+use Rattle.pieces.specs.Resolved.Core as core
+use Rattle.pieces.specs.Resolved.Core.{CoreTree, CoreActionTree, CoreStmtTree, CoreStmtTrees, CoreElseTree}
+use Rattle.c_meaning.specs.CoreRuns.Kinds.{kind_of}
 use Rattle.pieces.specs.Trees as tree
 use Rattle.pieces.specs.Trees.{PureTree, piece_row}
 use Rattle.piece_making.specs.Leaving.{is_empty}
@@ -16,9 +16,9 @@ use Rattle.piece_making.specs.Making.{State, Part, gives, then_, inside}
 use Rattle.piece_making.specs.Calls.{Call, point_in}
 use Rattle.c_expand.specs.Expressions.{Callee}
 use Rattle.c_expand.specs.Statements.{marked, tested, stepped, branch, switched, repeat, statement, other_branch, statements}
-use Rattle.expand_statements.specs.Scopes.{Setting, Reach, IsSoundIn, TestSound, ActionsSound, StmtSound, ElseSound, StmtsSound, enter, behind, behind_all}
-use Rattle.expand_statements.specs.Each.{IfThere, EachAction, InStmt, InElse, InStmts}
-use Rattle.valid_lowering.specs.Proper.{WordFits, LabelsFit}
+use Rattle.expanded_programs.specs.Statements.Scopes.{Setting, Reach, IsSoundIn, TestSound, ActionsSound, StmtSound, ElseSound, StmtsSound, enter, behind, behind_all}
+use Rattle.expanded_programs.specs.Statements.Each.{IfThere, EachAction, InStmt, InElse, InStmts}
+use Rattle.valid_trees.specs.ValidLowering.Proper.{WordFits, LabelsFit}
 use Rattle.typed_pieces.specs.Typed.{IsTyped}
 use Rattle.typed_pieces.specs.Types.{HasTypes, CasesFit, ElseCasesFit, AllCasesFit}
 use Rattle.typed_pieces.specs.Worlds.{World, Later, Knows, Makes, MakesLater, Anything, Inside, frame_at}

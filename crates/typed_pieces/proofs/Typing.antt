@@ -12,15 +12,15 @@ use Rattle.pieces.specs.Trees as tree
 use Rattle.pieces.specs.Trees.{PureTree, PureTrees, PieceTree, PieceTrees, row, piece_row}
 use Rattle.pieces.specs.Kind.{kind}
 use Rattle.pieces.specs.Program.{ArrayTree}
-use Rattle.piece_meaning.specs.Pieces.{Frame, kind_in, kind_at}
+use Rattle.c_meaning.specs.PieceRuns.Pieces.{Frame, kind_in, kind_at}
 use Rattle.expand_runs.specs.Growing.{Begins}
 use Rattle.expand_runs.specs.Reading.{IsNumber}
-use Rattle.operator_words.specs.Words.{IsType}
-use Rattle.operator_words.proofs.Results.{word_of}
-use Rattle.operator_words.proofs.Resizing.{count_is}
-use Rattle.operator_words.proofs.Conversions.{converted_number, natural_below}
+use Rattle.lower_runs.specs.OperatorWords.Words.{IsType}
+use Rattle.lower_runs.proofs.OperatorWords.Results.{word_of}
+use Rattle.lower_runs.proofs.OperatorWords.Resizing.{count_is}
+use Rattle.lower_runs.proofs.OperatorWords.Conversions.{converted_number, natural_below}
 use Rattle.lower_runs.specs.Suits.{scope_of}
-use Rattle.lowered_conversions.specs.Suiting.{PieceSuits}
+use Rattle.convert_runs.specs.LoweredConversions.Suiting.{PieceSuits}
 use Rattle.typed_pieces.specs.Typed.{IsTyped, AreTyped, PieceTyped, PiecesTyped}
 use Rattle.typed_pieces.specs.Laws.{TypedPiecesSuit}
 use Rattle.typed_pieces.specs.Worlds.{HasArray}

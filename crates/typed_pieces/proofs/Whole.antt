@@ -2,12 +2,12 @@
 use Rattle.std.proofs.Common.{◌≡◌, ℕ, refl, sym, subst, arith, List, [], length, take, slice_get, Some}
 use Rattle.std.proofs.lemmas.Option.{none-some}
 use Rattle.c_value.specs.Values.{int_type}
-use Rattle.core_program.specs.Core.{CoreFunctionTree, CoreProgramTree}
+use Rattle.pieces.specs.Resolved.Core.{CoreFunctionTree, CoreProgramTree}
 use Rattle.piece_making.specs.declared.frame.Home.{Home}
 use Rattle.piece_making.specs.Making.{State}
-use Rattle.piece_meaning.specs.Runs.{frame_of}
+use Rattle.c_meaning.specs.PieceRuns.Runs.{frame_of}
 use Rattle.c_expand.specs.Expansion.{calls, outermost, top_call, top_run, top_made, named, nothing}
-use Rattle.expand_calls.specs.Programs.{IsProgramSound}
+use Rattle.expanded_programs.specs.Calls.Programs.{IsProgramSound}
 use Rattle.typed_pieces.specs.Typed.{PiecesTyped}
 use Rattle.typed_pieces.specs.Types.{ProgramHasTypes}
 use Rattle.typed_pieces.specs.Worlds.{ArraysHaveLengths, World, Knows, Makes}

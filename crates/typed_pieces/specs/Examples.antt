@@ -6,8 +6,8 @@ use Rattle.hls_base.specs.declared.point.PointKind.TheVariants as point
 use Rattle.c_token.specs.declared.ctype.CType.{CType}
 use Rattle.c_tree.specs.declared.operator.Binary.TheVariants as b
 use Rattle.c_value.specs.Values.{integer, int_type, bool_type}
-use Rattle.core_program.specs.Core as core
-use Rattle.core_program.specs.Core.{CoreStmtTree, CoreStmtTrees}
+use Rattle.pieces.specs.Resolved.Core as core
+use Rattle.pieces.specs.Resolved.Core.{CoreStmtTree, CoreStmtTrees}
 use Rattle.pieces.specs.Trees as tree
 use Rattle.pieces.specs.Trees.{PureTree, PieceTree}
 use Rattle.typed_pieces.specs.Operators.{PieceOperates}

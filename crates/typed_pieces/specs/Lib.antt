@@ -6,3 +6,4 @@ pub mod Worlds
 pub mod Standing
 pub mod Laws
 pub mod Examples
+pub mod FittingSubscripts

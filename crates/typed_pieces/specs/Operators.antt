@@ -3,7 +3,7 @@ use Rattle.c_value.specs.Values.{promoted}
 use Rattle.pieces.specs.Trees as tree
 use Rattle.pieces.specs.Trees.{PureTree, PureTrees, PieceTree, PieceTrees}
 use Rattle.pieces.specs.Kind.{kind}
-use Rattle.valid_lowering.specs.Proper.{IsOfOperator, LabelsFit}
+use Rattle.valid_trees.specs.ValidLowering.Proper.{IsOfOperator, LabelsFit}
 
 abbrev mutual
   pub PureOperates : PureTree → Type 0

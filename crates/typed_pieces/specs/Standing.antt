@@ -4,9 +4,9 @@ use Rattle.hls_base.specs.declared.number.VarId.{VarId}
 use Rattle.hls_base.specs.declared.place.Place.{Place}
 use Rattle.c_token.specs.declared.ctype.CType.{CType}
 use Rattle.c_value.specs.Values.{int_type, width}
-use Rattle.core_program.specs.declared.expression.Cell.{Cell}
-use Rattle.core_program.specs.Core as core
-use Rattle.core_program.specs.Core.{ArgumentTree, ArgumentTrees, FileObjectTree, CoreObjectTree}
+use Rattle.pieces.specs.declared.resolved.expression.Cell.{Cell}
+use Rattle.pieces.specs.Resolved.Core as core
+use Rattle.pieces.specs.Resolved.Core.{ArgumentTree, ArgumentTrees, FileObjectTree, CoreObjectTree}
 use Rattle.pieces.specs.Trees.{PureTree}
 use Rattle.piece_making.specs.declared.frame.Home.{Home}
 use Rattle.piece_making.specs.declared.frame.Home.TheVariants as home
@@ -16,9 +16,9 @@ use Rattle.piece_making.specs.Calls.{Call, scalar, variable, array}
 use Rattle.c_expand.specs.Expressions as e
 use Rattle.c_expand.specs.Expressions.{Given, Callee, value_or_zero}
 use Rattle.expand_runs.specs.Sound.{Objects}
-use Rattle.expand_statements.specs.Scopes.{Setting, Reach, IsScalar, IsArray}
-use Rattle.operator_words.specs.Words.{IsType}
-use Rattle.lower_control.specs.Holding.{IsThere}
+use Rattle.expanded_programs.specs.Statements.Scopes.{Setting, Reach, IsScalar, IsArray}
+use Rattle.lower_runs.specs.OperatorWords.Words.{IsType}
+use Rattle.lower_runs.specs.Holding.{IsThere}
 use Rattle.typed_pieces.specs.Typed.{IsTyped}
 use Rattle.typed_pieces.specs.Worlds.{World, Later, Knows, Makes, IsValue, HasArray, IsNoted, frame_at}
 

@@ -6,12 +6,12 @@ use Rattle.pieces.specs.Trees as tree
 use Rattle.pieces.specs.Trees.{PureTree, PureTrees, PieceTree, PieceTrees}
 use Rattle.pieces.specs.Kind.{kind}
 use Rattle.pieces.specs.Program.{ArrayTree}
-use Rattle.piece_meaning.specs.Pieces.{Frame}
+use Rattle.c_meaning.specs.PieceRuns.Pieces.{Frame}
 use Rattle.lower_runs.specs.Suits.{Suits, EachSuits, scope_of}
-use Rattle.lowered_conversions.specs.Suiting as scoped
-use Rattle.lowered_conversions.specs.Suiting.{PureSuits}
-use Rattle.lower_control.specs.Holding.{none_hidden, IsThere}
-use Rattle.valid_lowering.specs.Proper.{LabelsFit}
+use Rattle.convert_runs.specs.LoweredConversions.Suiting as scoped
+use Rattle.convert_runs.specs.LoweredConversions.Suiting.{PureSuits}
+use Rattle.lower_runs.specs.Holding.{none_hidden, IsThere}
+use Rattle.valid_trees.specs.ValidLowering.Proper.{LabelsFit}
 
 -- each node is of a type of C, which is that of the variable, of the array or of what the operator gives
 abbrev pub IsTyped : Frame → PureTree → Type 0

@@ -2,12 +2,12 @@
 use Rattle.std.specs.Prelude.{◌≡◌, ℕ, slice_get, Some}
 use Rattle.c_token.specs.declared.ctype.CType.{CType}
 use Rattle.c_value.specs.Values.{int_type, promoted}
-use Rattle.core_program.specs.Core as core
-use Rattle.core_program.specs.Core.{CoreTree, CoreTargetTree, CoreTrees, ArgumentTree, ArgumentTrees, CoreStmtTree, CoreStmtTrees, CoreElseTree, FileObjectTree, CoreObjectTree, CoreFunctionTree, CoreProgramTree}
-use Rattle.core_meaning.specs.Kinds.{kind_of}
-use Rattle.operator_words.specs.Words.{IsType}
-use Rattle.expand_statements.specs.Each.{InStmts}
-use Rattle.valid_lowering.specs.Proper.{WordFits}
+use Rattle.pieces.specs.Resolved.Core as core
+use Rattle.pieces.specs.Resolved.Core.{CoreTree, CoreTargetTree, CoreTrees, ArgumentTree, ArgumentTrees, CoreStmtTree, CoreStmtTrees, CoreElseTree, FileObjectTree, CoreObjectTree, CoreFunctionTree, CoreProgramTree}
+use Rattle.c_meaning.specs.CoreRuns.Kinds.{kind_of}
+use Rattle.lower_runs.specs.OperatorWords.Words.{IsType}
+use Rattle.expanded_programs.specs.Statements.Each.{InStmts}
+use Rattle.valid_trees.specs.ValidLowering.Proper.{WordFits}
 
 -- Constants, conversions and what operators give are of types of C.
 abbrev mutual

@@ -6,9 +6,9 @@ use Rattle.pieces.specs.Trees.{PureTree, piece_row}
 use Rattle.pieces.specs.Kind.{kind}
 use Rattle.pieces.specs.Program.{ArrayTree}
 use Rattle.piece_making.specs.Making.{State, Part, Inner}
-use Rattle.piece_meaning.specs.Pieces.{Frame}
+use Rattle.c_meaning.specs.PieceRuns.Pieces.{Frame}
 use Rattle.expand_runs.specs.Growing.{Begins}
-use Rattle.valid_lowering.specs.Proper.{LabelsFit}
+use Rattle.valid_trees.specs.ValidLowering.Proper.{LabelsFit}
 use Rattle.typed_pieces.specs.Typed.{IsTyped, PiecesTyped}
 
 -- the variables and arrays that are made so far

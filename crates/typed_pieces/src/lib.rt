@@ -1,4 +1,5 @@
-//! Types of the pieces that programs are expanded to.
+//! Types and subscripts of the pieces that programs are expanded to.
 #![tactic(auto)]
 
+pub mod fitting_subscripts;
 pub mod laws;

@@ -5,8 +5,8 @@ use Rattle.std.specs.List.{All}
 use Rattle.std.proofs.lemmas.List.Elements.{All-head, All-tail}
 use Rattle.hls_base.specs.declared.number.ArrayId.{ArrayId}
 use Rattle.hls_base.specs.declared.settings.Units.{Units}
-use Rattle.ir_operation.specs.declared.timing.UnitClass.{UnitClass}
-use Rattle.ir_operation.specs.declared.timing.UnitClass.TheVariants as u
+use Rattle.ir_core.specs.declared.timing.UnitClass.{UnitClass}
+use Rattle.ir_core.specs.declared.timing.UnitClass.TheVariants as u
 use Rattle.unit_binding.specs.declared.bind.Request.{Request}
 use Rattle.unit_binding.specs.declared.bind.Turn.{Turn}
 use Rattle.unit_binding.specs.Ranks.{RiseBy}

@@ -15,8 +15,8 @@ use Rattle.ir_core.specs.declared.body.OpKind.TheVariants as o
 use Rattle.ir_core.specs.declared.body.Operand.{Operand}
 use Rattle.ir_core.specs.declared.cfg.Memory.{Memory}
 use Rattle.ir_core.specs.declared.stamp.Untimed.{Untimed}
-use Rattle.ir_operation.specs.Timing.{occupancy, unit_class}
-use Rattle.ir_operation.specs.declared.timing.UnitClass.{UnitClass}
+use Rattle.ir_core.specs.Timing.{occupancy, unit_class}
+use Rattle.ir_core.specs.declared.timing.UnitClass.{UnitClass}
 use Rattle.dep_graph.specs.declared.edge.Edge.{Edge}
 use Rattle.dep_graph.specs.ForwardBodies.{AreForwardOps, IsForwardBody, IsForwardEdge}
 use Rattle.diff_solve.specs.declared.solve.Constraint.{Constraint}

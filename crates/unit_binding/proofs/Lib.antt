@@ -6,3 +6,4 @@ pub mod Requests
 pub mod Serving
 pub mod Leading
 pub mod EarlyTimes
+pub mod Growing

@@ -5,7 +5,7 @@ use Rattle.std.proofs.lemmas.List.{length-map, map-append}
 use Rattle.std.proofs.lemmas.Bool.{cond_below, cond_above}
 use Rattle.unit_binding.specs.declared.binding.UnitOrder.{UnitOrder}
 use Rattle.hls_base.specs.declared.settings.Units.{Units}
-use Rattle.ir_operation.specs.declared.timing.UnitClass.{UnitClass}
+use Rattle.ir_core.specs.declared.timing.UnitClass.{UnitClass}
 use Rattle.unit_binding.specs.declared.bind.Request.{Request}
 use Rattle.unit_binding.specs.declared.bind.Turn.{Turn}
 use Rattle.unit_binding.specs.declared.binding.Binding.{Binding}

@@ -13,8 +13,8 @@ use Rattle.std.proofs.lemmas.Map.Keys.{IsDistinct-head, IsDistinct-tail, IsDisti
 use Rattle.ir_core.specs.declared.body.Op.{Op}
 use Rattle.ir_core.specs.declared.cfg.Memory.{Memory}
 use Rattle.ir_core.specs.declared.stamp.Untimed.{Untimed}
-use Rattle.ir_operation.specs.Timing.{unit_class, occupancy}
-use Rattle.ir_operation.specs.declared.timing.UnitClass.{UnitClass}
+use Rattle.ir_core.specs.Timing.{unit_class, occupancy}
+use Rattle.ir_core.specs.declared.timing.UnitClass.{UnitClass}
 use Rattle.unit_binding.specs.declared.bind.Request.{Request}
 use Rattle.unit_binding.specs.Binding.{is_class, request_of, requests_from}
 use Rattle.unit_binding.proofs.Serving.{ServesByTime}

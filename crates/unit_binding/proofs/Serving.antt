@@ -7,8 +7,8 @@ use Rattle.std.specs.declared.cmp.Ordering.{Ordering}
 use Rattle.std.specs.declared.cmp.Ordering.TheVariants.{Less, Equal, Greater}
 use Rattle.std.specs.declared.cmp.Ord.Ghosts.{cmp}
 use Rattle.std.specs.Ordering.{is_lt, nat_cmp, ordering_then}
-use Rattle.ir_operation.specs.declared.timing.UnitClass.{UnitClass}
-use Rattle.ir_operation.specs.declared.timing.UnitClass.TheVariants as u
+use Rattle.ir_core.specs.declared.timing.UnitClass.{UnitClass}
+use Rattle.ir_core.specs.declared.timing.UnitClass.TheVariants as u
 use Rattle.unit_binding.specs.declared.bind.Request.{Request}
 use Rattle.unit_binding.specs.contracts.bind.RequestOrd.TheImpl as impl
 use Rattle.unit_binding.specs.Binding.{same_class}

@@ -7,9 +7,9 @@ use Rattle.ir_core.specs.declared.body.Body.{Body}
 use Rattle.ir_core.specs.declared.body.Op.{Op}
 use Rattle.ir_core.specs.declared.cfg.Memory.{Memory}
 use Rattle.ir_core.specs.declared.stamp.Untimed.{Untimed}
-use Rattle.ir_operation.specs.declared.timing.UnitClass.{UnitClass}
-use Rattle.ir_operation.specs.declared.timing.UnitClass.TheVariants as u
-use Rattle.ir_operation.specs.Timing.{unit_class, occupancy}
+use Rattle.ir_core.specs.declared.timing.UnitClass.{UnitClass}
+use Rattle.ir_core.specs.declared.timing.UnitClass.TheVariants as u
+use Rattle.ir_core.specs.Timing.{unit_class, occupancy}
 use Rattle.dep_graph.specs.declared.edge.Edge.{Edge}
 use Rattle.unit_binding.specs.declared.binding.Binding.{Binding}
 use Rattle.unit_binding.specs.declared.binding.UnitOrder.{UnitOrder}

@@ -1,3 +1,4 @@
 pub mod Binding
 pub mod Times
 pub mod Ranks
+pub mod Copies

@@ -1,5 +1,5 @@
 ghost use Rattle.std.specs.Prelude.{◌≡◌, ◌+◌, ◌<◌, ◌≤◌, ◌^◌, IfOk, OnOk, length, map, option_to_list, slice_index};
-ghost use Rattle.ir_operation.specs.Timing as timing;
+ghost use Rattle.ir_core.specs.Timing as timing;
 ghost use Rattle.std.specs.List.{All};
 ghost use Rattle.dep_graph.specs.ForwardBodies.{IsForwardBody, IsForwardEdge};
 ghost use Rattle.unit_binding.specs.Binding as spec;
@@ -12,11 +12,11 @@ use hls_base::settings::Units;
 use ir_core::body::{Body, Op};
 use ir_core::cfg::Memory;
 use ir_core::stamp::Untimed;
-use ir_operation::timing::{UnitClass, occupancy, unit_class};
+use ir_core::timing::{UnitClass, occupancy, unit_class};
 use std::alloc::{AllocError, Global};
 
 /// An operation that shares units, in the order in which they are given out.
-#[derive(Clone, Copy, Debug, PartialEq, Eq, PartialOrd, Ord)]
+#[derive(Clone, Copy, PartialEq, Eq, PartialOrd, Ord)]
 pub struct Request {
     pub class: UnitClass,
     pub time: u64,
@@ -123,7 +123,7 @@ fn serve(
 }
 
 /// Where the next operation goes: the orders of the current class begin at `first`.
-#[derive(Clone, Copy, Debug, PartialEq, Eq)]
+#[derive(Clone, Copy, PartialEq, Eq)]
 pub struct Turn {
     pub class: Option<UnitClass>,
     pub first: usize,

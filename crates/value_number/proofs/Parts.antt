@@ -7,8 +7,8 @@ use Rattle.ir_core.specs.declared.tree.Sequence.{Sequence}
 use Rattle.ir_core.specs.declared.tree.Shape.TheVariants as v
 use Rattle.ir_core.specs.declared.tree.Shape.TheOpen.{Shape-F}
 use Rattle.ir_core.specs.declared.tree.Shape.TheFolds.{fold_out-Part, fold-roll-Shape}
-use Rattle.block_meaning.specs.Trees.{ShapeTree, PartTree, PartTrees, no_part, more_parts, ArmTrees, no_arm, more_arms, SequenceTree, part_row, part_of, shape_of, block_of, shape_step, part_step, sequence_step, fork, loop, switch, side_of, arm_row, sequence_of}
-use Rattle.numbering.specs.Numbering.{Scope, numbered_block, numbered_sequence, numbered_parts, numbered_shape, numbered_arms}
+use Rattle.ir_core.specs.Trees.{ShapeTree, PartTree, PartTrees, no_part, more_parts, ArmTrees, no_arm, more_arms, SequenceTree, part_row, part_of, shape_of, block_of, shape_step, part_step, sequence_step, fork, loop, switch, side_of, arm_row, sequence_of}
+use Rattle.passes.specs.Numbering.{Scope, numbered_block, numbered_sequence, numbered_parts, numbered_shape, numbered_arms}
 
 pub part_out : (p : Part) → part_of p ≡ record { shape = shape_of p.shape; after = block_of p.after }
 part_out p = fold_out-Part ShapeTree PartTree SequenceTree shape_step part_step sequence_step p

@@ -8,12 +8,12 @@ use Rattle.indexmap.specs.IndexMap.{get}
 use Rattle.ir_core.specs.declared.body.Op.{Op}
 use Rattle.ir_core.specs.declared.body.Operand.{Operand}
 use Rattle.ir_core.specs.declared.stamp.Untimed.{Untimed}
-use Rattle.block_meaning.specs.Bodies.{OpTree, op_of}
-use Rattle.numbering.specs.Equal.{is_equal}
-use Rattle.numbering.specs.Numbering as n
-use Rattle.numbering.specs.Numbering.{Kept, Numbered, First, first_equal, is_common}
-use Rattle.numbering.proofs.Equalities.{false_true, equal_alike, alike_equal, alike_back, equal_back}
-use Rattle.numbering.proofs.Growing.{or_else, equal_at, first_more, with_out_stays, first_marked, flags_of}
+use Rattle.ir_core.specs.Bodies.{OpTree, op_of}
+use Rattle.passes.specs.Numbering.Equal.{is_equal}
+use Rattle.passes.specs.Numbering as n
+use Rattle.passes.specs.Numbering.{Kept, Numbered, First, first_equal, is_common}
+use Rattle.passes.proofs.Equalities.{false_true, equal_alike, alike_equal, alike_back, equal_back}
+use Rattle.passes.proofs.Growing.{or_else, equal_at, first_more, with_out_stays, first_marked, flags_of}
 use Rattle.value_number.specs.declared.block.Value as code
 use Rattle.value_number.specs.declared.block.Numbering.{Numbering}
 use Rattle.value_number.specs.Views.{key_of, key_eq, value_of, kept_of, noted, number_of, Shows}

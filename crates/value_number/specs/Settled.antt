@@ -9,8 +9,8 @@ use Rattle.ir_core.specs.declared.tree.Part.{Part}
 use Rattle.ir_core.specs.declared.tree.Shape.{Shape}
 use Rattle.ir_core.specs.declared.tree.Shape.TheOpen.{Sequence-F, Part-F, Shape-F}
 use Rattle.ir_core.specs.declared.tree.Shape.TheFolds.{fold-Sequence, fold-Part, fold-Shape}
-use Rattle.block_meaning.specs.Bodies.{op_of}
-use Rattle.numbering.specs.Constants.{computed}
+use Rattle.ir_core.specs.Bodies.{op_of}
+use Rattle.passes.specs.Numbering.Constants.{computed}
 
 -- the operation has an operand that is no constant, or no value in C, or is none that is computed
 abbrev pub is_settled : Op Untimed → Bool

@@ -5,9 +5,9 @@ use Rattle.indexmap.specs.IndexMap.{IndexMap, get}
 use Rattle.ir_core.specs.declared.body.Op.{Op}
 use Rattle.ir_core.specs.declared.body.Out.{Out}
 use Rattle.ir_core.specs.declared.stamp.Untimed.{Untimed}
-use Rattle.block_meaning.specs.Bodies.{OpTree, op_of}
-use Rattle.numbering.specs.Numbering as n
-use Rattle.numbering.specs.Numbering.{Numbered, Kept, First, first_equal, is_common}
+use Rattle.ir_core.specs.Bodies.{OpTree, op_of}
+use Rattle.passes.specs.Numbering as n
+use Rattle.passes.specs.Numbering.{Numbered, Kept, First, first_equal, is_common}
 use Rattle.value_number.specs.declared.key.Key.{Key}
 use Rattle.value_number.specs.declared.block.Value as v
 use Rattle.value_number.specs.declared.block.Numbering.{Numbering}

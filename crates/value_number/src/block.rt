@@ -1,8 +1,8 @@
 //! One basic block.
 ghost use Rattle.std.specs.Prelude.{◌≡◌, ℕ, ◌&&◌, ◌||◌, ◌<◌, IfOk, true, false, map, length, slice_index_or};
-ghost use Rattle.block_meaning.specs.Bodies.{op_of};
-ghost use Rattle.block_meaning.specs.Trees.{block_of, exit_of};
-ghost use Rattle.numbering.specs.Numbering as n;
+ghost use Rattle.ir_core.specs.Bodies.{op_of};
+ghost use Rattle.ir_core.specs.Trees.{block_of, exit_of};
+ghost use Rattle.passes.specs.Numbering as n;
 ghost use Rattle.value_number.specs.Settled.{all_settled, is_block_settled};
 ghost use Rattle.value_number.specs.Views.{values_of, Shows, Marks, scope_of};
 
@@ -12,13 +12,13 @@ use hls_base::refusal::impossible;
 use indexmap::IndexMap;
 use ir_core::body::{Op, Operand, Out, Source};
 use ir_core::stamp::Untimed;
+use ir_core::timing::result_bits;
 use ir_core::tree::{BasicBlock, Exit};
-use ir_operation::timing::result_bits;
 use smallvec::SmallVec;
 use std::alloc::{AllocError, Global};
 
 /// What stands for the result of an operation of the block before, and the width of this result.
-#[derive(Clone, Copy, Debug, PartialEq, Eq)]
+#[derive(Clone, Copy, PartialEq, Eq)]
 struct Value {
     operand: Operand,
     bits: u8,
@@ -45,9 +45,9 @@ fn constant(word: u64) -> Operand
 impl Numbering {
     ghost use Rattle.std.specs.Prelude.{◌≡◌, Bool, [], ◌++◌, ◌∷◌, map, length, OnOk, IfOk, true, ◌&&◌};
     ghost use Rattle.std.specs.Option.{option_map};
-    ghost use Rattle.block_meaning.specs.Bodies.{op_of};
-    ghost use Rattle.numbering.specs.Constants as constants;
-    ghost use Rattle.numbering.specs.Numbering as n;
+    ghost use Rattle.ir_core.specs.Bodies.{op_of};
+    ghost use Rattle.passes.specs.Numbering.Constants as constants;
+    ghost use Rattle.passes.specs.Numbering as n;
     ghost use Rattle.value_number.specs.Settled.{is_settled, all_settled};
     ghost use Rattle.value_number.specs.Views.{values_of, Shows, Notes, HasFirsts, kept_of, scope_of};
 

@@ -1,16 +1,16 @@
 //! What makes operations equal, and what they are on constants.
 ghost use Rattle.std.specs.Prelude.{◌≡◌, slice_get};
-ghost use Rattle.block_meaning.specs.Bodies.{op_of};
-ghost use Rattle.numbering.specs.Constants.{word_in, is_computed};
-ghost use Rattle.numbering.specs.Constants as spec;
-ghost use Rattle.numbering.specs.Numbering as numbering;
+ghost use Rattle.ir_core.specs.Bodies.{op_of};
+ghost use Rattle.passes.specs.Numbering.Constants.{word_in, is_computed};
+ghost use Rattle.passes.specs.Numbering.Constants as spec;
+ghost use Rattle.passes.specs.Numbering as numbering;
 
 use ir_core::body::{Op, OpKind, Operand, Source};
 use ir_core::stamp::Untimed;
-use ir_operation::value::{evaluate, is_defined};
+use ir_core::value::{evaluate, is_defined};
 
 /// What an operation makes of which operands. Operations other than loads and stores have at most three.
-#[derive(Clone, Copy, Debug, PartialEq, Eq, Hash)]
+#[derive(Clone, Copy, PartialEq, Eq, Hash)]
 pub struct Key {
     kind: OpKind,
     signed: bool,
@@ -32,7 +32,7 @@ fn operand_at(args: &[Operand], index: usize) -> Option<Operand>
 
 impl Key {
     ghost use Rattle.std.specs.Prelude.{◌≡◌};
-    ghost use Rattle.block_meaning.specs.Bodies.{op_of};
+    ghost use Rattle.ir_core.specs.Bodies.{op_of};
     ghost use Rattle.value_number.specs.Views.{key_of};
 
     pub fn new(op: &Op<Untimed>) -> Key

@@ -1,8 +1,8 @@
 //! All blocks of a program.
 ghost use Rattle.std.specs.Prelude.{◌≡◌, IfOk, true, false, map};
 ghost use Rattle.std.specs.Option.{option_map};
-ghost use Rattle.block_meaning.specs.Trees.{sequence_of, part_of, shape_of, part_row, side_of, arm_row};
-ghost use Rattle.numbering.specs.Numbering as n;
+ghost use Rattle.ir_core.specs.Trees.{sequence_of, part_of, shape_of, part_row, side_of, arm_row};
+ghost use Rattle.passes.specs.Numbering as n;
 ghost use Rattle.value_number.specs.Views.{scope_of};
 ghost use Rattle.value_number.specs.Settled.{is_sequence_settled, is_part_settled, is_shape_settled, all_true, where_there};
 

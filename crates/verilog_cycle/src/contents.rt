@@ -4,7 +4,7 @@ ghost use Rattle.verilog_cycle.specs.Simulation.{words_modulo};
 use std::marker::Model;
 
 /// The words of a memory.
-#[derive(Debug, Drop)]
+#[derive(Drop)]
 pub struct Contents {
     words: Vec<u64>,
 }

@@ -10,14 +10,14 @@ use rtl_core::design::{Atom, Design, Net, Pair, Wire};
 use std::alloc::{AllocError, Global};
 
 /// Where a value of at most 64 bits is read: a constant, or the number of a cell. The cells are the inputs, the registers and the wires, one behind the other.
-#[derive(Clone, Copy, Debug, PartialEq, Eq)]
+#[derive(Clone, Copy, PartialEq, Eq)]
 pub enum Source {
     Constant { bits: u8, value: u64 },
     Cell(usize),
 }
 
 /// An expression all of whose values have at most 64 bits, or `Wide`. A `Join` has its high part, its low part and the bits of the low part; a `Part` begins at its low bit.
-#[derive(Clone, Copy, Debug, PartialEq, Eq)]
+#[derive(Clone, Copy, PartialEq, Eq)]
 pub enum Step {
     Copy(Source),
     Not(Source),
@@ -30,7 +30,7 @@ pub enum Step {
 }
 
 /// The expression of a wire of so many bits.
-#[derive(Clone, Copy, Debug, PartialEq, Eq)]
+#[derive(Clone, Copy, PartialEq, Eq)]
 pub struct Instruction {
     pub bits: u8,
     pub step: Step,

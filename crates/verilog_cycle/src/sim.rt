@@ -23,7 +23,7 @@ use std::alloc::{AllocError, Global};
 use std::marker::Model;
 
 /// A valid circuit with what its registers and memories hold. It takes its buffers when it is made.
-#[derive(Debug, Drop)]
+#[derive(Drop)]
 pub struct Sim {
     design: Design,
     program: Vec<Instruction>,

@@ -11,7 +11,7 @@ use crate::word::low_bits;
 use rtl_core::design::{Atom, Pin, Reg};
 
 /// The values of inputs, registers and wires in a cycle, and of the registers in the next one.
-#[derive(Debug, Drop)]
+#[derive(Drop)]
 pub struct Values {
     pub pins: Vec<u64>,
     pub regs: Vec<u64>,

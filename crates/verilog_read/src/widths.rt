@@ -13,7 +13,7 @@ use std::alloc::{AllocError, Global};
 use verilog_syntax::module::{Drive, Expression, Name, Operand, Value, Write};
 use verilog_syntax::number::number_value;
 
-#[derive(Clone, Copy, Debug, PartialEq, Eq, Hash)]
+#[derive(Clone, Copy, PartialEq, Eq, Hash)]
 pub enum Address {
     Constant(u8, u128),
     Input(u64),
@@ -22,7 +22,7 @@ pub enum Address {
 }
 
 /// The number of a memory and the address of one of its ports.
-#[derive(Clone, Copy, Debug, PartialEq, Eq, Hash)]
+#[derive(Clone, Copy, PartialEq, Eq, Hash)]
 pub struct PortAddress {
     pub memory: u64,
     pub address: Address,

@@ -7,7 +7,7 @@ use crate::token::{Keyword, Kind, Sign, Token};
 use rtl_core::design::Pair;
 
 /// What a token of a form may be.
-#[derive(Clone, Copy, Debug, PartialEq, Eq)]
+#[derive(Clone, Copy, PartialEq, Eq)]
 pub enum Class {
     Word(Keyword),
     Mark(Sign),
@@ -19,7 +19,7 @@ pub enum Class {
 }
 
 /// The pieces of a module's text, each with as many tokens as it has classes. `Start` stands for the text's beginning.
-#[derive(Clone, Copy, Debug, PartialEq, Eq)]
+#[derive(Clone, Copy, PartialEq, Eq)]
 pub enum Form {
     Start,
     Head,

@@ -7,7 +7,7 @@ ghost use Rattle.verilog_syntax.specs.Signs.{keyword_text};
 use hls_base::place::Place;
 
 /// A reserved word of a module's text.
-#[derive(Clone, Copy, Debug, PartialEq, Eq)]
+#[derive(Clone, Copy, PartialEq, Eq)]
 pub enum Keyword {
     Module,
     Clock,
@@ -24,7 +24,7 @@ pub enum Keyword {
     Endmodule,
 }
 
-#[derive(Clone, Copy, Debug, PartialEq, Eq)]
+#[derive(Clone, Copy, PartialEq, Eq)]
 pub enum Sign {
     LeftParen,
     RightParen,
@@ -53,7 +53,7 @@ pub enum Sign {
 }
 
 /// What a token is. A name is no reserved word; a constant has its bits and its hexadecimal digits.
-#[derive(Clone, Copy, Debug)]
+#[derive(Clone, Copy)]
 pub enum Kind<'a> {
     Keyword(Keyword),
     Name(&'a [u8]),
@@ -62,7 +62,7 @@ pub enum Kind<'a> {
     Sign(Sign),
 }
 
-#[derive(Clone, Copy, Debug)]
+#[derive(Clone, Copy)]
 pub struct Token<'a> {
     pub kind: Kind<'a>,
     pub place: Place,

@@ -5,15 +5,15 @@ use Rattle.std.proofs.lemmas.List.{map_push, nil_from_length}
 use Rattle.hls_base.specs.declared.point.Point.{Point}
 use Rattle.hls_base.specs.declared.number.ArrayId.{ArrayId}
 use Rattle.hls_base.specs.declared.number.VarId.{VarId}
-use Rattle.core_program.specs.declared.expression.Argument.{Argument}
-use Rattle.core_program.specs.declared.expression.CoreExpr.{CoreExpr, size-CoreExpr}
-use Rattle.core_program.specs.declared.statement.CoreInit.{CoreInit}
-use Rattle.core_program.specs.Core as core
-use Rattle.core_program.specs.Core.{CoreTree, row, argument_row, CoreStmtTree, CoreElseTree, ArgumentTree, stmt_row}
-use Rattle.core_program.specs.CoreView.{core_of, core_argument_of, core_target_of, core_init_of, core_action_of, core_stmt_of, core_else_of, core_else_part, core_function_of}
-use Rattle.core_program.specs.declared.statement.CoreAction.{CoreAction}
-use Rattle.core_program.specs.declared.statement.CoreElse.{CoreElse}
-use Rattle.core_program.specs.declared.statement.CoreStmt.{CoreStmt}
+use Rattle.pieces.specs.declared.resolved.expression.Argument.{Argument}
+use Rattle.pieces.specs.declared.resolved.expression.CoreExpr.{CoreExpr, size-CoreExpr}
+use Rattle.pieces.specs.declared.resolved.statement.CoreInit.{CoreInit}
+use Rattle.pieces.specs.Resolved.Core as core
+use Rattle.pieces.specs.Resolved.Core.{CoreTree, row, argument_row, CoreStmtTree, CoreElseTree, ArgumentTree, stmt_row}
+use Rattle.pieces.specs.Resolved.CoreView.{core_of, core_argument_of, core_target_of, core_init_of, core_action_of, core_stmt_of, core_else_of, core_else_part, core_function_of}
+use Rattle.pieces.specs.declared.resolved.statement.CoreAction.{CoreAction}
+use Rattle.pieces.specs.declared.resolved.statement.CoreElse.{CoreElse}
+use Rattle.pieces.specs.declared.resolved.statement.CoreStmt.{CoreStmt}
 use Rattle.pieces.specs.declared.pure_expr.Pure.{Pure}
 use Rattle.pieces.specs.Trees as tree
 use Rattle.pieces.specs.Trees.{PureTree}
@@ -50,7 +50,7 @@ use Rattle.c_expand.proofs.PieceTrees.{fork_tree, repeat_tree, pick_tree, break_
 use Rattle.c_expand.proofs.StatementTrees.{block_tree, declare_tree, act_tree, if_tree, else_tree, switch_tree, case_tree, while_tree, do_tree, for_tree, break_tree, continue_tree, return_tree, value_tree, array_tree}
 use Rattle.c_expand.proofs.+expansion.Goals.{operators::operated-else-is_logical-via-then-is_logical+else-is_some, operators::operated-else-is_logical-via-else-is_logical}
 use Rattle.c_expand.proofs.+expansion.Goals as goal
-use Rattle.core_program.specs.declared.expression.Argument.TheViews.{sized-Unary, sized-Cast, sized-Binary, sized-Comma, sized-Assign}
+use Rattle.pieces.specs.declared.resolved.expression.Argument.TheViews.{sized-Unary, sized-Cast, sized-Binary, sized-Comma, sized-Assign}
 
 pub operators::arm-returns-in_err-mark-clause-refused : goal.operators::arm-returns-in_err-mark-clause-refused
 operators::arm-returns-in_err-mark-clause-refused t c = through _ c.in_err-mark.field-0.0 _ _ c.from_residual-in_err-mark.ensures.1 (λ y e. e) c.in_err-mark.ensures.refused (λ r h. enclosed_heavy _ _ _ _ c.begin-outer.ensures.begun (heavy_at_once _ _ _ _ (piece_heavy _ _ _ _ (ap (λ (p : Point). tree.mark p) c.in_ok-point.ensures) h)))

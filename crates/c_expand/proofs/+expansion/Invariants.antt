@@ -1,8 +1,8 @@
 use Rattle.std.proofs.Common.{◌≤◌, [], map, drop, length}
 use Rattle.std.specs.Option.{option_map}
-use Rattle.core_program.specs.declared.expression.CoreExpr.{size-CoreExpr}
-use Rattle.core_program.specs.Core.{row, argument_row, stmt_row}
-use Rattle.core_program.specs.CoreView.{core_of, core_argument_of, core_stmt_of, core_action_of}
+use Rattle.pieces.specs.declared.resolved.expression.CoreExpr.{size-CoreExpr}
+use Rattle.pieces.specs.Resolved.Core.{row, argument_row, stmt_row}
+use Rattle.pieces.specs.Resolved.CoreView.{core_of, core_argument_of, core_stmt_of, core_action_of}
 use Rattle.pieces.specs.View.{pure_of}
 use Rattle.piece_making.specs.Stocks.{stock, state_of}
 use Rattle.c_expand.specs.Callees.{callee_of, call_at, given_of}

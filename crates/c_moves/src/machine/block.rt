@@ -5,11 +5,11 @@ ghost use Rattle.c_tree.specs.View.{stmts_of};
 ghost use Rattle.c_meaning.specs.Store.{unwritten};
 
 use crate::machine::Machine;
-use c_frames::frame::{EndFrame, Frame, Step};
-use c_frames::objects::block_objects;
+use c_machine::state::store::unwritten;
+use c_machine::waiting::frame::{EndFrame, Frame, Step};
+use c_machine::waiting::objects::block_objects;
 use c_meaning::object::Object;
 use c_meaning::value::Completion;
-use c_state::store::unwritten;
 use c_tree::statement::Stmt;
 use std::alloc::{AllocError, Global};
 
@@ -30,8 +30,8 @@ impl<'p> Machine<'p> {
     ghost use Rattle.std.specs.Prelude.{◌≡◌, ◌<◌, length, OnOk, OnErr};
     ghost use Rattle.c_tree.specs.View.{stmts_of};
     ghost use Rattle.c_machine.specs.Moves.{block_opened, block_begun, block_left, items_resumed, popped};
-    ghost use Rattle.c_frames.specs.Shown.{end_frame_of};
-    ghost use Rattle.c_frames.specs.Stacks.{stack_of};
+    ghost use Rattle.c_machine.specs.Waiting.Shown.{end_frame_of};
+    ghost use Rattle.c_machine.specs.Waiting.Stacks.{stack_of};
     ghost use Rattle.c_moves.specs.Machines.{configuration_of};
 
     /// The lifetimes of these objects begin, which end with this frame.

@@ -1,12 +1,12 @@
 //! Calls.
 ghost use Rattle.std.specs.Prelude.{◌≡◌, ◌++◌, ◌<◌, OnOk};
 ghost use Rattle.c_tree.specs.View.{function_of};
-ghost use Rattle.c_frames.specs.Shown.{is_used};
+ghost use Rattle.c_machine.specs.Waiting.Shown.{is_used};
 
 use crate::machine::Machine;
-use c_frames::binding::{bind_all, body_items};
-use c_frames::frame::{Call, Caller, Control, EndFrame, Frame, Step};
-use c_frames::tree::function_named;
+use c_machine::waiting::binding::{bind_all, body_items};
+use c_machine::waiting::frame::{Call, Caller, Control, EndFrame, Frame, Step};
+use c_machine::waiting::tree::function_named;
 use c_meaning::object::Object;
 use c_meaning::value::{Completion, Value};
 use c_tree::function::Function;
@@ -33,9 +33,9 @@ impl<'p> Machine<'p> {
     ghost use Rattle.c_machine.specs.Frames as frames;
     ghost use Rattle.c_machine.specs.Moves.{next_argument, call_begun, function_entered, call_left, finished, here, holding};
     ghost use Rattle.c_machine.specs.Frames.{given_closed};
-    ghost use Rattle.c_state.specs.Lists.{latest};
-    ghost use Rattle.c_frames.specs.Shown.{calling_of, first_of, is_used};
-    ghost use Rattle.c_frames.specs.Stacks.{stack_of};
+    ghost use Rattle.c_machine.specs.State.Lists.{latest};
+    ghost use Rattle.c_machine.specs.Waiting.Shown.{calling_of, first_of, is_used};
+    ghost use Rattle.c_machine.specs.Waiting.Stacks.{stack_of};
     ghost use Rattle.c_moves.specs.Machines.{configuration_of};
 
     /// Calls a function, whose arguments are evaluated.
@@ -86,7 +86,7 @@ impl<'p> Machine<'p> {
         Ok(())
     }
 
-    #[tactic(auto, using(c_frames::proofs::BoundParameters::binding))]
+    #[tactic(auto, using(c_machine::proofs::WaitingLemmas::BoundParameters::binding))]
     /// The environment and the parameters of a call.
     fn enter_function(
         &mut self,

@@ -5,11 +5,11 @@ ghost use Rattle.c_tree.specs.View.{object_of};
 ghost use Rattle.c_meaning.specs.Store.{lengths_in};
 
 use crate::machine::Machine;
-use c_frames::frame::{EndFrame, Frame, Initialiser, Rows, Step, ValueFrame};
-use c_frames::rows::{dimension, row_size};
+use c_machine::state::store::write_zeros;
+use c_machine::waiting::frame::{EndFrame, Frame, Initialiser, Rows, Step, ValueFrame};
+use c_machine::waiting::rows::{dimension, row_size};
 use c_meaning::object::element_count;
 use c_meaning::value::Completion;
-use c_state::store::write_zeros;
 use c_tree::object::{Init, Object as Declared};
 use std::alloc::{AllocError, Global};
 
@@ -20,10 +20,10 @@ impl<'p> Machine<'p> {
     ghost use Rattle.c_meaning.specs.Store.{lengths_in};
     ghost use Rattle.hls_base.specs.ArrayAddress.{element_count};
     ghost use Rattle.c_machine.specs.Moves.{next_object, next_row, rows_begun, initialised, popped};
-    ghost use Rattle.c_frames.specs.Stacks.{stack_of};
+    ghost use Rattle.c_machine.specs.Waiting.Stacks.{stack_of};
     ghost use Rattle.c_moves.specs.Machines.{configuration_of};
 
-    #[tactic(auto, using(c_frames::proofs::RowSizes::rowing))]
+    #[tactic(auto, using(c_machine::proofs::WaitingLemmas::RowSizes::rowing))]
     /// The declarations behind one that is done.
     pub fn next_object(&mut self, alloc: Global, others: &'p [Declared]) -> Result<(), AllocError>
         requires { 0 < length (stack_of self.old.stack) }
@@ -68,7 +68,7 @@ impl<'p> Machine<'p> {
         }
     }
 
-    #[tactic(auto, using(c_frames::proofs::RowSizes::rowing))]
+    #[tactic(auto, using(c_machine::proofs::WaitingLemmas::RowSizes::rowing))]
     fn begin_rows(
         &mut self,
         alloc: Global,
@@ -99,7 +99,7 @@ impl<'p> Machine<'p> {
         }
     }
 
-    #[tactic(auto, using(c_frames::proofs::RowSizes::rowing))]
+    #[tactic(auto, using(c_machine::proofs::WaitingLemmas::RowSizes::rowing))]
     /// The rows of an initialiser behind one that is done.
     pub fn next_row(&mut self, alloc: Global, rows: Rows<'p>) -> Result<(), AllocError>
         requires { 0 < length (stack_of self.old.stack) }
@@ -118,7 +118,7 @@ impl<'p> Machine<'p> {
         Ok(())
     }
 
-    #[tactic(auto, using(c_frames::proofs::RowSizes::rowing))]
+    #[tactic(auto, using(c_machine::proofs::WaitingLemmas::RowSizes::rowing))]
     fn begin_row(&mut self, rows: Rows<'p>, size: usize, first: &'p Init, others: &'p [Init])
         requires top { 0 < length (stack_of self.old.stack) }
         requires size { size ≡ element_count (drop rows.depth (lengths_in (object_of rows.declared.now))) }

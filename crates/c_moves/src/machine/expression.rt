@@ -1,8 +1,8 @@
 //! Expressions.
 use crate::machine::Machine;
-use c_frames::frame::{Call, Choice, Step, Use, ValueFrame};
+use c_machine::state::store::read;
+use c_machine::waiting::frame::{Call, Choice, Step, Use, ValueFrame};
 use c_meaning::value::Value;
-use c_state::store::read;
 use c_token::ctype::CType;
 use c_tree::expression::Expr;
 use c_tree::operator::Binary;

@@ -1,9 +1,9 @@
 //! Subscripts, arguments and actions, one after another.
 use crate::machine::Machine;
-use c_frames::frame::{Assignment, Call, Frame, Step, Use, ValueFrame};
+use c_machine::state::operator::bumped;
+use c_machine::state::store::{is_array, read};
+use c_machine::waiting::frame::{Assignment, Call, Frame, Step, Use, ValueFrame};
 use c_meaning::value::{Argument, Completion};
-use c_state::operator::bumped;
-use c_state::store::{is_array, read};
 use c_tree::action::Action;
 use c_tree::expression::{Expr, Target};
 use c_tree::operator::Binary;
@@ -19,7 +19,7 @@ impl<'p> Machine<'p> {
     ghost use Rattle.c_meaning.specs.Expression.{array_given};
     ghost use Rattle.c_meaning.specs.Statement.{action_tree};
     ghost use Rattle.c_machine.specs.Moves.{evaluated, used_for, next_subscript, next_argument, next_action, here, still};
-    ghost use Rattle.c_frames.specs.Shown.{use_of};
+    ghost use Rattle.c_machine.specs.Waiting.Shown.{use_of};
     ghost use Rattle.c_moves.specs.Machines.{configuration_of};
 
     /// Does what subscripts were evaluated for.

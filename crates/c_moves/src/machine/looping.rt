@@ -3,10 +3,10 @@ ghost use Rattle.std.specs.Prelude.{◌≡◌};
 ghost use Rattle.std.specs.Option.{option_map, option_copied};
 ghost use Rattle.c_tree.specs.View.{tree_of};
 ghost use Rattle.c_meaning.specs.Statement.{round_of};
-ghost use Rattle.c_frames.specs.Shown.{step_of, test_step};
+ghost use Rattle.c_machine.specs.Waiting.Shown.{step_of, test_step};
 
 use crate::machine::Machine;
-use c_frames::frame::{EndFrame, Frame, Loop, Rounds, Stage, Step, ValueFrame};
+use c_machine::waiting::frame::{EndFrame, Frame, Loop, Rounds, Stage, Step, ValueFrame};
 use c_meaning::value::{Completion, Round, Value};
 use c_tree::expression::Expr;
 use c_value::kind::INT;
@@ -43,8 +43,8 @@ impl<'p> Machine<'p> {
     ghost use Rattle.c_tree.specs.View.{stmt_of};
     ghost use Rattle.c_machine.specs.Frames as f;
     ghost use Rattle.c_machine.specs.Moves.{at_point, pushed, popped, left_scope, round_begun, loop_over, tested, stepping, body_left};
-    ghost use Rattle.c_frames.specs.Shown.{loop_of, step_of};
-    ghost use Rattle.c_frames.specs.Stacks.{stack_of};
+    ghost use Rattle.c_machine.specs.Waiting.Shown.{loop_of, step_of};
+    ghost use Rattle.c_machine.specs.Waiting.Stacks.{stack_of};
     ghost use Rattle.c_moves.specs.Machines.{configuration_of};
 
     /// An iteration begins; so much is spent before it.

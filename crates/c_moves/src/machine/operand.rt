@@ -1,11 +1,11 @@
 //! Operators behind an operand.
 use crate::machine::Machine;
-use c_frames::chain::{Operator, around};
-use c_frames::frame::{Assignment, Choice, Frame, Step, ValueFrame};
-use c_frames::tree::{acts, result_kind};
+use c_machine::state::operator::assigned;
+use c_machine::state::store::{kind_of, write};
+use c_machine::waiting::chain::{Operator, around};
+use c_machine::waiting::frame::{Assignment, Choice, Frame, Step, ValueFrame};
+use c_machine::waiting::tree::{acts, result_kind};
 use c_meaning::value::{Completion, Value};
-use c_state::operator::assigned;
-use c_state::store::{kind_of, write};
 use c_token::ctype::CType;
 use c_tree::expression::Expr;
 use c_tree::operator::Binary;
@@ -25,7 +25,7 @@ impl<'p> Machine<'p> {
     ghost use Rattle.c_machine.specs.Moves.{resumed, joined, reached, not_reached, picked, chosen, kind_here, popped, at_fork, here, still};
     ghost use Rattle.hls_base.specs.declared.point.PointKind.TheVariants as point;
     ghost use Rattle.c_meaning.specs.Store.{kind_of_object, object_named};
-    ghost use Rattle.c_frames.specs.Stacks.{stack_of};
+    ghost use Rattle.c_machine.specs.Waiting.Stacks.{stack_of};
     ghost use Rattle.c_moves.specs.Machines.{configuration_of};
 
     /// An operator behind its first operand.

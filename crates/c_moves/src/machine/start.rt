@@ -1,14 +1,14 @@
 //! The beginning of a machine.
 use crate::machine::Machine;
-use c_frames::binding::{bind_all, body_items};
-use c_frames::frame::{Caller, Control, EndFrame, Frame, Spot, Step};
-use c_frames::stack::Stack;
+use c_machine::state::lists::Lists;
+use c_machine::state::meter::Meter;
+use c_machine::state::scopes::Scopes;
+use c_machine::waiting::binding::{bind_all, body_items};
+use c_machine::waiting::frame::{Caller, Control, EndFrame, Frame, Spot, Step};
+use c_machine::waiting::stack::Stack;
 use c_meaning::names::Binding;
 use c_meaning::object::Object;
 use c_meaning::value::Argument;
-use c_state::lists::Lists;
-use c_state::meter::Meter;
-use c_state::scopes::Scopes;
 use c_tree::function::Function;
 use c_tree::program::Item;
 use hls_base::point::PointKind;
@@ -21,7 +21,7 @@ impl<'p> Machine<'p> {
     ghost use Rattle.c_machine.specs.Frames as f;
     ghost use Rattle.c_moves.specs.Machines.{configuration_of};
 
-    #[tactic(auto, using(c_frames::proofs::BoundParameters::binding))]
+    #[tactic(auto, using(c_machine::proofs::WaitingLemmas::BoundParameters::binding))]
     /// A machine before the first point of a call of the top function, with these names of file scope and these objects.
     pub fn start(
         alloc: Global,

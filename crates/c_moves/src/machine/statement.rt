@@ -1,7 +1,7 @@
 //! Statements.
 use crate::machine::Machine;
-use c_frames::frame::{Branches, EndFrame, Frame, Loop, Rounds, Stage, Step, ValueFrame};
-use c_frames::objects::first_objects;
+use c_machine::waiting::frame::{Branches, EndFrame, Frame, Loop, Rounds, Stage, Step, ValueFrame};
+use c_machine::waiting::objects::first_objects;
 use c_meaning::value::Completion;
 use c_tree::expression::Expr;
 use c_tree::object::Object;
@@ -21,8 +21,8 @@ impl<'p> Machine<'p> {
     ghost use Rattle.c_meaning.specs.Statement.{converted_result};
     ghost use Rattle.c_machine.specs.Moves.{executed, first_begun, block_entered, return_begun, round_begun, branched, if_left, switch_left, at_point, scoped, popped, here};
     ghost use Rattle.hls_base.specs.declared.point.PointKind.TheVariants as point;
-    ghost use Rattle.c_frames.specs.Shown.{loop_of, loop_with};
-    ghost use Rattle.c_frames.specs.Stacks.{stack_of};
+    ghost use Rattle.c_machine.specs.Waiting.Shown.{loop_of, loop_with};
+    ghost use Rattle.c_machine.specs.Waiting.Stacks.{stack_of};
     ghost use Rattle.c_moves.specs.Machines.{configuration_of};
 
     /// Begins a statement. The flag says whether it is in a tail position.

@@ -2,7 +2,7 @@ use Rattle.std.proofs.Common.{◌∙◌, sym, ap}
 use Rattle.std.specs.Prelude.{if◌then◌else◌}
 use Rattle.std.proofs.lemmas.Bool.{lt-ltb, le-ltb}
 use Rattle.c_tree.specs.Refusal.{refusal, rule_of}
-use Rattle.syntax_sorts.specs.Sorts.{rule_of_sort}
+use Rattle.c_syntax.specs.Sorts.{rule_of_sort}
 use Rattle.c_syntax.proofs.Rules.{rule_by_sort}
 use Rattle.c_syntax.proofs.stop_at.Goals as goal
 use Rattle.c_syntax.proofs.stop_at.Goals.{then-open_before-gt-NESTING_LIMIT, else-open_before-gt-NESTING_LIMIT}

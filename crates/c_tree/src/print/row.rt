@@ -8,7 +8,7 @@ use hls_base::text::Text;
 use std::alloc::{AllocError, Global};
 
 /// A piece of a printed program: white space or a token. `Line` begins a line that is indented by so many steps.
-#[derive(Debug, Drop)]
+#[derive(Drop)]
 pub enum Written {
     Space,
     Line(u64),

@@ -1,6 +1,6 @@
 use Rattle.std.proofs.Common.{◌∙◌, ap, sym}
 use Rattle.ir_core.specs.declared.body.OpKind.TheVariants as o
-use Rattle.lowering.specs.Blocks.{case_or}
+use Rattle.passes.specs.Lowering.Blocks.{case_or}
 use Rattle.block_draft.specs.Views.{ops_of, made, plain_form}
 use Rattle.block_draft.specs.Drafts.{with_earlier}
 use Rattle.block_draft.proofs.Drafting.{case_step, case_made}

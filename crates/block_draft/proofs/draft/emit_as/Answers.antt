@@ -1,7 +1,7 @@
 use Rattle.std.proofs.Common.{◌≡◌, ◌∙◌, ap, subst, IfOk}
 use Rattle.pieces.specs.View.{pure_of}
-use Rattle.lowering.specs.Expressions.{emitted}
-use Rattle.lowering.specs.Blocks.{given_as}
+use Rattle.passes.specs.Lowering.Expressions.{emitted}
+use Rattle.passes.specs.Lowering.Blocks.{given_as}
 use Rattle.block_draft.specs.Views.{ops_of, guards_of, made}
 use Rattle.block_draft.proofs.draft.emit_as.Goals as goal
 

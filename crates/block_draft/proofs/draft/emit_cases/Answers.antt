@@ -1,5 +1,5 @@
 use Rattle.block_draft.specs.Views.{ops_of}
-use Rattle.lowering.specs.Blocks.{cases}
+use Rattle.passes.specs.Lowering.Blocks.{cases}
 use Rattle.std.proofs.Common.{◌+◌, drop}
 use Rattle.block_draft.proofs.Drafting.{case_next}
 use Rattle.block_draft.proofs.draft.emit_cases.Goals as goal

@@ -1,5 +1,5 @@
 use Rattle.std.proofs.Common.{◌≡◌, drop}
-use Rattle.lowering.specs.Blocks.{cases}
+use Rattle.passes.specs.Lowering.Blocks.{cases}
 use Rattle.block_draft.specs.Views.{ops_of}
 use Rattle.block_draft.specs.Drafts.{with_earlier}
 use Rattle.block_draft.proofs.draft.emit_cases.Given as goal

@@ -2,9 +2,9 @@ use Rattle.std.proofs.Common.{◌≡◌, ◌∙◌, ap, ap₂, subst, IfOk, List
 use Rattle.pieces.specs.View.{pure_of, pures_of}
 use Rattle.ir_core.specs.declared.body.OpKind.TheVariants as o
 use Rattle.ir_core.specs.declared.body.Operand.{Operand}
-use Rattle.lowering.specs.Operations.{added}
-use Rattle.lowering.specs.Expressions.{Evaluated, emitted_all}
-use Rattle.lowering.specs.Blocks.{given_as, stored}
+use Rattle.passes.specs.Lowering.Operations.{added}
+use Rattle.passes.specs.Lowering.Expressions.{Evaluated, emitted_all}
+use Rattle.passes.specs.Lowering.Blocks.{given_as, stored}
 use Rattle.block_draft.specs.Views.{ops_of, guards_of, made, plain_form, flagged_as}
 use Rattle.block_draft.specs.Drafts.{stored_behind}
 use Rattle.block_draft.proofs.draft.emit_store.Goals as goal

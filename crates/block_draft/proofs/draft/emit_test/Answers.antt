@@ -1,7 +1,7 @@
 use Rattle.std.proofs.Common.{◌≡◌, ◌∙◌, ap, subst, IfOk}
 use Rattle.pieces.specs.View.{pure_of}
-use Rattle.lowering.specs.Expressions.{emitted}
-use Rattle.lowering.specs.Blocks.{given_tested}
+use Rattle.passes.specs.Lowering.Expressions.{emitted}
+use Rattle.passes.specs.Lowering.Blocks.{given_tested}
 use Rattle.block_draft.specs.Views.{ops_of, guards_of, made}
 use Rattle.block_draft.proofs.draft.emit_test.Goals as goal
 

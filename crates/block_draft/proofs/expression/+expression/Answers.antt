@@ -5,8 +5,8 @@ use Rattle.pieces.specs.Kind.{kind}
 use Rattle.pieces.specs.declared.pure_expr.Pure.{size-Pure}
 use Rattle.pieces.specs.declared.pure_expr.Pure.TheViews.{sized-Binary}
 use Rattle.ir_core.specs.declared.body.OpKind.TheVariants as o
-use Rattle.lowering.specs.Operations.{gives, added, tested}
-use Rattle.lowering.specs.Expressions.{Evaluated, emitted, emitted_all, with_value, loaded, unary, cast_to, subscript}
+use Rattle.passes.specs.Lowering.Operations.{gives, added, tested}
+use Rattle.passes.specs.Lowering.Expressions.{Evaluated, emitted, emitted_all, with_value, loaded, unary, cast_to, subscript}
 use Rattle.block_draft.specs.declared.expression.Kinds.{Kinds}
 use Rattle.block_draft.specs.Views.{ops_of, guards_of, made, evaluated_of, defined_as, plain_form}
 use Rattle.block_draft.specs.Operators.{behind_left, unwound, with_front, joined_by, joined_to, joined_with, operand_kinds, side_of, sided, chosen_other, chosen}

@@ -1,7 +1,7 @@
 use Rattle.std.proofs.Common.{◌≡◌, ◌≤◌, vec_len, drop}
 use Rattle.pieces.specs.View.{pure_of, pures_of}
 use Rattle.pieces.specs.declared.pure_expr.Pure.{size-Pure}
-use Rattle.lowering.specs.Expressions.{emitted, emitted_all}
+use Rattle.passes.specs.Lowering.Expressions.{emitted, emitted_all}
 use Rattle.block_draft.specs.Views.{ops_of, guards_of, evaluated_of}
 use Rattle.block_draft.specs.Operators.{unwound, with_front}
 use Rattle.block_draft.proofs.Sizes.{AllWithin}

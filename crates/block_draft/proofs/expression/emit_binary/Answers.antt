@@ -1,7 +1,7 @@
 use Rattle.std.proofs.Common.{◌≡◌, ◌∙◌, ap, ap₂, sym, subst, IfOk}
 use Rattle.ir_core.specs.declared.body.Operand.{Operand}
 use Rattle.std.proofs.Common.{List}
-use Rattle.lowering.specs.Expressions.{with_truth, computed}
+use Rattle.passes.specs.Lowering.Expressions.{with_truth, computed}
 use Rattle.block_draft.specs.Views.{ops_of, guards_of, evaluated_of}
 use Rattle.block_draft.proofs.Expressing.{operated_by, operated_is}
 use Rattle.block_draft.proofs.expression.emit_binary.Goals as goal

@@ -1,7 +1,7 @@
 use Rattle.std.proofs.Common.{◌≡◌, ◌∙◌, ap, ap₂, sym, subst, IfOk, None}
-use Rattle.lowering.specs.Operations.{added, flagged}
-use Rattle.lowering.specs.Guards.{guarded}
-use Rattle.lowering.specs.Expressions.{with_value, under_guard, is_total}
+use Rattle.passes.specs.Lowering.Operations.{added, flagged}
+use Rattle.passes.specs.Lowering.Guards.{guarded}
+use Rattle.passes.specs.Lowering.Expressions.{with_value, under_guard, is_total}
 use Rattle.block_draft.specs.declared.operations.Form.{Form}
 use Rattle.block_draft.specs.Views.{ops_of, guards_of, evaluated_of, defined_as, plain_form}
 use Rattle.block_draft.proofs.Expressing.{computed_total, computed_partial}

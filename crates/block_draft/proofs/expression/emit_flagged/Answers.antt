@@ -1,5 +1,5 @@
 use Rattle.std.proofs.Common.{◌∙◌, ap}
-use Rattle.lowering.specs.Expressions.{with_value, under_guard}
+use Rattle.passes.specs.Lowering.Expressions.{with_value, under_guard}
 use Rattle.block_draft.specs.Views.{guards_of, flagged_as}
 use Rattle.block_draft.proofs.expression.emit_flagged.Goals as goal
 

@@ -2,8 +2,8 @@ use Rattle.std.proofs.Common.{◌≡◌, ◌∙◌, ap, sym, subst, IfOk, List, 
 use Rattle.c_tree.specs.declared.operator.Unary.TheVariants as u
 use Rattle.ir_core.specs.declared.body.OpKind.TheVariants as o
 use Rattle.ir_core.specs.declared.body.Operand.{Operand}
-use Rattle.lowering.specs.Operations.{added}
-use Rattle.lowering.specs.Expressions.{with_truth, with_value, computed, unary, unary_of, negated}
+use Rattle.passes.specs.Lowering.Operations.{added}
+use Rattle.passes.specs.Lowering.Expressions.{with_truth, with_value, computed, unary, unary_of, negated}
 use Rattle.block_draft.specs.Views.{ops_of, guards_of, evaluated_of, defined_as, plain_form}
 use Rattle.block_draft.proofs.expression.emit_unary.Goals as goal
 

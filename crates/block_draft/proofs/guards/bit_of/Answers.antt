@@ -1,5 +1,5 @@
 use Rattle.std.proofs.Common.{◌≡◌, ◌∙◌, IfOk, subst, ap, sym}
-use Rattle.lowering.specs.Guards as spec
+use Rattle.passes.specs.Lowering.Guards as spec
 use Rattle.block_draft.specs.Views.{ops_of, guard_of, made}
 use Rattle.block_draft.proofs.guards.bit_of.Goals as goal
 

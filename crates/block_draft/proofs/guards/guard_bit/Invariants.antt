@@ -1,5 +1,5 @@
 use Rattle.std.proofs.Common.{◌≡◌}
-use Rattle.lowering.specs.Guards.{guarded}
+use Rattle.passes.specs.Lowering.Guards.{guarded}
 use Rattle.block_draft.specs.Views.{ops_of, guards_of, guarded_of}
 use Rattle.block_draft.proofs.guards.guard_bit.Given as goal
 

@@ -2,7 +2,7 @@ use Rattle.std.proofs.Common.{◌≡◌, [], ◌∷◌, ◌++◌, ◌∙◌, sym
 use Rattle.c_tree.specs.declared.expression.Expr.{size-Expr}
 use Rattle.c_tree.specs.declared.expression.Expr.TheViews.{sized-Binary, sized-Choice, sized-Assign, sized-Comma}
 use Rattle.c_tree.specs.View.{tree_of}
-use Rattle.c_checked.specs.Recursion.{calls}
+use Rattle.c_meaning.specs.Checks.Recursion.{calls}
 use Rattle.c_calls.specs.Called.{backwards}
 use Rattle.c_calls.proofs.Calling.{binary_more, choice_more, assign_more, comma_more}
 use Rattle.c_calls.proofs.called.+calls.Goals as goal

@@ -1,7 +1,7 @@
 use Rattle.std.proofs.Common.{◌≡◌, ◌++◌, ◌≤◌, drop}
 use Rattle.c_tree.specs.View.{tree_of, trees_of}
 use Rattle.c_tree.specs.declared.expression.Expr.{size-Expr}
-use Rattle.c_checked.specs.Recursion.{calls, all_calls}
+use Rattle.c_meaning.specs.Checks.Recursion.{calls, all_calls}
 use Rattle.c_calls.specs.Called.{backwards}
 use Rattle.c_calls.proofs.called.+calls.Given as goal
 

@@ -1,6 +1,6 @@
 use Rattle.std.proofs.Common.{◌≡◌, ◌++◌, drop}
 use Rattle.c_tree.specs.View.{inits_of}
-use Rattle.c_checked.specs.Recursion.{inits_calls}
+use Rattle.c_meaning.specs.Checks.Recursion.{inits_calls}
 use Rattle.c_calls.proofs.called.+inits.Given as goal
 
 abbrev pub invariant-add_inits_calls-loop-item : goal.invariant-add_inits_calls-loop-item

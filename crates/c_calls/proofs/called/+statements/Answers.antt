@@ -1,10 +1,10 @@
 use Rattle.std.proofs.Common.{◌≡◌, ◌++◌, refl, sym, ap, ◌∙◌, map}
 use Rattle.std.specs.Option.{option_map}
 use Rattle.c_tree.specs.View.{tree_of, action_of, stmt_of, stmts_of, else_of, else_part, first_part}
-use Rattle.c_checked.specs.Statements.{names_behind, names_in_for}
-use Rattle.c_checked.specs.Recursion.{calls, optional_calls, actions_calls, statement_calls, else_calls, first_calls, statements_calls}
+use Rattle.c_meaning.specs.Checks.Statements.{names_behind, names_in_for}
+use Rattle.c_meaning.specs.Checks.Recursion.{calls, optional_calls, actions_calls, statement_calls, else_calls, first_calls, statements_calls}
 use Rattle.c_calls.proofs.Calling.{where_found, grown_thread, two_parts, three_parts, four_parts}
-use Rattle.c_declarations.proofs.StatementTrees.{extends_behind, extends_in_for, extends_more, extends_by, may_forget, has_forgotten, names_behind_for, if_tree, switch_tree, case_tree, while_tree, do_tree, for_tree}
+use Rattle.c_names.proofs.DeclarationsLemmas.StatementTrees.{extends_behind, extends_in_for, extends_more, extends_by, may_forget, has_forgotten, names_behind_for, if_tree, switch_tree, case_tree, while_tree, do_tree, for_tree}
 use Rattle.c_calls.proofs.called.+statements.Goals as goal
 
 pub add_block_calls-loop-stmt-preserved : goal.add_block_calls-loop-stmt-preserved

@@ -1,7 +1,7 @@
 use Rattle.std.proofs.Common.{◌≡◌, ◌++◌, drop}
 use Rattle.c_tree.specs.View.{stmts_of}
-use Rattle.c_checked.specs.Recursion.{statements_calls}
-use Rattle.c_declarations.specs.Extended.{Extends}
+use Rattle.c_meaning.specs.Checks.Recursion.{statements_calls}
+use Rattle.c_names.specs.Declarations.Extended.{Extends}
 use Rattle.c_calls.proofs.called.+statements.Given as goal
 
 abbrev pub invariant-add_block_calls-loop-stmt : goal.invariant-add_block_calls-loop-stmt

@@ -1,6 +1,6 @@
 use Rattle.std.proofs.Common.{◌≡◌, ◌++◌, drop, map}
 use Rattle.c_tree.specs.View.{action_of}
-use Rattle.c_checked.specs.Recursion.{actions_calls}
+use Rattle.c_meaning.specs.Checks.Recursion.{actions_calls}
 use Rattle.c_calls.proofs.called.add_actions_calls.Given as goal
 
 abbrev pub invariant-loop-action : goal.invariant-loop-action

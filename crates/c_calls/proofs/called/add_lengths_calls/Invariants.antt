@@ -1,7 +1,7 @@
 use Rattle.std.proofs.Common.{◌≡◌, ◌++◌, drop, map}
 use Rattle.std.specs.Option.{option_map}
 use Rattle.c_tree.specs.View.{tree_of}
-use Rattle.c_checked.specs.Recursion.{lengths_calls}
+use Rattle.c_meaning.specs.Checks.Recursion.{lengths_calls}
 use Rattle.c_calls.proofs.called.add_lengths_calls.Given as goal
 
 abbrev pub invariant-loop-length : goal.invariant-loop-length

@@ -1,7 +1,7 @@
 use Rattle.std.proofs.Common.{◌≡◌, ◌++◌, drop, map}
 use Rattle.c_tree.specs.View.{object_of}
-use Rattle.c_checked.specs.Statements.{with_objects}
-use Rattle.c_checked.specs.Recursion.{objects_calls}
+use Rattle.c_meaning.specs.Checks.Statements.{with_objects}
+use Rattle.c_meaning.specs.Checks.Recursion.{objects_calls}
 use Rattle.c_calls.proofs.called.add_objects_calls.Given as goal
 
 abbrev pub invariant-loop-object : goal.invariant-loop-object

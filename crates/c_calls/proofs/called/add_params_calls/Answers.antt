@@ -1,8 +1,8 @@
 use Rattle.std.proofs.Common.{refl, map}
 use Rattle.c_tree.specs.View.{param_of}
-use Rattle.c_checked.specs.Statements.{with_param, with_params}
-use Rattle.c_checked.specs.Recursion.{lengths_calls, params_calls}
-use Rattle.c_declarations.proofs.Least.{state_thread}
+use Rattle.c_meaning.specs.Checks.Statements.{with_param, with_params}
+use Rattle.c_meaning.specs.Checks.Recursion.{lengths_calls, params_calls}
+use Rattle.c_names.proofs.DeclarationsLemmas.Least.{state_thread}
 use Rattle.c_calls.proofs.Calling.{grown_thread}
 use Rattle.c_calls.proofs.called.add_params_calls.Goals as goal
 

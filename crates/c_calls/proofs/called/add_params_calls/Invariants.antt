@@ -1,7 +1,7 @@
 use Rattle.std.proofs.Common.{◌≡◌, ◌++◌, drop, map}
 use Rattle.c_tree.specs.View.{param_of}
-use Rattle.c_checked.specs.Statements.{with_params}
-use Rattle.c_checked.specs.Recursion.{params_calls}
+use Rattle.c_meaning.specs.Checks.Statements.{with_params}
+use Rattle.c_meaning.specs.Checks.Recursion.{params_calls}
 use Rattle.c_calls.proofs.called.add_params_calls.Given as goal
 
 abbrev pub invariant-loop-param : goal.invariant-loop-param

@@ -1,7 +1,7 @@
 use Rattle.std.proofs.Common.{[], ◌∷◌, map}
 use Rattle.c_tree.specs.View.{item_of}
-use Rattle.c_checked.specs.Recursion.{callers}
-use Rattle.c_checked.specs.Programs.{with_item}
+use Rattle.c_meaning.specs.Checks.Recursion.{callers}
+use Rattle.c_meaning.specs.Checks.Programs.{with_item}
 use Rattle.c_calls.proofs.Calling.{grown_thread, callers_more}
 use Rattle.c_calls.proofs.called.callers_of.Goals as goal
 

@@ -1,6 +1,6 @@
 use Rattle.std.proofs.Common.{map}
 use Rattle.c_tree.specs.View.{param_of}
-use Rattle.c_declarations.proofs.StatementTrees.{extends_params, extends_more, extends_by, may_forget, has_forgotten}
+use Rattle.c_names.proofs.DeclarationsLemmas.StatementTrees.{extends_params, extends_more, extends_by, may_forget, has_forgotten}
 use Rattle.c_calls.proofs.called.function_calls.Goals as goal
 
 pub forget-requires : goal.forget-requires

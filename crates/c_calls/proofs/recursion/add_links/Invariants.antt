@@ -1,5 +1,5 @@
 use Rattle.std.proofs.Common.{◌≡◌, ◌++◌, drop}
-use Rattle.c_checked.specs.Recursion.{call_links}
+use Rattle.c_meaning.specs.Checks.Recursion.{call_links}
 use Rattle.c_calls.proofs.recursion.add_links.Given as goal
 
 abbrev pub invariant-loop-call : goal.invariant-loop-call

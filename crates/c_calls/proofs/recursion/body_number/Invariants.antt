@@ -1,5 +1,5 @@
 use Rattle.std.proofs.Common.{◌≡◌, ◌+◌, drop}
-use Rattle.c_checked.specs.Recursion.{body_of}
+use Rattle.c_meaning.specs.Checks.Recursion.{body_of}
 use Rattle.c_calls.proofs.recursion.body_number.Given as goal
 
 abbrev pub invariant-loop-i : goal.invariant-loop-i

@@ -1,5 +1,5 @@
 use Rattle.std.proofs.Common.{◌≡◌, ◌++◌, drop}
-use Rattle.c_checked.specs.Recursion.{links}
+use Rattle.c_meaning.specs.Checks.Recursion.{links}
 use Rattle.c_calls.proofs.recursion.links_of.Given as goal
 
 abbrev pub invariant-loop-caller : goal.invariant-loop-caller

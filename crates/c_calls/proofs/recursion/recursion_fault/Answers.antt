@@ -1,7 +1,7 @@
 use Rattle.std.proofs.Common.{◌≡◌, ◌+◌, length, refl, subst, sym, ap, ◌∙◌}
-use Rattle.c_checked.specs.Faults.{least}
-use Rattle.c_checked.specs.Recursion.{links, round_faults, recursion_faults}
-use Rattle.c_declarations.proofs.Least.{least_loop}
+use Rattle.c_meaning.specs.Checks.Faults.{least}
+use Rattle.c_meaning.specs.Checks.Recursion.{links, round_faults, recursion_faults}
+use Rattle.c_names.proofs.DeclarationsLemmas.Least.{least_loop}
 use Rattle.c_calls.specs.Linked.{AreWithin, Marks, HasSources, RowsAreBelow}
 use Rattle.c_calls.proofs.Rounds.{links_within, rows_below}
 use Rattle.c_calls.proofs.recursion.recursion_fault.Goals as goal

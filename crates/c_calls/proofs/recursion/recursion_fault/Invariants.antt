@@ -1,6 +1,6 @@
 use Rattle.std.proofs.Common.{◌≡◌, drop}
-use Rattle.c_checked.specs.Faults.{lesser, least}
-use Rattle.c_checked.specs.Recursion.{recursion_faults}
+use Rattle.c_meaning.specs.Checks.Faults.{lesser, least}
+use Rattle.c_meaning.specs.Checks.Recursion.{recursion_faults}
 use Rattle.c_calls.proofs.recursion.recursion_fault.Given as goal
 
 abbrev pub invariant-loop-caller : goal.invariant-loop-caller

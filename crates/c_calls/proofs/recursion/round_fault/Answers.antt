@@ -1,7 +1,7 @@
 use Rattle.std.proofs.Common.{◌&&◌, length, refl, ap, ◌∙◌}
-use Rattle.c_checked.specs.Faults.{least, fault_if}
-use Rattle.c_checked.specs.Recursion.{number_of, links, reaches, stands_first, round_faults}
-use Rattle.c_declarations.proofs.Least.{least_loop}
+use Rattle.c_meaning.specs.Checks.Faults.{least, fault_if}
+use Rattle.c_meaning.specs.Checks.Recursion.{number_of, links, reaches, stands_first, round_faults}
+use Rattle.c_names.proofs.DeclarationsLemmas.Least.{least_loop}
 use Rattle.c_calls.proofs.recursion.round_fault.Goals as goal
 
 pub loop-call-preserved : goal.loop-call-preserved

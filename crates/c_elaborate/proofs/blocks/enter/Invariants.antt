@@ -1,7 +1,7 @@
 use Rattle.std.proofs.Common.{◌≡◌, ◌++◌, map, drop, length}
 use Rattle.c_tree.specs.View.{stmts_of}
 use Rattle.c_meaning.specs.Store.{declared_in}
-use Rattle.core_program.specs.CoreView.{core_object_of}
+use Rattle.pieces.specs.Resolved.CoreView.{core_object_of}
 use Rattle.c_elaborate.specs.Objects.{object_elaborated, from}
 use Rattle.c_elaborate.proofs.blocks.enter.Given as goal
 

@@ -1,5 +1,5 @@
 use Rattle.std.proofs.Common.{◌∙◌, sym, ap}
-use Rattle.core_program.specs.CoreView.{core_of}
+use Rattle.pieces.specs.Resolved.CoreView.{core_of}
 use Rattle.c_elaborate.specs.Chains.{steps}
 use Rattle.c_elaborate.proofs.Chaining.{steps_more}
 use Rattle.c_elaborate.proofs.chains.joined.Goals as goal

@@ -1,5 +1,5 @@
 use Rattle.std.proofs.Common.{◌≡◌, length}
-use Rattle.core_program.specs.CoreView.{core_of}
+use Rattle.pieces.specs.Resolved.CoreView.{core_of}
 use Rattle.c_elaborate.specs.Chains.{steps}
 use Rattle.c_elaborate.proofs.chains.joined.Given as goal
 

@@ -2,8 +2,8 @@ use Rattle.std.proofs.Common.{◌∙◌, ap, sym, arith}
 use Rattle.c_tree.specs.declared.expression.Expr.{Expr, size-Expr}
 use Rattle.c_tree.specs.declared.expression.Expr.TheViews.{sized-Unary, sized-Cast, sized-Binary, sized-Comma, sized-Assign}
 use Rattle.c_tree.specs.View.{tree_of}
-use Rattle.core_program.specs.Core.{row, argument_row}
-use Rattle.core_program.specs.CoreView.{core_of, core_argument_of}
+use Rattle.pieces.specs.Resolved.Core.{row, argument_row}
+use Rattle.pieces.specs.Resolved.CoreView.{core_of, core_argument_of}
 use Rattle.c_elaborate.specs.Expressions.{elaborated, argument_elaborated}
 use Rattle.c_elaborate.specs.Chains.{steps}
 use Rattle.c_elaborate.proofs.Chaining.{unary_more, cast_more, binary_more, comma_more, assign_more}

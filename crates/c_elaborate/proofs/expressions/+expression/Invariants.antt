@@ -2,7 +2,7 @@ use Rattle.std.proofs.Common.{◌≡◌, ◌++◌, ◌≤◌, map, drop}
 use Rattle.c_tree.specs.View.{tree_of}
 use Rattle.c_tree.specs.declared.expression.Expr.{Expr, size-Expr}
 use Rattle.c_elaborate.specs.Chains.{steps}
-use Rattle.core_program.specs.CoreView.{core_of, core_argument_of}
+use Rattle.pieces.specs.Resolved.CoreView.{core_of, core_argument_of}
 use Rattle.c_elaborate.specs.Expressions.{elaborated, argument_elaborated}
 use Rattle.c_elaborate.proofs.expressions.+expression.Given as goal
 

@@ -1,7 +1,7 @@
 use Rattle.std.proofs.Common.{◌≡◌, map, take}
 use Rattle.c_tree.specs.View.{action_of}
 use Rattle.c_tree.specs.declared.action.Action.{Action}
-use Rattle.core_program.specs.CoreView.{core_action_of}
+use Rattle.pieces.specs.Resolved.CoreView.{core_action_of}
 use Rattle.c_elaborate.specs.Expressions.{action_elaborated}
 use Rattle.c_elaborate.proofs.expressions.actions.Given as goal
 

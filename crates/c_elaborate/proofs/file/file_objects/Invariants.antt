@@ -2,7 +2,7 @@ use Rattle.std.proofs.Common.{◌≡◌, ◌++◌, map, drop}
 use Rattle.std.specs.Borrow.{Bor}
 use Rattle.c_tree.specs.View.{object_of}
 use Rattle.c_tree.specs.declared.object.Object.{Object}
-use Rattle.core_program.specs.CoreView.{file_object_of}
+use Rattle.pieces.specs.Resolved.CoreView.{file_object_of}
 use Rattle.c_elaborate.specs.Programs.{file_object}
 use Rattle.c_elaborate.proofs.file.file_objects.Given as goal
 

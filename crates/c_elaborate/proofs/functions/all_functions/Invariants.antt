@@ -1,6 +1,6 @@
 use Rattle.std.proofs.Common.{◌≡◌, ◌++◌, map, drop}
 use Rattle.c_tree.specs.View.{item_of}
-use Rattle.core_program.specs.CoreView.{core_function_of}
+use Rattle.pieces.specs.Resolved.CoreView.{core_function_of}
 use Rattle.c_elaborate.specs.Programs.{functions_elaborated}
 use Rattle.c_elaborate.proofs.functions.all_functions.Given as goal
 

@@ -1,6 +1,6 @@
 use Rattle.std.proofs.Common.{◌≡◌, ◌++◌, map, drop}
 use Rattle.std.specs.Option.{option_map}
-use Rattle.core_program.specs.CoreView.{core_of}
+use Rattle.pieces.specs.Resolved.CoreView.{core_of}
 use Rattle.c_elaborate.specs.Expressions.{elaborated}
 use Rattle.c_elaborate.specs.Items.{trees_in}
 use Rattle.c_elaborate.proofs.initialisers.elements.Given as goal

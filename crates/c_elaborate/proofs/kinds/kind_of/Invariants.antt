@@ -1,5 +1,5 @@
 use Rattle.std.proofs.Common.{◌≡◌}
-use Rattle.core_program.specs.CoreView.{core_of}
+use Rattle.pieces.specs.Resolved.CoreView.{core_of}
 use Rattle.c_elaborate.specs.Expressions.{kind_of as spec_kind_of}
 use Rattle.c_elaborate.proofs.kinds.kind_of.Given as goal
 

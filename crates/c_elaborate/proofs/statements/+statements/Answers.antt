@@ -4,8 +4,8 @@ use Rattle.c_tree.specs.declared.statement.Stmt.{Stmt}
 use Rattle.c_tree.specs.Tree.{StmtTree, ObjectTree}
 use Rattle.c_tree.specs.View.{tree_of, stmt_of, stmts_of, action_of, else_of, else_part, first_part, object_of}
 use Rattle.c_meaning.specs.Store.{declared_by, declared_in, declared_first}
-use Rattle.core_program.specs.Core as core
-use Rattle.core_program.specs.CoreView.{core_of, core_object_of, core_stmt_of, core_action_of}
+use Rattle.pieces.specs.Resolved.Core as core
+use Rattle.pieces.specs.Resolved.CoreView.{core_of, core_object_of, core_stmt_of, core_action_of}
 use Rattle.c_elaborate.specs.Objects.{object_elaborated, objects_of, first_objects}
 use Rattle.c_elaborate.specs.Scenes.{opened, labelled_by, all_declared, returned}
 use Rattle.c_elaborate.specs.Expressions.{elaborated, action_elaborated}

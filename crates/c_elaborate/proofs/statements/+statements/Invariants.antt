@@ -1,7 +1,7 @@
 use Rattle.std.proofs.Common.{◌≡◌, ◌++◌, map, drop, length}
 use Rattle.c_tree.specs.View.{stmts_of}
 use Rattle.c_meaning.specs.Store.{declared_in}
-use Rattle.core_program.specs.CoreView.{core_object_of}
+use Rattle.pieces.specs.Resolved.CoreView.{core_object_of}
 use Rattle.c_elaborate.specs.Objects.{object_elaborated, objects_within}
 use Rattle.c_elaborate.specs.Scenes.{all_declared}
 use Rattle.c_elaborate.specs.Statements.{statements}

@@ -1,6 +1,6 @@
 use Rattle.std.proofs.Common.{◌≡◌, ◌++◌, map, drop}
 use Rattle.c_tree.specs.View.{object_of}
-use Rattle.core_program.specs.CoreView.{core_stmt_of}
+use Rattle.pieces.specs.Resolved.CoreView.{core_stmt_of}
 use Rattle.c_elaborate.specs.Scenes.{all_declared}
 use Rattle.c_elaborate.specs.Statements.{declarations}
 use Rattle.c_elaborate.proofs.statements.add_declarations.Given as goal

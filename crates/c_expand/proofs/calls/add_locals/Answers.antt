@@ -1,5 +1,5 @@
 use Rattle.std.proofs.Common.{ap, List}
-use Rattle.core_program.specs.Core.{CoreObjectTree}
+use Rattle.pieces.specs.Resolved.Core.{CoreObjectTree}
 use Rattle.piece_making.specs.Stocks.{stock, state_of}
 use Rattle.c_expand.specs.Expansion.{locals}
 use Rattle.c_expand.proofs.Leading.{made_as}

@@ -1,6 +1,6 @@
 use Rattle.std.proofs.Common.{ap, List, [], map}
-use Rattle.core_program.specs.declared.program.CoreObject.{CoreObject}
-use Rattle.core_program.specs.CoreView.{core_object_of}
+use Rattle.pieces.specs.declared.resolved.program.CoreObject.{CoreObject}
+use Rattle.pieces.specs.Resolved.CoreView.{core_object_of}
 use Rattle.piece_making.specs.Stocks.{stock, state_of}
 use Rattle.piece_making.proofs.Exits.{through}
 use Rattle.piece_making.proofs.Parts.{made_behind, heavy_at_once}

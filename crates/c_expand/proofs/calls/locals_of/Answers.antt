@@ -1,6 +1,6 @@
 use Rattle.std.proofs.Common.{ap, ◌∙◌, List, map, drop}
-use Rattle.core_program.specs.declared.program.CoreObject.{CoreObject}
-use Rattle.core_program.specs.CoreView.{core_object_of}
+use Rattle.pieces.specs.declared.resolved.program.CoreObject.{CoreObject}
+use Rattle.pieces.specs.Resolved.CoreView.{core_object_of}
 use Rattle.c_expand.proofs.Homes.{rest_of_objects}
 use Rattle.c_expand.proofs.calls.locals_of.Goals as goal
 

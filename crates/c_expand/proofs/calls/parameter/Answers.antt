@@ -1,7 +1,7 @@
 use Rattle.piece_making.proofs.Exits.{through}
 use Rattle.piece_making.proofs.Parts.{made_behind, nothing_made, heavy_at_once, heavy_behind}
 use Rattle.pieces.specs.View.{pure_of}
-use Rattle.core_program.specs.CoreView.{core_object_of}
+use Rattle.pieces.specs.Resolved.CoreView.{core_object_of}
 use Rattle.c_expand.specs.Expressions as e
 use Rattle.c_expand.specs.Expressions.{Given}
 use Rattle.c_expand.specs.Expansion.{parameter}

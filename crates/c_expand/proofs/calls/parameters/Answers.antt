@@ -1,7 +1,7 @@
 use Rattle.std.proofs.Common.{rules, arith, ap, subst, ◌≡◌, length, map, Some}
 use Rattle.std.specs.Prelude.{slice_get}
 use Rattle.std.specs.Vec.Iter.{into_iter_items, into_iter_steps}
-use Rattle.core_program.specs.CoreView.{core_object_of}
+use Rattle.pieces.specs.Resolved.CoreView.{core_object_of}
 use Rattle.piece_making.proofs.Exits.{through}
 use Rattle.c_expand.proofs.Homes.{given_turn, given_heavy, given_end}
 use Rattle.c_expand.proofs.calls.parameters.Goals as goal

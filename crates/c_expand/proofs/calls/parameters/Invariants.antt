@@ -1,6 +1,6 @@
 use Rattle.std.proofs.Common.{◌≡◌, [], map, drop, length}
 use Rattle.std.specs.Vec.Iter.{into_iter_items, into_iter_len}
-use Rattle.core_program.specs.CoreView.{core_object_of}
+use Rattle.pieces.specs.Resolved.CoreView.{core_object_of}
 use Rattle.piece_making.specs.Stocks.{stock, state_of}
 use Rattle.c_expand.specs.Callees.{given_of}
 use Rattle.c_expand.specs.Expansion.{parameters}

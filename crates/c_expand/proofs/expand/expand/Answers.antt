@@ -1,5 +1,5 @@
 use Rattle.std.proofs.Common.{ap, refl}
-use Rattle.core_program.specs.CoreView.{core_function_of, core_program_of}
+use Rattle.pieces.specs.Resolved.CoreView.{core_function_of, core_program_of}
 use Rattle.pieces.specs.Trees.{piece_row}
 use Rattle.piece_making.specs.Stocks.{stock}
 use Rattle.piece_making.proofs.Exits.{through}

@@ -1,5 +1,5 @@
 use Rattle.std.proofs.Common.{[], map, drop}
-use Rattle.core_program.specs.CoreView.{file_object_of}
+use Rattle.pieces.specs.Resolved.CoreView.{file_object_of}
 use Rattle.piece_making.specs.Stocks.{stock, state_of}
 use Rattle.c_expand.specs.Expansion.{kept_scalars}
 use Rattle.c_expand.proofs.Leading.{Leads}

@@ -1,5 +1,5 @@
 use Rattle.std.proofs.Common.{rules, ◌≡◌, false}
-use Rattle.core_program.specs.CoreView.{core_object_of}
+use Rattle.pieces.specs.Resolved.CoreView.{core_object_of}
 use Rattle.piece_making.proofs.Parts.{made_behind, nothing_made}
 use Rattle.c_expand.specs.Expansion.{is_array}
 use Rattle.c_expand.proofs.Leading.{second_made}

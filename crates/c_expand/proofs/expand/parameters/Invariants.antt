@@ -1,5 +1,5 @@
 use Rattle.std.proofs.Common.{[], map, drop}
-use Rattle.core_program.specs.CoreView.{core_object_of}
+use Rattle.pieces.specs.Resolved.CoreView.{core_object_of}
 use Rattle.piece_making.specs.Stocks.{stock, state_of}
 use Rattle.c_expand.specs.Expansion.{top_parameters}
 use Rattle.c_expand.proofs.Leading.{Leads}

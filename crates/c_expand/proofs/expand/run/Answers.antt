@@ -1,8 +1,8 @@
 use Rattle.std.proofs.Common.{◌∙◌, ℕ, List, [], map, ap}
 use Rattle.hls_base.specs.declared.number.Kept.{Kept}
 use Rattle.hls_base.specs.declared.number.VarId.{VarId}
-use Rattle.core_program.specs.declared.program.FileObject.{FileObject}
-use Rattle.core_program.specs.CoreView.{file_object_of, core_function_of}
+use Rattle.pieces.specs.declared.resolved.program.FileObject.{FileObject}
+use Rattle.pieces.specs.Resolved.CoreView.{file_object_of, core_function_of}
 use Rattle.piece_making.specs.Stocks.{stock, state_of}
 use Rattle.piece_making.proofs.Exits.{through}
 use Rattle.piece_making.proofs.Parts.{made_behind, heavy_at_once, heavy_behind}

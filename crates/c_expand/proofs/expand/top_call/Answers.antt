@@ -1,5 +1,5 @@
 use Rattle.std.proofs.Common.{◌≡◌, ◌∙◌, length, arith}
-use Rattle.core_program.specs.CoreView.{core_function_of}
+use Rattle.pieces.specs.Resolved.CoreView.{core_function_of}
 use Rattle.piece_making.proofs.Exits.{through}
 use Rattle.piece_making.proofs.Parts.{made_behind, nothing_made, heavy_at_once, heavy_behind}
 use Rattle.c_expand.proofs.Leading.{made_as, heavy_as}

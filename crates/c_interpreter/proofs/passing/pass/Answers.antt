@@ -1,4 +1,4 @@
-use Rattle.c_frames.specs.Shown.{step_of}
+use Rattle.c_machine.specs.Waiting.Shown.{step_of}
 use Rattle.c_moves.specs.Machines.{configuration_of}
 use Rattle.c_machine.proofs.Keeping.{keeps-counted}
 use Rattle.c_interpreter.proofs.passing.pass.Goals as goal

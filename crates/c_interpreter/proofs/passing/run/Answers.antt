@@ -1,5 +1,5 @@
 use Rattle.std.proofs.Common.{ap, ◌+◌, arith}
-use Rattle.c_state.specs.Reading.{Reading}
+use Rattle.c_machine.specs.State.Reading.{Reading}
 use Rattle.c_moves.specs.Machines.{configuration_of}
 use Rattle.c_machine.proofs.Keeping.{keeps-same, keeps-both}
 use Rattle.c_interpreter.proofs.passing.run.Goals as goal

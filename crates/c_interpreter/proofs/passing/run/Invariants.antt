@@ -2,7 +2,7 @@ use Rattle.std.proofs.Common.{◌≡◌, ◌+◌, ◌≤◌}
 use Rattle.c_machine.specs.Sound.{Sound}
 use Rattle.c_machine.specs.Shape.{Shaped}
 use Rattle.c_machine.specs.Following.{keeps_following}
-use Rattle.c_frames.specs.Shown.{is_resting}
+use Rattle.c_machine.specs.Waiting.Shown.{is_resting}
 use Rattle.c_moves.specs.Machines.{configuration_of}
 use Rattle.c_interpreter.proofs.passing.run.Given as goal
 

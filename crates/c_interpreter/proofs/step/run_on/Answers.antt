@@ -1,6 +1,6 @@
 use Rattle.std.proofs.Common.{◌≡◌, ◌∙◌, rules}
 use Rattle.c_machine.specs.Frames as f
-use Rattle.c_frames.specs.Shown.{step_of}
+use Rattle.c_machine.specs.Waiting.Shown.{step_of}
 use Rattle.c_moves.specs.Machines.{configuration_of}
 use Rattle.c_machine.proofs.Running.{moved-rest, moved-sound, moved-shaped, moved-meter, moved-less}
 use Rattle.c_interpreter.proofs.step.run_on.Goals as goal

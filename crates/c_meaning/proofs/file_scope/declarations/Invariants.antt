@@ -1,6 +1,6 @@
 use Rattle.std.proofs.Common.{◌≡◌, ◌++◌, map, drop}
 use Rattle.c_tree.specs.View.{item_of}
-use Rattle.c_checked.specs.Limits.{file_objects}
+use Rattle.c_meaning.specs.Checks.Limits.{file_objects}
 use Rattle.c_meaning.specs.Declarations.{objects_of}
 use Rattle.c_meaning.proofs.file_scope.declarations.Given as goal
 

@@ -2,7 +2,7 @@ use Rattle.std.proofs.Common.{◌≡◌, ◌<◌, map, drop}
 use Rattle.std.specs.List.{All}
 use Rattle.std.specs.Option.{option_map}
 use Rattle.c_tree.specs.View.{object_of, tree_of}
-use Rattle.c_checked.specs.Lengths.{usable, all_lengths, lengths_of, all_usable}
+use Rattle.c_meaning.specs.Checks.Lengths.{usable, all_lengths, lengths_of, all_usable}
 use Rattle.c_meaning.proofs.DimensionLengths.{before}
 use Rattle.c_meaning.proofs.lengths.all_lengths.Given as goal
 

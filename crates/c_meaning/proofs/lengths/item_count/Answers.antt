@@ -1,6 +1,6 @@
 use Rattle.std.proofs.Common.{◌≡◌, Some, ap, sym, ◌∙◌, length, arith}
 use Rattle.c_tree.specs.View.{init_of}
-use Rattle.c_checked.specs.Lengths.{items_in}
+use Rattle.c_meaning.specs.Checks.Lengths.{items_in}
 use Rattle.c_meaning.proofs.InitTrees.{items_of_list}
 use Rattle.c_meaning.proofs.lengths.item_count.Goals as goal
 

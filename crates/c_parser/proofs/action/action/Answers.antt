@@ -1,5 +1,5 @@
 use Rattle.std.proofs.Common.{sym}
-use Rattle.c_cursor.proofs.Exits.{through}
+use Rattle.c_parser.proofs.CursorLemmas.Exits.{through}
 use Rattle.c_parser.proofs.Actions.{action_found, unseparated_never, action_never}
 use Rattle.c_parser.proofs.action.action.Goals as goal
 

@@ -1,7 +1,7 @@
 use Rattle.std.proofs.Common.{◌∙◌, ap, arith, length, map}
 use Rattle.c_tree.specs.View.{action_of}
-use Rattle.c_cursor.proofs.Exits.{through}
-use Rattle.c_cursor.proofs.Readings.{grows_more, grows_last, grows_never, listed_more, listed_never, listed_closed, listed_unclosed, pushed}
+use Rattle.c_parser.proofs.CursorLemmas.Exits.{through}
+use Rattle.c_parser.proofs.CursorLemmas.Readings.{grows_more, grows_last, grows_never, listed_more, listed_never, listed_closed, listed_unclosed, pushed}
 use Rattle.c_parser.proofs.Actions.{comma_separates, closer_separates, closer_no_comma}
 use Rattle.c_parser.proofs.action.action_list.Goals as goal
 

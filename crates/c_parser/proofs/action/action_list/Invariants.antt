@@ -1,8 +1,8 @@
 use Rattle.std.proofs.Common.{◌≤◌, length, map}
 use Rattle.c_tree.specs.View.{action_of}
-use Rattle.c_cursor.specs.Readings.{Listed}
+use Rattle.c_parser.specs.Cursor.Readings.{Listed}
 use Rattle.c_parser.specs.Objects.{AnAction}
-use Rattle.c_cursor.proofs.Readings.{Grows}
+use Rattle.c_parser.proofs.CursorLemmas.Readings.{Grows}
 use Rattle.c_parser.proofs.action.action_list.Given as goal
 
 abbrev pub invariant-loop-all : goal.invariant-loop-all

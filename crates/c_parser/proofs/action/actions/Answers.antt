@@ -1,6 +1,6 @@
 use Rattle.std.proofs.Common.{ap, map}
 use Rattle.c_tree.specs.View.{action_of}
-use Rattle.c_cursor.proofs.Readings.{tail_found, tail_absent}
+use Rattle.c_parser.proofs.CursorLemmas.Readings.{tail_found, tail_absent}
 use Rattle.c_parser.proofs.Actions.{no_actions_found, actions_step}
 use Rattle.c_parser.proofs.action.actions.Goals as goal
 

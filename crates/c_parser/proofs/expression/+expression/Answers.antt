@@ -3,11 +3,11 @@ use Rattle.std.proofs.lemmas.Result.{IfOk-weaker}
 use Rattle.c_token.specs.declared.punct.Punct.TheVariants as p
 use Rattle.c_tree.specs.Terminals.{is_keyword}
 use Rattle.c_tree.specs.View.{tree_of}
-use Rattle.c_cursor.specs.Types.{opens_cast}
+use Rattle.c_parser.specs.Cursor.Types.{opens_cast}
 use Rattle.c_parser.specs.Chains.{all_assigned}
 use Rattle.c_parser.specs.declared.chain.Assigned.{Assigned}
-use Rattle.c_cursor.proofs.Exits.{IfAbsent-weaker, through}
-use Rattle.c_cursor.proofs.Readings.{step_none, step_more, step_found, step_never, tail_found, tail_absent, then_found, then_stuck, then_never, apart_found, apart_stuck, apart_never, grows_more, grows_last, grows_never, listed_more, listed_never, listed_closed, listed_unclosed, pushed, sign_apart, repeated_more, repeated_never, sign_found}
+use Rattle.c_parser.proofs.CursorLemmas.Exits.{IfAbsent-weaker, through}
+use Rattle.c_parser.proofs.CursorLemmas.Readings.{step_none, step_more, step_found, step_never, tail_found, tail_absent, then_found, then_stuck, then_never, apart_found, apart_stuck, apart_never, grows_more, grows_last, grows_never, listed_more, listed_never, listed_closed, listed_unclosed, pushed, sign_apart, repeated_more, repeated_never, sign_found}
 use Rattle.c_parser.proofs.Chains.{Groups, chain_first, chain_first_never, chain_more, chain_never, chain_last, assigned_last}
 use Rattle.c_parser.proofs.Operands.{number_found, keyword_never, sign_never_here, named_step, group_step, call_step, alone_step, target_found, target_absent, target_never, bump_found, bump_absent, bump_none, postfix_never, prefix_step, bump_step, cast_step, bare_step, chosen_step, unchosen_found, either_never, set_step, set_absent, unset_found, setting_never, closes_apart}
 use Rattle.c_parser.proofs.Subscripts.{arguments_step, no_arguments, signs_step, no_stop, subscripts_end, subscripts_apart, comma_ends, paren_ends, paren_no_comma}

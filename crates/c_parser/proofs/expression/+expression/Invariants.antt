@@ -2,9 +2,9 @@ use Rattle.std.proofs.Common.{◌+◌, ◌*◌, ◌<◌, ◌≤◌, length, map}
 use Rattle.c_token.specs.declared.punct.Punct.TheVariants as p
 use Rattle.c_tree.specs.View.{tree_of}
 use Rattle.c_parser.specs.Chains.{all_assigned}
-use Rattle.c_cursor.specs.Readings.{Listed, Ends}
+use Rattle.c_parser.specs.Cursor.Readings.{Listed, Ends}
 use Rattle.c_parser.specs.Expressions.{Expression}
-use Rattle.c_cursor.proofs.Readings.{Grows, Step}
+use Rattle.c_parser.proofs.CursorLemmas.Readings.{Grows, Step}
 use Rattle.c_parser.proofs.Chains.{Runs}
 use Rattle.c_parser.proofs.Subscripts.{SubscriptSigns}
 use Rattle.c_parser.proofs.expression.+expression.Given as goal

@@ -1,6 +1,6 @@
 use Rattle.std.proofs.Common.{refl}
-use Rattle.c_cursor.proofs.Exits.{through}
-use Rattle.c_cursor.proofs.Readings.{step_found, step_never}
+use Rattle.c_parser.proofs.CursorLemmas.Exits.{through}
+use Rattle.c_parser.proofs.CursorLemmas.Readings.{step_found, step_never}
 use Rattle.c_parser.proofs.FunctionForms.{declared_found, defined_step}
 use Rattle.c_parser.proofs.function.definition.Goals as goal
 

@@ -1,6 +1,6 @@
 use Rattle.std.proofs.Common.{refl}
-use Rattle.c_cursor.proofs.Exits.{through}
-use Rattle.c_cursor.proofs.Readings.{then_found, then_stuck, then_never}
+use Rattle.c_parser.proofs.CursorLemmas.Exits.{through}
+use Rattle.c_parser.proofs.CursorLemmas.Readings.{then_found, then_stuck, then_never}
 use Rattle.c_parser.proofs.FunctionForms.{name_found, name_never, function_whole}
 use Rattle.c_parser.proofs.function.function.Goals as goal
 

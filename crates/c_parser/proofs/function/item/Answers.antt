@@ -1,6 +1,6 @@
 use Rattle.std.proofs.Common.{sym, refl, arith}
-use Rattle.c_cursor.proofs.Exits.{through}
-use Rattle.c_cursor.proofs.Readings.{step_found, step_never, apart_found, apart_stuck, apart_never}
+use Rattle.c_parser.proofs.CursorLemmas.Exits.{through}
+use Rattle.c_parser.proofs.CursorLemmas.Readings.{step_found, step_never, apart_found, apart_stuck, apart_never}
 use Rattle.c_parser.proofs.FunctionForms.{bare_step, passed_step, passed_shorter, items_same, items_then, item_apart, function_step, objects_step, void_objects_never}
 use Rattle.c_parser.proofs.function.item.Goals as goal
 

@@ -1,7 +1,7 @@
 use Rattle.std.proofs.Common.{◌≤◌, length}
-use Rattle.c_cursor.specs.Readings.{Anywhere}
+use Rattle.c_parser.specs.Cursor.Readings.{Anywhere}
 use Rattle.c_parser.specs.Functions.{AnItem}
-use Rattle.c_cursor.proofs.Readings.{Step}
+use Rattle.c_parser.proofs.CursorLemmas.Readings.{Step}
 use Rattle.c_parser.proofs.function.item.Given as goal
 
 abbrev pub invariant-loop : goal.invariant-loop

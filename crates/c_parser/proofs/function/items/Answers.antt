@@ -1,7 +1,7 @@
 use Rattle.std.proofs.Common.{◌∙◌, ap, sym, map, append-nil}
 use Rattle.c_tree.specs.View.{item_of}
-use Rattle.c_cursor.proofs.Exits.{through}
-use Rattle.c_cursor.proofs.Readings.{grows_more, grows_last, grows_never, repeated_more, repeated_never, pushed}
+use Rattle.c_parser.proofs.CursorLemmas.Exits.{through}
+use Rattle.c_parser.proofs.CursorLemmas.Readings.{grows_more, grows_last, grows_never, repeated_more, repeated_never, pushed}
 use Rattle.c_parser.proofs.FunctionForms.{items_end, items_go_on, items_apart}
 use Rattle.c_parser.proofs.function.items.Goals as goal
 

@@ -1,7 +1,7 @@
 use Rattle.std.proofs.Common.{length, map}
 use Rattle.c_tree.specs.View.{item_of}
 use Rattle.c_parser.specs.Functions.{Items}
-use Rattle.c_cursor.proofs.Readings.{Grows}
+use Rattle.c_parser.proofs.CursorLemmas.Readings.{Grows}
 use Rattle.c_parser.proofs.function.items.Given as goal
 
 abbrev pub invariant-loop-token : goal.invariant-loop-token

@@ -1,6 +1,6 @@
 use Rattle.c_tree.specs.View.{param_of}
-use Rattle.c_cursor.proofs.Exits.{through}
-use Rattle.c_cursor.proofs.Readings.{step_never, loose_never, loose_step, tail_found, tail_absent}
+use Rattle.c_parser.proofs.CursorLemmas.Exits.{through}
+use Rattle.c_parser.proofs.CursorLemmas.Readings.{step_never, loose_never, loose_step, tail_found, tail_absent}
 use Rattle.c_parser.proofs.FunctionForms.{param_step, param_apart, no_param_here}
 use Rattle.c_parser.proofs.function.param.Goals as goal
 

@@ -1,7 +1,7 @@
 use Rattle.std.proofs.Common.{ap, map}
 use Rattle.c_tree.specs.View.{param_of}
-use Rattle.c_cursor.proofs.Exits.{through}
-use Rattle.c_cursor.proofs.Readings.{step_found, step_never, tail_found, tail_absent}
+use Rattle.c_parser.proofs.CursorLemmas.Exits.{through}
+use Rattle.c_parser.proofs.CursorLemmas.Readings.{step_found, step_never, tail_found, tail_absent}
 use Rattle.c_parser.proofs.FunctionForms.{no_params_found, void_step, params_step}
 use Rattle.c_parser.proofs.function.params.Goals as goal
 

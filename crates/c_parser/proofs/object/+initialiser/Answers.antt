@@ -1,7 +1,7 @@
 use Rattle.std.proofs.Common.{◌∙◌, ap, refl, arith, map}
 use Rattle.c_tree.specs.View.{init_of}
-use Rattle.c_cursor.proofs.Exits.{through}
-use Rattle.c_cursor.proofs.Readings.{step_found, step_never, grows_more, grows_last, grows_never, pushed}
+use Rattle.c_parser.proofs.CursorLemmas.Exits.{through}
+use Rattle.c_parser.proofs.CursorLemmas.Readings.{step_found, step_never, grows_more, grows_last, grows_never, pushed}
 use Rattle.c_parser.proofs.Initialisers.{brace_step, single_step, items_step, items_more, items_last, items_stuck, items_never}
 use Rattle.c_parser.proofs.object.+initialiser.Goals as goal
 

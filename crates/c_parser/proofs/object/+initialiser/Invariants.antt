@@ -1,6 +1,6 @@
 use Rattle.std.proofs.Common.{◌+◌, ◌*◌, ◌≤◌, length, map}
 use Rattle.c_tree.specs.View.{init_of}
-use Rattle.c_cursor.proofs.Readings.{Grows}
+use Rattle.c_parser.proofs.CursorLemmas.Readings.{Grows}
 use Rattle.c_parser.proofs.Initialisers.{InitList}
 use Rattle.c_parser.proofs.object.+initialiser.Given as goal
 

@@ -1,7 +1,7 @@
 use Rattle.std.proofs.Common.{map}
 use Rattle.c_tree.specs.View.{object_of}
-use Rattle.c_cursor.proofs.Exits.{through}
-use Rattle.c_cursor.proofs.Readings.{step_never, apart_never, tail_found, tail_absent, apart_step}
+use Rattle.c_parser.proofs.CursorLemmas.Exits.{through}
+use Rattle.c_parser.proofs.CursorLemmas.Readings.{step_never, apart_never, tail_found, tail_absent, apart_step}
 use Rattle.c_parser.proofs.Declarations.{declaration_step, objects_apart}
 use Rattle.c_parser.proofs.object.declaration.Goals as goal
 

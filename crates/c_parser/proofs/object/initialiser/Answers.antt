@@ -1,6 +1,6 @@
 use Rattle.std.proofs.Common.{refl}
-use Rattle.c_cursor.proofs.Exits.{through}
-use Rattle.c_cursor.proofs.Readings.{step_found, step_never}
+use Rattle.c_parser.proofs.CursorLemmas.Exits.{through}
+use Rattle.c_parser.proofs.CursorLemmas.Readings.{step_found, step_never}
 use Rattle.c_parser.proofs.Initialisers.{equal_step, no_initialiser_found}
 use Rattle.c_parser.proofs.object.initialiser.Goals as goal
 

@@ -1,8 +1,8 @@
 use Rattle.std.proofs.Common.{◌∙◌, sym, ap, refl, arith, length, map, append-nil}
 use Rattle.std.specs.Option.{option_map}
 use Rattle.c_tree.specs.View.{tree_of}
-use Rattle.c_cursor.proofs.Exits.{through}
-use Rattle.c_cursor.proofs.Readings.{step_found, step_never, then_found, then_stuck, grows_more, grows_last, grows_never, pushed, repeated_more, repeated_never, sign_found}
+use Rattle.c_parser.proofs.CursorLemmas.Exits.{through}
+use Rattle.c_parser.proofs.CursorLemmas.Readings.{step_found, step_never, then_found, then_stuck, grows_more, grows_last, grows_never, pushed, repeated_more, repeated_never, sign_found}
 use Rattle.c_parser.proofs.Optionals.{lengths_step, no_more_lengths, lengths_end, lengths_apart}
 use Rattle.c_parser.proofs.object.lengths.Goals as goal
 

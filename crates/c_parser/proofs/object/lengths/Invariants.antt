@@ -1,7 +1,7 @@
 use Rattle.std.proofs.Common.{◌≤◌, length, map}
 use Rattle.std.specs.Option.{option_map}
 use Rattle.c_tree.specs.View.{tree_of}
-use Rattle.c_cursor.proofs.Readings.{Grows}
+use Rattle.c_parser.proofs.CursorLemmas.Readings.{Grows}
 use Rattle.c_parser.proofs.Optionals.{LengthSigns}
 use Rattle.c_parser.proofs.object.lengths.Given as goal
 

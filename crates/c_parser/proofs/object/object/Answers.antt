@@ -1,8 +1,8 @@
 use Rattle.std.proofs.Common.{ap, refl, map}
 use Rattle.std.specs.Option.{option_map}
 use Rattle.c_tree.specs.View.{tree_of, init_of}
-use Rattle.c_cursor.proofs.Exits.{through}
-use Rattle.c_cursor.proofs.Readings.{step_found, step_never, loose_found, loose_stuck, loose_never}
+use Rattle.c_parser.proofs.CursorLemmas.Exits.{through}
+use Rattle.c_parser.proofs.CursorLemmas.Readings.{step_found, step_never, loose_found, loose_stuck, loose_never}
 use Rattle.c_parser.proofs.Initialisers.{initialiser_apart}
 use Rattle.c_parser.proofs.Declarations.{object_with, object_step, nameless_never}
 use Rattle.c_parser.proofs.object.object.Goals as goal

@@ -1,8 +1,8 @@
 use Rattle.std.proofs.Common.{◌∙◌, ap, arith, length, map}
 use Rattle.c_token.specs.declared.punct.Punct.TheVariants as p
 use Rattle.c_tree.specs.View.{object_of}
-use Rattle.c_cursor.proofs.Exits.{through}
-use Rattle.c_cursor.proofs.Readings.{grows_more, grows_last, grows_never, listed_more, listed_never, listed_closed, listed_unclosed, pushed}
+use Rattle.c_parser.proofs.CursorLemmas.Exits.{through}
+use Rattle.c_parser.proofs.CursorLemmas.Readings.{grows_more, grows_last, grows_never, listed_more, listed_never, listed_closed, listed_unclosed, pushed}
 use Rattle.c_parser.proofs.Subscripts.{comma_ends}
 use Rattle.c_parser.proofs.Declarations.{semicolon_ends, semicolon_no_comma}
 use Rattle.c_parser.proofs.object.objects.Goals as goal

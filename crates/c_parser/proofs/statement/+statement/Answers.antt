@@ -1,10 +1,10 @@
 use Rattle.std.proofs.Common.{◌∙◌, [], ◌∷◌, sym, ap, subst, refl, arith, length, map, append-nil}
 use Rattle.c_tree.specs.Grammar.{ends_open}
 use Rattle.c_tree.specs.View.{stmt_of}
-use Rattle.c_cursor.specs.Readings.{Never, Anywhere}
+use Rattle.c_parser.specs.Cursor.Readings.{Never, Anywhere}
 use Rattle.c_parser.specs.Statements.{BodyUpTo}
-use Rattle.c_cursor.proofs.Exits.{through}
-use Rattle.c_cursor.proofs.Readings.{step_found, step_never, tail_found, tail_absent, then_found, then_stuck, then_never, apart_found, apart_stuck, apart_never, apart_step, Grows, grows_none, grows_more, grows_last, grows_never, repeated_more, repeated_never, pushed}
+use Rattle.c_parser.proofs.CursorLemmas.Exits.{through}
+use Rattle.c_parser.proofs.CursorLemmas.Readings.{step_found, step_never, tail_found, tail_absent, then_found, then_stuck, then_never, apart_found, apart_stuck, apart_never, apart_step, Grows, grows_none, grows_more, grows_last, grows_never, repeated_more, repeated_never, pushed}
 use Rattle.c_parser.proofs.StatementForms.{body_apart}
 use Rattle.c_parser.proofs.StatementSteps.{found_any, never_any, keyword_step, block_step, act_step, block_parts_step, local_objects_step, local_statement_step, body_end, body_goes_on, else_step, one_found, branches_never, no_else_fits, do_apart, at_keyword_found, at_keyword_absent}
 use Rattle.c_parser.proofs.statement.+statement.Goals as goal

@@ -1,7 +1,7 @@
 use Rattle.std.proofs.Common.{◌+◌, ◌*◌, ◌≤◌, length, map}
 use Rattle.c_tree.specs.View.{stmt_of}
 use Rattle.c_parser.specs.Statements.{BodyUpTo}
-use Rattle.c_cursor.proofs.Readings.{Grows}
+use Rattle.c_parser.proofs.CursorLemmas.Readings.{Grows}
 use Rattle.c_parser.proofs.statement.+statement.Given as goal
 
 -- A call takes a token, or goes to a smaller part.

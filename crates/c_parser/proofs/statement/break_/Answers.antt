@@ -1,6 +1,6 @@
 use Rattle.std.proofs.Common.{ap}
 use Rattle.c_tree.specs.Grammar.{ends_open}
-use Rattle.c_cursor.proofs.Exits.{through}
+use Rattle.c_parser.proofs.CursorLemmas.Exits.{through}
 use Rattle.c_parser.proofs.StatementSteps.{ended_found, ended_never}
 use Rattle.c_parser.proofs.statement.break_.Goals as goal
 

@@ -1,6 +1,6 @@
 use Rattle.c_tree.specs.View.{tree_of}
-use Rattle.c_cursor.proofs.Exits.{through}
-use Rattle.c_cursor.proofs.Readings.{then_never, apart_step, tail_found, tail_absent}
+use Rattle.c_parser.proofs.CursorLemmas.Exits.{through}
+use Rattle.c_parser.proofs.CursorLemmas.Readings.{then_never, apart_step, tail_found, tail_absent}
 use Rattle.c_parser.proofs.statement.condition.Goals as goal
 
 pub returns-in_err-expect-clause-absent : goal.returns-in_err-expect-clause-absent

@@ -1,6 +1,6 @@
 use Rattle.std.proofs.Common.{refl}
-use Rattle.c_cursor.proofs.Exits.{through}
-use Rattle.c_cursor.proofs.Readings.{then_found, then_never, then_stuck}
+use Rattle.c_parser.proofs.CursorLemmas.Exits.{through}
+use Rattle.c_parser.proofs.CursorLemmas.Readings.{then_found, then_never, then_stuck}
 use Rattle.c_parser.proofs.statement.do_tail.Goals as goal
 
 pub returns-in_err-expect_word-clause-absent : goal.returns-in_err-expect_word-clause-absent

@@ -1,7 +1,7 @@
 use Rattle.std.proofs.Common.{ap, sym}
 use Rattle.c_tree.specs.Tree as tree
-use Rattle.c_cursor.proofs.Exits.{through}
-use Rattle.c_cursor.proofs.Readings.{step_found, step_never}
+use Rattle.c_parser.proofs.CursorLemmas.Exits.{through}
+use Rattle.c_parser.proofs.CursorLemmas.Readings.{step_found, step_never}
 use Rattle.c_parser.proofs.StatementSteps.{first_none, first_objects_step, first_actions_step}
 use Rattle.c_parser.proofs.statement.first.Goals as goal
 

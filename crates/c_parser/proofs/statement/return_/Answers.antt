@@ -1,7 +1,7 @@
 use Rattle.std.proofs.Common.{ap}
 use Rattle.c_tree.specs.Grammar.{ends_open}
-use Rattle.c_cursor.proofs.Exits.{through}
-use Rattle.c_cursor.proofs.Readings.{step_found, step_never}
+use Rattle.c_parser.proofs.CursorLemmas.Exits.{through}
+use Rattle.c_parser.proofs.CursorLemmas.Readings.{step_found, step_never}
 use Rattle.c_parser.proofs.StatementSteps.{returned_step}
 use Rattle.c_parser.proofs.statement.return_.Goals as goal
 

@@ -1,9 +1,9 @@
 use Rattle.std.proofs.Common.{◌≡◌, true, List, [], ◌∷◌, drop, refl, sym, ap, ◌∙◌}
 use Rattle.c_tree.specs.Tree as tree
 use Rattle.c_tree.specs.View.{trees_of}
-use Rattle.c_checked.specs.Names.{Shape, Declared}
-use Rattle.c_checked.specs.Calls.{all_fit}
-use Rattle.c_declarations.proofs.Lists.{drop_beyond}
+use Rattle.c_meaning.specs.Checks.Names.{Shape, Declared}
+use Rattle.c_meaning.specs.Checks.Calls.{all_fit}
+use Rattle.c_names.proofs.DeclarationsLemmas.Lists.{drop_beyond}
 use Rattle.c_types.proofs.calls.all_fit.Goals as goal
 
 none_fit : (names : List Declared) (params : List Shape) → true ≡ all_fit names params tree.none

@@ -1,6 +1,6 @@
 use Rattle.std.proofs.Common.{◌≡◌, drop}
 use Rattle.c_tree.specs.View.{trees_of}
-use Rattle.c_checked.specs.Calls.{all_fit}
+use Rattle.c_meaning.specs.Checks.Calls.{all_fit}
 use Rattle.c_types.proofs.calls.all_fit.Given as goal
 
 abbrev pub invariant-loop-i : goal.invariant-loop-i

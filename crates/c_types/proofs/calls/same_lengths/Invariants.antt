@@ -1,5 +1,5 @@
 use Rattle.std.proofs.Common.{◌≡◌, drop, length}
-use Rattle.c_checked.specs.Calls.{same_lengths}
+use Rattle.c_meaning.specs.Checks.Calls.{same_lengths}
 use Rattle.c_types.proofs.calls.same_lengths.Given as goal
 
 abbrev pub invariant-loop-i : goal.invariant-loop-i

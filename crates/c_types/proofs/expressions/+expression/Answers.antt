@@ -2,9 +2,9 @@ use Rattle.std.proofs.Common.{◌≡◌, true, false, [], ◌∷◌, ◌++◌, s
 use Rattle.c_tree.specs.declared.expression.Expr.{size-Expr}
 use Rattle.c_tree.specs.declared.expression.Expr.TheViews.{sized-Binary, sized-Comma, sized-Assign}
 use Rattle.c_tree.specs.View.{tree_of}
-use Rattle.c_checked.specs.Faults.{least}
-use Rattle.c_checked.specs.Conflicts.{accesses}
-use Rattle.c_checked.specs.Expressions.{expression_faults}
+use Rattle.c_meaning.specs.Checks.Faults.{least}
+use Rattle.c_meaning.specs.Checks.Conflicts.{accesses}
+use Rattle.c_meaning.specs.Checks.Expressions.{expression_faults}
 use Rattle.c_types.specs.declared.steps.Step.TheVariants as s
 use Rattle.c_types.specs.Chains.{found_of, steps}
 use Rattle.c_types.proofs.Chains.{binary_more, comma_more, assign_more}

@@ -2,9 +2,9 @@ use Rattle.std.proofs.Common.{◌≡◌, ◌++◌, ◌≤◌, [], drop}
 use Rattle.c_tree.specs.View.{tree_of, trees_of}
 use Rattle.c_tree.specs.declared.expression.Expr.{size-Expr}
 use Rattle.c_types.specs.Chains.{found_of, steps}
-use Rattle.c_checked.specs.Faults.{lesser, least}
-use Rattle.c_checked.specs.Conflicts.{all_accesses, conflicts_among}
-use Rattle.c_checked.specs.Expressions.{operand_faults}
+use Rattle.c_meaning.specs.Checks.Faults.{lesser, least}
+use Rattle.c_meaning.specs.Checks.Conflicts.{all_accesses, conflicts_among}
+use Rattle.c_meaning.specs.Checks.Expressions.{operand_faults}
 use Rattle.c_types.proofs.expressions.+expression.Given as goal
 
 abbrev pub invariant-all_operands-loop-i : goal.invariant-all_operands-loop-i

@@ -1,11 +1,11 @@
 use Rattle.std.proofs.Common.{◌≡◌, ◌++◌, is_some, map, length, sym, ap, ◌∙◌}
 use Rattle.c_tree.specs.View.{param_of, function_of, body_of}
-use Rattle.c_checked.specs.Faults.{least}
-use Rattle.c_checked.specs.Limits.{limit_faults, param_places, function_arrays}
-use Rattle.c_checked.specs.Statements.{with_params, params_faults, body_faults}
+use Rattle.c_meaning.specs.Checks.Faults.{least}
+use Rattle.c_meaning.specs.Checks.Limits.{limit_faults, param_places, function_arrays}
+use Rattle.c_meaning.specs.Checks.Statements.{with_params, params_faults, body_faults}
 use Rattle.c_types.proofs.Accepted.{body_some}
-use Rattle.c_declarations.proofs.Least.{join}
-use Rattle.c_declarations.proofs.StatementTrees.{extends_params, extends_more, extends_by, may_forget, has_forgotten}
+use Rattle.c_names.proofs.DeclarationsLemmas.Least.{join}
+use Rattle.c_names.proofs.DeclarationsLemmas.StatementTrees.{extends_params, extends_more, extends_by, may_forget, has_forgotten}
 use Rattle.c_types.proofs.functions.function_fault.Goals as goal
 
 pub forget-requires : goal.forget-requires

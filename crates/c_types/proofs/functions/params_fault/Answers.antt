@@ -1,7 +1,7 @@
 use Rattle.std.proofs.Common.{refl, map}
 use Rattle.c_tree.specs.View.{param_of}
-use Rattle.c_checked.specs.Statements.{param_faults, params_faults, with_param, with_params}
-use Rattle.c_declarations.proofs.Least.{least_thread, state_thread}
+use Rattle.c_meaning.specs.Checks.Statements.{param_faults, params_faults, with_param, with_params}
+use Rattle.c_names.proofs.DeclarationsLemmas.Least.{least_thread, state_thread}
 use Rattle.c_types.proofs.functions.params_fault.Goals as goal
 
 pub loop-param-preserved : goal.loop-param-preserved

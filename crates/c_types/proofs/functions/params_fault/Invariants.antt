@@ -1,7 +1,7 @@
 use Rattle.std.proofs.Common.{◌≡◌, drop, map}
 use Rattle.c_tree.specs.View.{param_of}
-use Rattle.c_checked.specs.Faults.{lesser, least}
-use Rattle.c_checked.specs.Statements.{params_faults, with_params}
+use Rattle.c_meaning.specs.Checks.Faults.{lesser, least}
+use Rattle.c_meaning.specs.Checks.Statements.{params_faults, with_params}
 use Rattle.c_types.proofs.functions.params_fault.Given as goal
 
 abbrev pub invariant-loop-param : goal.invariant-loop-param

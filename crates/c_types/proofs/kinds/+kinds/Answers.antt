@@ -3,7 +3,7 @@ use Rattle.c_tree.specs.View.{tree_of}
 use Rattle.c_value.specs.Operators.{binary_kind}
 use Rattle.c_value.specs.Chains.{left_of}
 use Rattle.c_value.proofs.Chaining.{one_less, no_operator, as_binary, as_left}
-use Rattle.c_checked.specs.Names.{kind_of}
+use Rattle.c_meaning.specs.Checks.Names.{kind_of}
 use Rattle.c_types.proofs.kinds.+kinds.Goals as goal
 
 pub kind_of-outwards-preserved-in-Binary : goal.kind_of-outwards-preserved-in-Binary

@@ -2,7 +2,7 @@ use Rattle.std.proofs.Common.{◌≡◌, ◌+◌, ◌*◌}
 use Rattle.c_tree.specs.View.{tree_of}
 use Rattle.c_tree.specs.declared.expression.Expr.{size-Expr}
 use Rattle.c_value.specs.Chains.{left_at}
-use Rattle.c_checked.specs.Names.{kind_of}
+use Rattle.c_meaning.specs.Checks.Names.{kind_of}
 use Rattle.c_types.proofs.kinds.+kinds.Given as goal
 
 abbrev pub decreases-kind_of_part : goal.decreases-kind_of_part

@@ -1,7 +1,7 @@
 use Rattle.std.proofs.Common.{refl}
 use Rattle.c_tree.specs.View.{init_of, inits_of}
-use Rattle.c_checked.specs.Expressions.{init_faults, inits_faults}
-use Rattle.c_declarations.proofs.Least.{least_loop}
+use Rattle.c_meaning.specs.Checks.Expressions.{init_faults, inits_faults}
+use Rattle.c_names.proofs.DeclarationsLemmas.Least.{least_loop}
 use Rattle.c_types.proofs.parts.+inits.Goals as goal
 
 pub inits_fault-loop-item-preserved : goal.inits_fault-loop-item-preserved

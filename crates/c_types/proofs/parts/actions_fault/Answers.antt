@@ -1,7 +1,7 @@
 use Rattle.std.proofs.Common.{refl, map, false}
 use Rattle.c_tree.specs.View.{action_of}
-use Rattle.c_checked.specs.Expressions.{expression_faults, expression_of, actions_faults}
-use Rattle.c_declarations.proofs.Least.{least_loop}
+use Rattle.c_meaning.specs.Checks.Expressions.{expression_faults, expression_of, actions_faults}
+use Rattle.c_names.proofs.DeclarationsLemmas.Least.{least_loop}
 use Rattle.c_types.proofs.parts.actions_fault.Goals as goal
 
 pub loop-action-preserved : goal.loop-action-preserved

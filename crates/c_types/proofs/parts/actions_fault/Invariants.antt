@@ -1,7 +1,7 @@
 use Rattle.std.proofs.Common.{◌≡◌, drop, map}
 use Rattle.c_tree.specs.View.{action_of}
-use Rattle.c_checked.specs.Faults.{lesser, least}
-use Rattle.c_checked.specs.Expressions.{actions_faults}
+use Rattle.c_meaning.specs.Checks.Faults.{lesser, least}
+use Rattle.c_meaning.specs.Checks.Expressions.{actions_faults}
 use Rattle.c_types.proofs.parts.actions_fault.Given as goal
 
 abbrev pub invariant-loop-action : goal.invariant-loop-action

@@ -1,8 +1,8 @@
 use Rattle.std.proofs.Common.{refl, map}
 use Rattle.std.specs.Option.{option_map}
 use Rattle.c_tree.specs.View.{tree_of}
-use Rattle.c_checked.specs.Expressions.{optional_faults, lengths_faults}
-use Rattle.c_declarations.proofs.Least.{least_loop}
+use Rattle.c_meaning.specs.Checks.Expressions.{optional_faults, lengths_faults}
+use Rattle.c_names.proofs.DeclarationsLemmas.Least.{least_loop}
 use Rattle.c_types.proofs.parts.lengths_fault.Goals as goal
 
 pub loop-length-preserved : goal.loop-length-preserved

@@ -1,8 +1,8 @@
 use Rattle.std.proofs.Common.{◌≡◌, drop, map}
 use Rattle.std.specs.Option.{option_map}
 use Rattle.c_tree.specs.View.{tree_of}
-use Rattle.c_checked.specs.Faults.{lesser, least}
-use Rattle.c_checked.specs.Expressions.{lengths_faults}
+use Rattle.c_meaning.specs.Checks.Faults.{lesser, least}
+use Rattle.c_meaning.specs.Checks.Expressions.{lengths_faults}
 use Rattle.c_types.proofs.parts.lengths_fault.Given as goal
 
 abbrev pub invariant-loop-length : goal.invariant-loop-length

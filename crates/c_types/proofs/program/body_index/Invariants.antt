@@ -1,7 +1,7 @@
 use Rattle.std.proofs.Common.{◌≡◌, drop, map}
 use Rattle.c_token.specs.Replacement.{is_in}
 use Rattle.c_tree.specs.View.{item_of}
-use Rattle.c_checked.specs.Programs.{body_names}
+use Rattle.c_meaning.specs.Checks.Programs.{body_names}
 use Rattle.c_types.proofs.program.body_index.Given as goal
 
 abbrev pub invariant-loop-i : goal.invariant-loop-i

@@ -1,6 +1,6 @@
 use Rattle.std.proofs.Common.{◌≡◌, ◌++◌, drop, map}
 use Rattle.c_tree.specs.View.{item_of}
-use Rattle.c_checked.specs.Programs.{body_names}
+use Rattle.c_meaning.specs.Checks.Programs.{body_names}
 use Rattle.c_types.proofs.program.body_names.Given as goal
 
 abbrev pub invariant-loop-item : goal.invariant-loop-item

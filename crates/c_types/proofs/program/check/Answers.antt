@@ -1,7 +1,7 @@
 use Rattle.std.proofs.Common.{◌≡◌, ◌<◌, [], Some, true, map, length, slice_get, sym, ap, ◌∙◌, arith}
 use Rattle.c_tree.specs.View.{item_of, program_of}
 use Rattle.c_token.specs.Replacement.{is_in}
-use Rattle.c_checked.specs.Programs.{program_faults, body_names, body_name_of, top_name}
+use Rattle.c_meaning.specs.Checks.Programs.{program_faults, body_names, body_name_of, top_name}
 use Rattle.c_types.proofs.Accepted.{least_is_least, no_fault, top_is_defined, index_below, well_formed}
 use Rattle.c_types.proofs.program.check.Goals as goal
 

@@ -1,8 +1,8 @@
 use Rattle.std.proofs.Common.{ℕ, List, refl, map}
 use Rattle.c_tree.specs.View.{item_of}
-use Rattle.c_checked.specs.Names.{Declared}
-use Rattle.c_checked.specs.Programs.{item_faults, items_faults, with_body, with_item}
-use Rattle.c_declarations.proofs.Least.{least_thread}
+use Rattle.c_meaning.specs.Checks.Names.{Declared}
+use Rattle.c_meaning.specs.Checks.Programs.{item_faults, items_faults, with_body, with_item}
+use Rattle.c_names.proofs.DeclarationsLemmas.Least.{least_thread}
 use Rattle.c_types.proofs.program.items_fault.Goals as goal
 
 -- the bodies that stand before, and the names that are visible

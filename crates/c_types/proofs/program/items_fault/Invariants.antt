@@ -1,7 +1,7 @@
 use Rattle.std.proofs.Common.{◌≡◌, [], drop, map}
 use Rattle.c_tree.specs.View.{item_of}
-use Rattle.c_checked.specs.Faults.{lesser, least}
-use Rattle.c_checked.specs.Programs.{items_faults}
+use Rattle.c_meaning.specs.Checks.Faults.{lesser, least}
+use Rattle.c_meaning.specs.Checks.Programs.{items_faults}
 use Rattle.c_types.proofs.program.items_fault.Given as goal
 
 abbrev pub invariant-loop-item : goal.invariant-loop-item

@@ -5,16 +5,16 @@ use Rattle.hls_base.specs.declared.refusal.Refusal.{Refusal}
 use Rattle.c_tree.specs.declared.statement.Stmt.{Stmt}
 use Rattle.c_tree.specs.Tree.{StmtTrees}
 use Rattle.c_value.specs.Values.{promoted}
-use Rattle.c_checked.specs.Names.{kind_of}
+use Rattle.c_meaning.specs.Checks.Names.{kind_of}
 use Rattle.c_tree.specs.View.{tree_of, stmt_of, stmts_of, else_of, else_part}
-use Rattle.c_checked.specs.Faults.{lesser, least}
-use Rattle.c_checked.specs.Labels.{in_part, in_loop, in_switch, block_labels, repeated_faults}
-use Rattle.c_checked.specs.Expressions.{expression_faults}
-use Rattle.c_checked.specs.Statements.{statement_faults, block_faults, else_faults, names_behind}
-use Rattle.c_labels.specs.Written.{around_view}
-use Rattle.c_declarations.proofs.Least.{least_thread}
+use Rattle.c_meaning.specs.Checks.Faults.{lesser, least}
+use Rattle.c_meaning.specs.Checks.Labels.{in_part, in_loop, in_switch, block_labels, repeated_faults}
+use Rattle.c_meaning.specs.Checks.Expressions.{expression_faults}
+use Rattle.c_meaning.specs.Checks.Statements.{statement_faults, block_faults, else_faults, names_behind}
+use Rattle.c_names.specs.Labels.Written.{around_view}
+use Rattle.c_names.proofs.DeclarationsLemmas.Least.{least_thread}
 use Rattle.c_types.proofs.StatementFaults.{if_parts, switch_parts, while_parts, do_parts}
-use Rattle.c_declarations.proofs.StatementTrees.{extends_behind, extends_in_for, extends_more, extends_by, may_forget, has_forgotten, names_behind_for}
+use Rattle.c_names.proofs.DeclarationsLemmas.StatementTrees.{extends_behind, extends_in_for, extends_more, extends_by, may_forget, has_forgotten, names_behind_for}
 use Rattle.c_types.proofs.statements.+statements.Goals as goal
 
 pub block-loop-stmt-preserved : goal.block-loop-stmt-preserved

@@ -1,9 +1,9 @@
 use Rattle.std.proofs.Common.{◌≡◌, drop}
 use Rattle.c_tree.specs.View.{stmts_of}
-use Rattle.c_checked.specs.Faults.{lesser, least}
-use Rattle.c_checked.specs.Statements.{block_faults}
-use Rattle.c_labels.specs.Written.{around_view}
-use Rattle.c_declarations.specs.Extended.{Extends}
+use Rattle.c_meaning.specs.Checks.Faults.{lesser, least}
+use Rattle.c_meaning.specs.Checks.Statements.{block_faults}
+use Rattle.c_names.specs.Labels.Written.{around_view}
+use Rattle.c_names.specs.Declarations.Extended.{Extends}
 use Rattle.c_types.proofs.statements.+statements.Given as goal
 
 abbrev pub invariant-block-loop-stmt : goal.invariant-block-loop-stmt

@@ -1,7 +1,7 @@
 use Rattle.std.proofs.Common.{refl, map}
 use Rattle.c_tree.specs.View.{object_of}
-use Rattle.c_checked.specs.Statements.{object_faults, objects_faults, with_object, with_objects}
-use Rattle.c_declarations.proofs.Least.{least_thread, state_thread}
+use Rattle.c_meaning.specs.Checks.Statements.{object_faults, objects_faults, with_object, with_objects}
+use Rattle.c_names.proofs.DeclarationsLemmas.Least.{least_thread, state_thread}
 use Rattle.c_types.proofs.statements.objects_fault.Goals as goal
 
 pub loop-object-preserved : goal.loop-object-preserved

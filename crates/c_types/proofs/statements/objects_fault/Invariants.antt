@@ -1,7 +1,7 @@
 use Rattle.std.proofs.Common.{◌≡◌, drop, map}
 use Rattle.c_tree.specs.View.{object_of}
-use Rattle.c_checked.specs.Faults.{lesser, least}
-use Rattle.c_checked.specs.Statements.{objects_faults, with_objects}
+use Rattle.c_meaning.specs.Checks.Faults.{lesser, least}
+use Rattle.c_meaning.specs.Checks.Statements.{objects_faults, with_objects}
 use Rattle.c_types.proofs.statements.objects_fault.Given as goal
 
 abbrev pub invariant-loop-object : goal.invariant-loop-object

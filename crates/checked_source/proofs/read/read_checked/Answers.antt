@@ -1,9 +1,9 @@
 use Rattle.std.proofs.Common.{◌≡◌, sym, subst}
 use Rattle.c_tree.specs.declared.program.Program.{Program}
 use Rattle.c_tree.specs.View.{program_of}
-use Rattle.c_checked.specs.declared.checked.Checked.{Checked}
-use Rattle.c_checked.specs.Faults.{IsLeast}
-use Rattle.c_checked.specs.Programs.{program_faults}
+use Rattle.c_meaning.specs.declared.checks.Checked.{Checked}
+use Rattle.c_meaning.specs.Checks.Faults.{IsLeast}
+use Rattle.c_meaning.specs.Checks.Programs.{program_faults}
 use Rattle.hls_base.specs.declared.refusal.Refusal.{Refusal}
 use Rattle.checked_source.specs.Sources.{IsTheProgramOf}
 use Rattle.checked_source.specs.SourceFaults as f

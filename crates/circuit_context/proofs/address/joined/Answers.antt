@@ -4,7 +4,7 @@ use Rattle.rtl_core.specs.ClockStep.{widths}
 use Rattle.rtl_core.specs.Valid.{IsBetween}
 use Rattle.rtl_core.proofs.Fits.{width_is}
 use Rattle.rtl_logic.specs.Making.{circuit}
-use Rattle.circuit_wires.specs.Carrying.{Carries}
+use Rattle.datapath.specs.CircuitWires.Carrying.{Carries}
 use Rattle.circuit_context.specs.Contexts.{MayCarry}
 use Rattle.circuit_context.proofs.Addresses.{first_number, next_number, within}
 use Rattle.circuit_context.proofs.address.joined.Goals as goal

@@ -1,7 +1,7 @@
 use Rattle.std.proofs.Common.{◌≡◌, ◌^◌, ◌-◌, subst, arith}
 use Rattle.std.specs.Prelude.{min}
-use Rattle.clock_meaning.specs.Flows.{ready}
-use Rattle.clock_meaning.specs.ClockRuns.{timed_node}
+use Rattle.clock_ir.specs.Flows.{ready}
+use Rattle.clock_ir.specs.ClockRuns.{timed_node}
 use Rattle.datapath.specs.Plans.{body_of}
 use Rattle.circuit_context.proofs.Early.{early_result}
 use Rattle.circuit_context.proofs.operands.first_time.Goals as goal

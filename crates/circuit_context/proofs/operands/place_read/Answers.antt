@@ -1,6 +1,6 @@
 use Rattle.std.proofs.Common.{◌∙◌, sym}
-use Rattle.clock_meaning.specs.Flows.{ready}
-use Rattle.clock_meaning.specs.ClockRuns.{timed_node}
+use Rattle.clock_ir.specs.Flows.{ready}
+use Rattle.clock_ir.specs.ClockRuns.{timed_node}
 use Rattle.datapath.specs.Plans.{body_of}
 use Rattle.circuit_context.proofs.Chains.{no_interval}
 use Rattle.circuit_context.proofs.operands.place_read.Goals as goal

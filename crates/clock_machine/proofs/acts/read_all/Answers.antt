@@ -1,5 +1,5 @@
 use Rattle.std.proofs.Common.{◌+◌, ◌<◌, length, take, ap, ◌∙◌, arith}
-use Rattle.clock_lines.specs.Registers.{word_read}
+use Rattle.clock_machine.specs.Lines.Registers.{word_read}
 use Rattle.clock_machine.proofs.Acting.{read_more, reads_at}
 use Rattle.clock_machine.proofs.acts.read_all.Goals as goal
 

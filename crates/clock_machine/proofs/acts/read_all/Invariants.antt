@@ -1,6 +1,6 @@
 use Rattle.std.proofs.Common.{◌≡◌, ◌≤◌, length, map, take}
 use Rattle.clock_machine.specs.Acts.{ReadsAreWithin}
-use Rattle.clock_lines.specs.Registers.{word_read}
+use Rattle.clock_machine.specs.Lines.Registers.{word_read}
 use Rattle.clock_machine.proofs.acts.read_all.Given as goal
 
 abbrev pub invariant-loop-index : goal.invariant-loop-index

@@ -1,8 +1,8 @@
 use Rattle.std.proofs.Common.{◌≡◌, ℕ, length, replicate, sym, ap, ◌∙◌, subst, arith}
 use Rattle.std.proofs.lemmas.List.{length-replicate}
-use Rattle.block_meaning.specs.FirstContents.{with_kept, with_arguments}
-use Rattle.machine_memory.proofs.Banks.{written_back}
-use Rattle.clock_lines.specs.Registers.{held}
+use Rattle.ir_core.specs.FirstContents.{with_kept, with_arguments}
+use Rattle.flat_programs.proofs.MemoryLemmas.Banks.{written_back}
+use Rattle.clock_machine.specs.Lines.Registers.{held}
 use Rattle.clock_machine.specs.Starts.{KeptThere, ParametersThere}
 use Rattle.clock_machine.proofs.FirstWords.{held_zeros}
 use Rattle.clock_machine.proofs.first.first_variables.Goals as goal

@@ -1,6 +1,6 @@
 use Rattle.std.proofs.Common.{◌≡◌, drop, length}
-use Rattle.block_meaning.specs.FirstContents.{with_arguments}
-use Rattle.clock_lines.specs.Registers.{held}
+use Rattle.ir_core.specs.FirstContents.{with_arguments}
+use Rattle.clock_machine.specs.Lines.Registers.{held}
 use Rattle.clock_machine.specs.Starts.{ParametersThere}
 use Rattle.clock_machine.proofs.first.set_arguments.Given as goal
 

@@ -1,6 +1,6 @@
 use Rattle.std.proofs.Common.{◌≡◌, drop, length}
-use Rattle.block_meaning.specs.FirstContents.{with_kept}
-use Rattle.clock_lines.specs.Registers.{held}
+use Rattle.ir_core.specs.FirstContents.{with_kept}
+use Rattle.clock_machine.specs.Lines.Registers.{held}
 use Rattle.clock_machine.specs.Starts.{KeptThere}
 use Rattle.clock_machine.proofs.first.set_kept.Given as goal
 

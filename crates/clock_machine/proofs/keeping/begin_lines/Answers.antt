@@ -1,10 +1,10 @@
 use Rattle.std.proofs.Common.{◌≡◌, ℕ, ◌+◌, ◌<◌, ◌^◌, inl, inr, List, length, get_or, slice_get, Some, sym, ap, ◌∙◌, subst, arith}
 use Rattle.std.proofs.lemmas.Bool.{cases_eq}
 use Rattle.std.proofs.lemmas.Option.{slice_get_within, slice_get-get_or}
-use Rattle.clock_meaning.specs.Flows.{entered, pushed}
-use Rattle.clock_lines.specs.declared.program.Line.{Line}
-use Rattle.clock_lines.specs.Registers.{HasPushed, held, value_in}
-use Rattle.clock_lines.specs.Showing.{ShowsChain}
+use Rattle.clock_ir.specs.Flows.{entered, pushed}
+use Rattle.clock_machine.specs.declared.lines.program.Line.{Line}
+use Rattle.clock_machine.specs.Lines.Registers.{HasPushed, held, value_in}
+use Rattle.clock_machine.specs.Lines.Showing.{ShowsChain}
 use Rattle.clock_machine.proofs.Beginning.{no_values, shows_first, begins_one}
 use Rattle.clock_machine.proofs.Staying.{some_action, few_words}
 use Rattle.clock_machine.proofs.Storing.{some_op}

@@ -1,8 +1,8 @@
 use Rattle.std.proofs.Common.{◌≡◌, ◌<◌, ◌≤◌, ℕ, length}
-use Rattle.block_meaning.specs.Bodies.{Shapes}
-use Rattle.clock_meaning.specs.Flows.{TimedBody, entered, pushed}
-use Rattle.clock_lines.specs.Registers.{SameSizes, held}
-use Rattle.clock_lines.specs.Showing.{HasLines, ShowsChain}
+use Rattle.ir_core.specs.Bodies.{Shapes}
+use Rattle.clock_ir.specs.Flows.{TimedBody, entered, pushed}
+use Rattle.clock_machine.specs.Lines.Registers.{SameSizes, held}
+use Rattle.clock_machine.specs.Lines.Showing.{HasLines, ShowsChain}
 use Rattle.clock_machine.specs.Keeping.{IsForm}
 use Rattle.clock_machine.specs.Standing.{HasWords}
 use Rattle.clock_machine.proofs.keeping.begin_lines.Given as goal

@@ -3,13 +3,13 @@ use Rattle.std.proofs.lemmas.Bool.{cases_lt}
 use Rattle.std.proofs.lemmas.List.{length-map}
 use Rattle.std.proofs.lemmas.Nat.{mod_below}
 use Rattle.std.proofs.lemmas.Option.{slice_get_within, slice_get-get_or}
-use Rattle.clock_meaning.specs.Flows.{TimedOp}
-use Rattle.clock_lines.specs.declared.program.Action.{Action}
-use Rattle.clock_lines.specs.declared.registers.Registers.{Registers}
-use Rattle.clock_lines.specs.Agendas.{phase_at, IsNext}
-use Rattle.clock_lines.specs.Registers.{HasPushed}
-use Rattle.clock_lines.specs.Showing.{HasLines, ShowsChain}
-use Rattle.clock_lines.proofs.Phases.{Walked}
+use Rattle.clock_ir.specs.Flows.{TimedOp}
+use Rattle.clock_machine.specs.declared.lines.program.Action.{Action}
+use Rattle.clock_machine.specs.declared.lines.registers.Registers.{Registers}
+use Rattle.clock_machine.specs.Lines.Agendas.{phase_at, IsNext}
+use Rattle.clock_machine.specs.Lines.Registers.{HasPushed}
+use Rattle.clock_machine.specs.Lines.Showing.{HasLines, ShowsChain}
+use Rattle.clock_machine.proofs.LinesLemmas.Phases.{Walked}
 use Rattle.clock_machine.proofs.Made.{OpenAt, DoneAt, begins, passes, does, rooms_behind, chains_behind}
 use Rattle.clock_machine.proofs.keeping.keep_made.Goals as goal
 

@@ -1,11 +1,11 @@
 use Rattle.std.proofs.Common.{◌≡◌, ◌-◌, ◌<◌, ℕ, length, map}
-use Rattle.block_meaning.specs.Bodies.{Shapes}
-use Rattle.clock_meaning.specs.Flows.{TimedBody, Flow}
-use Rattle.clock_lines.specs.declared.program.Action.{Action}
-use Rattle.clock_lines.specs.Agendas.{phase_at}
-use Rattle.clock_lines.specs.Registers.{SameSizes}
-use Rattle.clock_lines.specs.Showing.{Shows, HasLines, ShowsChain}
-use Rattle.clock_lines.proofs.Phases.{Walked}
+use Rattle.ir_core.specs.Bodies.{Shapes}
+use Rattle.clock_ir.specs.Flows.{TimedBody, Flow}
+use Rattle.clock_machine.specs.declared.lines.program.Action.{Action}
+use Rattle.clock_machine.specs.Lines.Agendas.{phase_at}
+use Rattle.clock_machine.specs.Lines.Registers.{SameSizes}
+use Rattle.clock_machine.specs.Lines.Showing.{Shows, HasLines, ShowsChain}
+use Rattle.clock_machine.proofs.LinesLemmas.Phases.{Walked}
 use Rattle.clock_machine.specs.Keeping.{IsForm, IsMoment, HasGiven}
 use Rattle.clock_machine.proofs.Made.{OpenAt, DoneAt}
 use Rattle.clock_machine.proofs.keeping.keep_made.Given as goal

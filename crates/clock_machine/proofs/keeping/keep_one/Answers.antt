@@ -1,8 +1,8 @@
 use Rattle.std.proofs.Common.{◌≡◌, ◌+◌, List, length, get_or, ap, ◌∙◌, subst, arith}
 use Rattle.std.proofs.lemmas.Option.{slice_get_within, get_or_from_slice_get}
-use Rattle.clock_lines.specs.declared.program.Action.{Action}
-use Rattle.clock_lines.specs.declared.program.Line.{Line}
-use Rattle.clock_lines.specs.Registers.{HasPushed}
+use Rattle.clock_machine.specs.declared.lines.program.Action.{Action}
+use Rattle.clock_machine.specs.declared.lines.program.Line.{Line}
+use Rattle.clock_machine.specs.Lines.Registers.{HasPushed}
 use Rattle.clock_machine.proofs.keeping.keep_one.Goals as goal
 use Rattle.clock_machine.proofs.keeping.keep_one.Goals.{else-number-count-via-then-number-count+else-index-time, else-number-count-via-else-number-count}
 

@@ -3,13 +3,13 @@ use Rattle.std.proofs.lemmas.Bool.{cases_lt}
 use Rattle.std.proofs.lemmas.List.{length-map}
 use Rattle.std.proofs.lemmas.Nat.{mod_below}
 use Rattle.std.proofs.lemmas.Option.{slice_get_within, slice_get-get_or}
-use Rattle.clock_meaning.specs.Flows.{TimedOp, latency}
-use Rattle.clock_lines.specs.declared.program.Action.{Action}
-use Rattle.clock_lines.specs.declared.registers.Registers.{Registers}
-use Rattle.clock_lines.specs.Agendas.{phase_at, IsNext}
-use Rattle.clock_lines.specs.Registers.{HasPushed, LineIsWithin, value_in}
-use Rattle.clock_lines.specs.Showing.{HasLines}
-use Rattle.clock_lines.proofs.Phases.{Walked}
+use Rattle.clock_ir.specs.Flows.{TimedOp, latency}
+use Rattle.clock_machine.specs.declared.lines.program.Action.{Action}
+use Rattle.clock_machine.specs.declared.lines.registers.Registers.{Registers}
+use Rattle.clock_machine.specs.Lines.Agendas.{phase_at, IsNext}
+use Rattle.clock_machine.specs.Lines.Registers.{HasPushed, LineIsWithin, value_in}
+use Rattle.clock_machine.specs.Lines.Showing.{HasLines}
+use Rattle.clock_machine.proofs.LinesLemmas.Phases.{Walked}
 use Rattle.clock_machine.proofs.Made.{DoneAt}
 use Rattle.clock_machine.proofs.Ready.{StillAt, ReadyAt, begins, passes, does, waits_within, rooms_behind, made_behind}
 use Rattle.clock_machine.proofs.keeping.keep_ready.Goals as goal

@@ -1,11 +1,11 @@
 use Rattle.std.proofs.Common.{◌≡◌, ◌-◌, ◌<◌, ℕ, length, map}
-use Rattle.block_meaning.specs.Bodies.{Shapes}
-use Rattle.clock_meaning.specs.Flows.{TimedBody, Flow}
-use Rattle.clock_lines.specs.declared.program.Action.{Action}
-use Rattle.clock_lines.specs.Agendas.{phase_at}
-use Rattle.clock_lines.specs.Registers.{SameSizes}
-use Rattle.clock_lines.specs.Showing.{HasLines}
-use Rattle.clock_lines.proofs.Phases.{Walked}
+use Rattle.ir_core.specs.Bodies.{Shapes}
+use Rattle.clock_ir.specs.Flows.{TimedBody, Flow}
+use Rattle.clock_machine.specs.declared.lines.program.Action.{Action}
+use Rattle.clock_machine.specs.Lines.Agendas.{phase_at}
+use Rattle.clock_machine.specs.Lines.Registers.{SameSizes}
+use Rattle.clock_machine.specs.Lines.Showing.{HasLines}
+use Rattle.clock_machine.proofs.LinesLemmas.Phases.{Walked}
 use Rattle.clock_machine.specs.Keeping.{IsForm, IsNextMoment, ShowsGiven}
 use Rattle.clock_machine.proofs.Made.{DoneAt}
 use Rattle.clock_machine.proofs.Ready.{StillAt, ReadyAt}

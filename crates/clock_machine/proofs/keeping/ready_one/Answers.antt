@@ -1,8 +1,8 @@
 use Rattle.std.proofs.Common.{◌≡◌, ◌+◌, ℕ, List, length, slice_get, ap, ◌∙◌, subst, arith}
 use Rattle.std.proofs.lemmas.Option.{slice_get_within, get_or_from_slice_get}
-use Rattle.clock_lines.specs.declared.program.Action.{Action}
-use Rattle.clock_lines.specs.declared.program.Line.{Line}
-use Rattle.clock_lines.specs.Registers.{HasPushed, LineIsWithin, value_in}
+use Rattle.clock_machine.specs.declared.lines.program.Action.{Action}
+use Rattle.clock_machine.specs.declared.lines.program.Line.{Line}
+use Rattle.clock_machine.specs.Lines.Registers.{HasPushed, LineIsWithin, value_in}
 use Rattle.clock_machine.proofs.keeping.ready_one.Goals as goal
 use Rattle.clock_machine.proofs.keeping.ready_one.Goals.{else-number-count-via-then-number-count+else-index-time, else-number-count-via-else-number-count}
 

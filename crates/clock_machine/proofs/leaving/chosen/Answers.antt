@@ -1,5 +1,5 @@
 use Rattle.std.proofs.Common.{sym, ◌∙◌}
-use Rattle.clock_lines.specs.Registers.{word_read}
+use Rattle.clock_machine.specs.Lines.Registers.{word_read}
 use Rattle.clock_machine.proofs.TakenWords.{case_within, case_holds, case_fails}
 use Rattle.clock_machine.proofs.leaving.chosen.Goals as goal
 

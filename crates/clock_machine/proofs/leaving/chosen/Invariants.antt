@@ -1,6 +1,6 @@
 use Rattle.std.proofs.Common.{◌≡◌, drop}
 use Rattle.clock_machine.specs.Leaving.{CasesAreWithin, chosen_in}
-use Rattle.clock_lines.specs.Registers.{word_read}
+use Rattle.clock_machine.specs.Lines.Registers.{word_read}
 use Rattle.clock_machine.proofs.leaving.chosen.Given as goal
 
 abbrev pub invariant-loop-case : goal.invariant-loop-case

@@ -1,6 +1,6 @@
 use Rattle.std.proofs.Common.{◌+◌, ◌<◌, length, take, ap, ◌∙◌, arith}
-use Rattle.clock_lines.specs.declared.program.Assignment.{Assignment}
-use Rattle.clock_lines.specs.Registers.{word_read}
+use Rattle.clock_machine.specs.declared.lines.program.Assignment.{Assignment}
+use Rattle.clock_machine.specs.Lines.Registers.{word_read}
 use Rattle.clock_machine.proofs.Acting.{read_more}
 use Rattle.clock_machine.proofs.TakenWords.{assignment_within}
 use Rattle.clock_machine.proofs.leaving.read_assigned.Goals as goal

@@ -1,7 +1,7 @@
 use Rattle.std.proofs.Common.{◌≡◌, ◌≤◌, length, map, take}
-use Rattle.clock_lines.specs.declared.program.Assignment.{Assignment}
+use Rattle.clock_machine.specs.declared.lines.program.Assignment.{Assignment}
 use Rattle.clock_machine.specs.Leaving.{AssignmentsAreWithin}
-use Rattle.clock_lines.specs.Registers.{word_read}
+use Rattle.clock_machine.specs.Lines.Registers.{word_read}
 use Rattle.clock_machine.proofs.leaving.read_assigned.Given as goal
 
 abbrev pub invariant-loop-index : goal.invariant-loop-index

@@ -1,6 +1,6 @@
 use Rattle.std.proofs.Common.{◌<◌, length, get_or, set, sym, ap, ◌∙◌, subst, arith}
-use Rattle.clock_lines.specs.declared.program.Assignment.{Assignment}
-use Rattle.clock_lines.specs.declared.program.Read.TheVariants as read
+use Rattle.clock_machine.specs.declared.lines.program.Assignment.{Assignment}
+use Rattle.clock_machine.specs.declared.lines.program.Read.TheVariants as read
 use Rattle.clock_machine.specs.Leaving.{AssignmentsAreThere}
 use Rattle.clock_machine.proofs.TakenWords.{words_more}
 use Rattle.clock_machine.proofs.leaving.set_assigned.Goals as goal

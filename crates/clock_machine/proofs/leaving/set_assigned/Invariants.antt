@@ -1,6 +1,6 @@
 use Rattle.std.proofs.Common.{◌≡◌, ◌≤◌, length, drop}
 use Rattle.clock_machine.specs.Leaving.{AssignmentsAreThere, with_words}
-use Rattle.clock_lines.specs.Registers.{held}
+use Rattle.clock_machine.specs.Lines.Registers.{held}
 use Rattle.clock_machine.proofs.leaving.set_assigned.Given as goal
 
 abbrev pub invariant-loop-index : goal.invariant-loop-index

@@ -1,5 +1,5 @@
 use Rattle.std.proofs.Common.{◌≡◌, ◌<◌, ◌≤◌, ℕ, length, slice_get, Some}
-use Rattle.clock_lines.specs.declared.program.Action.{Action}
+use Rattle.clock_machine.specs.declared.lines.program.Action.{Action}
 use Rattle.clock_machine.proofs.room.most_args.Given as goal
 
 abbrev pub invariant-loop-action : goal.invariant-loop-action

@@ -1,6 +1,6 @@
 use Rattle.std.proofs.Common.{◌≡◌, ◌<◌, ℕ, slice_get, Some}
-use Rattle.clock_lines.specs.declared.program.Stage.{Stage}
-use Rattle.clock_lines.specs.Stages.{work_in}
+use Rattle.clock_machine.specs.declared.lines.program.Stage.{Stage}
+use Rattle.clock_machine.specs.Lines.Stages.{work_in}
 use Rattle.clock_machine.specs.Sizes.{FitsWork}
 use Rattle.clock_machine.proofs.room.sizes_of.Given as goal
 

@@ -2,7 +2,7 @@ use Rattle.std.proofs.Common.{◌≡◌, ◌≤◌, ℕ, sym, subst}
 use Rattle.std.specs.Result.{IfOk}
 use Rattle.std.proofs.lemmas.Result.{IfOk-weaker}
 use Rattle.hls_base.specs.Refusals.{IfRefused}
-use Rattle.core_program.specs.Core.{CoreProgramTree}
+use Rattle.pieces.specs.Resolved.Core.{CoreProgramTree}
 use Rattle.c_tree.specs.Tree.{ProgramTree}
 use Rattle.c_elaborate.specs.Programs.{program_elaborated}
 use Rattle.pieces.specs.Program.{ExpandedTree, expanded_of}

@@ -3,8 +3,8 @@ use Rattle.std.specs.Prelude.{not}
 use Rattle.pieces.specs.Program.{expanded_of}
 use Rattle.ir_core.specs.declared.cfg.Frame.{Frame}
 use Rattle.ir_lower.specs.Frames.{FrameView}
-use Rattle.block_meaning.specs.Trees.{sequence_of}
-use Rattle.conversion.specs.Conversion.{converted_sequence}
+use Rattle.ir_core.specs.Trees.{sequence_of}
+use Rattle.passes.specs.Conversion.{converted_sequence}
 use Rattle.compile_steps.proofs.Flat.{flat_of}
 use Rattle.compile_steps.proofs.steps.flat_program.Goals as goal
 

@@ -3,7 +3,7 @@ use Rattle.std.proofs.lemmas.Result.{IfOk-weaker}
 use Rattle.pieces.specs.Program.{expanded_of}
 use Rattle.cycle_report.specs.PlainReport.{plain_of}
 use Rattle.hls_flow.specs.Clocked.{TakesEdges, IsClockOf}
-use Rattle.compile_flow.proofs.Compilable.{accepted_compilable}
+use Rattle.promises.proofs.Compilable.{accepted_compilable}
 use Rattle.hls_flow.proofs.Ended.{ended_in_time}
 use Rattle.hls_flow.proofs.cosim.agreement.Goals as goal
 

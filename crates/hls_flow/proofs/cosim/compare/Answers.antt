@@ -4,7 +4,7 @@ use Rattle.c_tree.specs.View.{program_of, function_of}
 use Rattle.c_meaning.specs.Run.{function_at, first_contents}
 use Rattle.cosim_levels.proofs.FewCycles.{passed_low, cycles_low}
 use Rattle.c_meaning.specs.declared.outcome.Final.{Final}
-use Rattle.cosim_pins.specs.FunctionPins.{interface_of}
+use Rattle.cosim_levels.specs.Pins.FunctionPins.{interface_of}
 use Rattle.cosim_levels.specs.Verdicts.{verdict_of}
 use Rattle.cosim_levels.specs.Levels.{IsUnended, IsWaiting}
 use Rattle.hls_flow.specs.declared.files.Read.{Read}
@@ -13,7 +13,7 @@ use Rattle.hls_flow.specs.Verdicts.{IsStoppedAtFiles, IsVerdictOn, run_in_c, at_
 use Rattle.c_elaborate.specs.Programs.{program_elaborated}
 use Rattle.c_expand.specs.Expansion.{expansion}
 use Rattle.hls_flow.specs.Comparing.{files_of, IsAgreement}
-use Rattle.ended_machines.specs.Laws.{EndsInC}
+use Rattle.promises.specs.EndedMachines.{EndsInC}
 use Rattle.hls_flow.proofs.Ended.{ends_in_c}
 use Rattle.hls_flow.proofs.Stopped.{stopped_on}
 use Rattle.hls_flow.proofs.VerdictCases.{differs, agrees}

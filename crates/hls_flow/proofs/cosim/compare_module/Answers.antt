@@ -2,7 +2,7 @@ use Rattle.std.proofs.Common.{◌≡◌, subst, Some, arith}
 use Rattle.c_tree.specs.View.{function_of}
 use Rattle.driven_circuits.proofs.ShortArrays.{shown_short}
 use Rattle.rtl_core.specs.Netlist.{netlist_of}
-use Rattle.cosim_pins.specs.ModuleRun.{module_run}
+use Rattle.cosim_levels.specs.Pins.ModuleRun.{module_run}
 use Rattle.hls_flow.proofs.cosim.compare_module.Goals as goal
 
 pub returns-clause-compared : goal.returns-clause-compared

@@ -1,7 +1,7 @@
 use Rattle.std.proofs.Common.{◌≡◌}
 use Rattle.hls_base.specs.declared.refusal.Refusal.{Refusal}
 use Rattle.c_tree.specs.View.{program_of, function_of}
-use Rattle.c_checked.specs.declared.checked.Checked.{Checked}
+use Rattle.c_meaning.specs.declared.checks.Checked.{Checked}
 use Rattle.checked_source.specs.Sources.{IsTheProgramOf}
 use Rattle.checked_source.specs.SourceFaults.{IsSourceFault}
 use Rattle.checked_source.proofs.Outcomes.{passed_on}

@@ -5,7 +5,7 @@ use Rattle.rtl_core.specs.declared.design.Design.{Design}
 use Rattle.rtl_core.specs.Netlist.{netlist_of}
 use Rattle.rtl_core.specs.Interface.{Interface}
 use Rattle.cycle_report.specs.PlainReport.{plain_of}
-use Rattle.cosim_pins.specs.FunctionPins.{plain}
+use Rattle.cosim_levels.specs.Pins.FunctionPins.{plain}
 use Rattle.hls_flow.specs.Verdicts.{HasModule, IsBadModule, IsBadLine, IsStoppedAtFiles, at_module, at_line}
 use Rattle.hls_flow.proofs.Stopped.{stopped_on}
 use Rattle.hls_flow.proofs.ScalarCount.{scalar_count}

@@ -1,7 +1,7 @@
 -- The run ends within the edges that are counted.
 use Rattle.std.proofs.Common.{arith}
-use Rattle.block_meaning.specs.FirstContents.{first_words}
-use Rattle.clock_meaning.specs.ClockRuns.{timed_program}
+use Rattle.ir_core.specs.FirstContents.{first_words}
+use Rattle.clock_ir.specs.ClockRuns.{timed_program}
 use Rattle.hls_flow.proofs.machines.clocked_steps.Goals as goal
 
 pub unreachable-requires : goal.unreachable-requires

@@ -1,6 +1,6 @@
 use Rattle.std.proofs.Common.{◌≡◌, [], Some, subst}
 use Rattle.c_tree.specs.View.{program_of}
-use Rattle.c_checked.specs.Programs.{program_faults, top_name}
+use Rattle.c_meaning.specs.Checks.Programs.{program_faults, top_name}
 use Rattle.c_elaborate.specs.Programs.{program_elaborated}
 use Rattle.c_expand.specs.Expansion.{expansion}
 use Rattle.pieces.specs.Program.{expanded_of}

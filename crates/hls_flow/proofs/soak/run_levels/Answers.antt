@@ -6,7 +6,7 @@ use Rattle.c_expand.specs.Expansion.{expansion}
 use Rattle.rtl_core.specs.Netlist.{netlist_of}
 use Rattle.rtl_core.specs.Interface.{Interface, HasPins}
 use Rattle.cycle_report.specs.PlainReport.{plain_of}
-use Rattle.cosim_pins.specs.ModuleRun.{module_run}
+use Rattle.cosim_levels.specs.Pins.ModuleRun.{module_run}
 use Rattle.driven_circuits.proofs.ShortArrays.{shown_short}
 use Rattle.hls_flow.specs.SoakRun.{most, IsAgreedRun}
 use Rattle.hls_flow.proofs.ScalarCount.{scalar_count}

@@ -2,7 +2,7 @@ use Rattle.std.proofs.Common.{[], ◌∷◌, subst, ◌∙◌}
 use Rattle.c_tree.specs.View.{program_of, function_of}
 use Rattle.rtl_core.specs.Netlist.{netlist_of}
 use Rattle.cycle_report.specs.PlainReport.{plain_of}
-use Rattle.soak_text.specs.SoakProgram.{argument}
+use Rattle.cosim_levels.specs.SoakProgram.{argument}
 use Rattle.hls_flow.specs.SoakRun.{soak_settings, IsSoakRun, IsCompiled, IsAgreedRun}
 use Rattle.hls_flow.proofs.Made.{runs_are_long}
 use Rattle.hls_flow.proofs.SoakMade.{soak_run, agrees_with_c, both_some}

@@ -2,8 +2,8 @@ use Rattle.std.proofs.Common.{arith, ◌∙◌, ap, sym, subst, map}
 use Rattle.std.specs.Vec.Iter.{into_iter_items, into_iter_steps}
 use Rattle.std.proofs.lemmas.Result.{IfOk-weaker}
 use Rattle.ir_core.specs.declared.tree.Sequence.{out-Sequence}
-use Rattle.block_meaning.specs.Trees.{sequence_of, shape_of, part_of, part_row, arm_row, switch}
-use Rattle.conversion.specs.Conversion.{converted_behind, converted_shape}
+use Rattle.ir_core.specs.Trees.{sequence_of, shape_of, part_of, part_row, arm_row, switch}
+use Rattle.passes.specs.Conversion.{converted_behind, converted_shape}
 use Rattle.if_convert.specs.Blocks.{scope_of, open_of}
 use Rattle.if_convert.proofs.Rows.{arms_turn, behind_turn, behind_whole, no_items, rest_of, sequence_out, dead_parts, switch_out}
 use Rattle.if_convert.proofs.convert.+sequence.Goals as goal

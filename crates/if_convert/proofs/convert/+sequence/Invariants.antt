@@ -1,7 +1,7 @@
 use Rattle.std.proofs.Common.{◌≡◌, map}
 use Rattle.std.specs.Vec.Iter.{into_iter_items}
-use Rattle.block_meaning.specs.Trees.{sequence_of, part_of, part_row, arm_row}
-use Rattle.conversion.specs.Conversion as spec
+use Rattle.ir_core.specs.Trees.{sequence_of, part_of, part_row, arm_row}
+use Rattle.passes.specs.Conversion as spec
 use Rattle.if_convert.specs.Blocks.{scope_of, open_of, last_of, before_last}
 use Rattle.if_convert.proofs.convert.+sequence.Given as goal
 

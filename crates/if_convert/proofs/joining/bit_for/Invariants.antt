@@ -1,5 +1,5 @@
 use Rattle.std.proofs.Common.{◌≡◌, drop}
-use Rattle.conversion.specs.Joining as spec
+use Rattle.passes.specs.Conversion.Joining as spec
 use Rattle.if_convert.specs.Views.{guards_of}
 use Rattle.if_convert.proofs.joining.bit_for.Given as goal
 

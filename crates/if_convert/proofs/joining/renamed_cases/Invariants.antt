@@ -1,5 +1,5 @@
 use Rattle.std.proofs.Common.{◌≡◌, ◌++◌, map, drop}
-use Rattle.conversion.specs.Joining as spec
+use Rattle.passes.specs.Conversion.Joining as spec
 use Rattle.if_convert.specs.Views.{values_of}
 use Rattle.if_convert.specs.Entries.{outs_of}
 use Rattle.if_convert.proofs.joining.renamed_cases.Given as goal

@@ -1,6 +1,6 @@
 use Rattle.std.proofs.Common.{◌∙◌, ap, sym, map}
 use Rattle.ir_core.specs.declared.tree.Part.{Part}
-use Rattle.block_meaning.specs.Trees.{sequence, no_part, block_of, part_of}
+use Rattle.ir_core.specs.Trees.{sequence, no_part, block_of, part_of}
 use Rattle.if_convert.specs.Blocks.{open_of, last_of, before_last}
 use Rattle.if_convert.proofs.Rows.{sequence_rolled, row_none, pushed}
 use Rattle.if_convert.proofs.line.close.Goals as goal

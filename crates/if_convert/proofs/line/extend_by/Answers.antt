@@ -1,7 +1,7 @@
 use Rattle.std.proofs.Common.{◌∙◌, ap, sym}
 use Rattle.ir_core.specs.declared.tree.Part.{Part}
-use Rattle.block_meaning.specs.Trees.{sequence, block_of, shape_of}
-use Rattle.conversion.specs.Conversion.{part_before}
+use Rattle.ir_core.specs.Trees.{sequence, block_of, shape_of}
+use Rattle.passes.specs.Conversion.{part_before}
 use Rattle.if_convert.specs.Blocks.{open_of, last_of, before_last}
 use Rattle.if_convert.proofs.Rows.{pushed}
 use Rattle.if_convert.proofs.line.extend_by.Goals as goal

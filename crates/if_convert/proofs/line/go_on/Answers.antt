@@ -1,10 +1,10 @@
 use Rattle.std.proofs.Common.{◌≡◌, ◌∙◌, ap, sym, Option}
 use Rattle.std.specs.Prelude.{IfOk}
 use Rattle.std.proofs.lemmas.Result.{IfOk-weaker}
-use Rattle.block_meaning.specs.Trees.{block_of, shape_of, sequence, SequenceTree}
-use Rattle.conversion.specs.Merging as m
-use Rattle.conversion.specs.Merging.{opened, joined, merged}
-use Rattle.conversion.specs.Conversion.{part_before, behind, going_on, converted_behind}
+use Rattle.ir_core.specs.Trees.{block_of, shape_of, sequence, SequenceTree}
+use Rattle.passes.specs.Conversion.Merging as m
+use Rattle.passes.specs.Conversion.Merging.{opened, joined, merged}
+use Rattle.passes.specs.Conversion.{part_before, behind, going_on, converted_behind}
 use Rattle.if_convert.specs.Blocks.{scope_of, open_of, branches_of, last_of, before_last, behind_shape}
 use Rattle.if_convert.proofs.Rows.{both_ok}
 use Rattle.if_convert.proofs.line.go_on.Goals as goal

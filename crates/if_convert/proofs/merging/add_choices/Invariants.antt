@@ -1,5 +1,5 @@
 use Rattle.std.proofs.Common.{◌≡◌, ◌++◌, map, drop}
-use Rattle.conversion.specs.Merging as spec
+use Rattle.passes.specs.Conversion.Merging as spec
 use Rattle.if_convert.specs.Entries.{outs_of}
 use Rattle.if_convert.specs.Blocks.{choice_of}
 use Rattle.if_convert.proofs.merging.add_choices.Given as goal

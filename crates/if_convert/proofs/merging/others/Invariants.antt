@@ -1,5 +1,5 @@
 use Rattle.std.proofs.Common.{◌≡◌, ◌++◌, drop, filter, not}
-use Rattle.conversion.specs.Outs as outs
+use Rattle.passes.specs.Conversion.Outs as outs
 use Rattle.if_convert.specs.Entries.{outs_of}
 use Rattle.if_convert.proofs.merging.others.Given as goal
 

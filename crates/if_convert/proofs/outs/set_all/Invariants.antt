@@ -1,5 +1,5 @@
 use Rattle.std.proofs.Common.{◌≡◌, drop}
-use Rattle.conversion.specs.Outs as outs
+use Rattle.passes.specs.Conversion.Outs as outs
 use Rattle.if_convert.specs.Entries.{outs_of}
 use Rattle.if_convert.proofs.outs.set_all.Given as goal
 

@@ -1,7 +1,7 @@
 use Rattle.std.proofs.Common.{◌≡◌, map}
-use Rattle.conversion.specs.Overlapping as spec
+use Rattle.passes.specs.Conversion.Overlapping as spec
 use Rattle.if_convert.specs.Entries.{outs_of}
-use Rattle.block_meaning.specs.Bodies.{op_of}
+use Rattle.ir_core.specs.Bodies.{op_of}
 use Rattle.if_convert.proofs.overlap.carried_ops.Given as goal
 
 abbrev pub invariant-loop-op : goal.invariant-loop-op

@@ -1,5 +1,5 @@
 use Rattle.std.proofs.Common.{◌≡◌, ◌++◌, map, drop}
-use Rattle.conversion.specs.Overlapping as spec
+use Rattle.passes.specs.Conversion.Overlapping as spec
 use Rattle.if_convert.specs.Entries.{outs_of}
 use Rattle.if_convert.proofs.overlap.carried_outs.Given as goal
 

@@ -2,8 +2,8 @@ use Rattle.std.proofs.Common.{◌∙◌, ap, sym, Option}
 use Rattle.std.specs.Option.{option_map}
 use Rattle.std.proofs.lemmas.Result.{IfOk-weaker}
 use Rattle.ir_core.specs.declared.body.Operand.{Operand}
-use Rattle.block_meaning.specs.Trees.{sequence_of, side_of}
-use Rattle.conversion.specs.Overlapping.{overlapping, loop_by}
+use Rattle.ir_core.specs.Trees.{sequence_of, side_of}
+use Rattle.passes.specs.Conversion.Overlapping.{overlapping, loop_by}
 use Rattle.if_convert.proofs.overlap.converted_loop.Goals as goal
 
 pub returns-in-Some : goal.returns-in-Some

@@ -1,9 +1,9 @@
 use Rattle.std.proofs.Common.{◌∙◌, ◌≡◌, min, true, ◌&&◌, length, drop, map, ap, ap₂, sym, arith}
 use Rattle.std.specs.Prelude.{◌==◌}
 use Rattle.std.proofs.lemmas.List.{drop-map, take_rest}
-use Rattle.block_meaning.specs.Bodies.{op_of}
-use Rattle.block_meaning.specs.TreeRuns.{tested_by}
-use Rattle.conversion.specs.Overlapping.{none_needs_guard}
+use Rattle.ir_core.specs.Bodies.{op_of}
+use Rattle.ir_core.specs.TreeRuns.{tested_by}
+use Rattle.passes.specs.Conversion.Overlapping.{none_needs_guard}
 use Rattle.if_convert.proofs.Rows.{counted, behind_first}
 use Rattle.if_convert.proofs.overlap.is_test.Goals as goal
 

@@ -1,6 +1,6 @@
 use Rattle.std.proofs.Common.{◌≡◌, map, drop}
-use Rattle.block_meaning.specs.Bodies.{op_of}
-use Rattle.conversion.specs.Overlapping as spec
+use Rattle.ir_core.specs.Bodies.{op_of}
+use Rattle.passes.specs.Conversion.Overlapping as spec
 use Rattle.if_convert.proofs.overlap.none_needs_guard.Given as goal
 
 abbrev pub invariant-loop-op : goal.invariant-loop-op

@@ -1,7 +1,7 @@
 use Rattle.std.proofs.Common.{◌∙◌, ap, ap₂}
-use Rattle.block_meaning.specs.Trees.{block_of, overlapped}
-use Rattle.conversion.specs.Merging.{joined}
-use Rattle.conversion.specs.Overlapping.{iteration}
+use Rattle.ir_core.specs.Trees.{block_of, overlapped}
+use Rattle.passes.specs.Conversion.Merging.{joined}
+use Rattle.passes.specs.Conversion.Overlapping.{iteration}
 use Rattle.if_convert.proofs.Rows.{overlapped_out}
 use Rattle.if_convert.proofs.overlap.overlapped.Goals as goal
 

@@ -1,5 +1,5 @@
 use Rattle.std.proofs.Common.{◌≡◌, ◌+◌, map, drop}
-use Rattle.block_meaning.specs.Trees.{sequence_of, part_of, part_row, arm_row}
+use Rattle.ir_core.specs.Trees.{sequence_of, part_of, part_row, arm_row}
 use Rattle.ir_layout.specs.Sizes.{parts_size, arms_size}
 use Rattle.ir_layout.proofs.counts.+sequence.Given as goal
 

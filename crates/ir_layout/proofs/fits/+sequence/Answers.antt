@@ -1,7 +1,7 @@
 use Rattle.std.proofs.Common.{◌≡◌, ◌∙◌, ap, sym, subst}
 use Rattle.std.specs.Option.{option_map}
 use Rattle.std.proofs.lemmas.Result.{on_ok_weaker}
-use Rattle.block_meaning.specs.Trees.{shape_of, sequence_of, side_of, loop}
+use Rattle.ir_core.specs.Trees.{shape_of, sequence_of, side_of, loop}
 use Rattle.ir_layout.specs.WellFormed.{one_way, a_test, in_test, in_body, in_step, SequenceFits, ShapeFits, SideFits, StepFits}
 use Rattle.ir_layout.specs.Fitting.{numbered, inside_of}
 use Rattle.ir_layout.proofs.Fitting.{on_ok_both}

@@ -1,5 +1,5 @@
 use Rattle.std.proofs.Common.{◌≡◌, ℕ, List, map, drop}
-use Rattle.block_meaning.specs.Trees.{sequence_of, part_of, part_row, arm_row}
+use Rattle.ir_core.specs.Trees.{sequence_of, part_of, part_row, arm_row}
 use Rattle.ir_layout.specs.WellFormed.{lands_in, PartsFit, ArmsFit}
 use Rattle.ir_layout.specs.Fitting.{numbered, inside_of, kind_view}
 use Rattle.ir_layout.proofs.fits.+sequence.Given as goal

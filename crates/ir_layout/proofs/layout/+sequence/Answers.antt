@@ -5,9 +5,9 @@ use Rattle.std.proofs.lemmas.List.{length-map}
 use Rattle.std.proofs.lemmas.Result.{on_ok_weaker}
 use Rattle.ir_core.specs.declared.tree.Part.{Part}
 use Rattle.ir_core.specs.declared.tree.Sequence.{Sequence}
-use Rattle.tree_points.specs.Points.{block_point, points_of, part_points, shape_points, joined, where_there}
-use Rattle.tree_points.proofs.Joining.{joined_map_more}
-use Rattle.block_meaning.specs.Trees.{sequence_of, part_of, shape_of, block_of, part_row, arm_row, side_of, fork, loop, switch}
+use Rattle.ir_core.specs.Points.{block_point, points_of, part_points, shape_points, joined, where_there}
+use Rattle.ir_core.proofs.Joining.{joined_map_more}
+use Rattle.ir_core.specs.Trees.{sequence_of, part_of, shape_of, block_of, part_row, arm_row, side_of, fork, loop, switch}
 use Rattle.ir_layout.specs.Nodes.{node_point, node_of}
 use Rattle.ir_layout.specs.Sizes.{parts_size}
 use Rattle.ir_layout.specs.Layout.{onto, tested, behind_shape, body_start, step_start, in_loop, in_switch, laid, laid_parts, laid_shape, laid_side, laid_arms}

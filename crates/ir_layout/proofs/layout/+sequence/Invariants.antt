@@ -1,8 +1,8 @@
 use Rattle.std.proofs.Common.{◌≡◌, ◌++◌, List, length, map}
 use Rattle.std.specs.Option.{option_map}
 use Rattle.std.specs.Vec.Iter.{into_iter_items, into_iter_len}
-use Rattle.block_meaning.specs.Trees.{sequence_of, part_of, block_of, part_row, arm_row}
-use Rattle.tree_points.specs.Points.{points_of, part_points, block_point, joined}
+use Rattle.ir_core.specs.Trees.{sequence_of, part_of, block_of, part_row, arm_row}
+use Rattle.ir_core.specs.Points.{points_of, part_points, block_point, joined}
 use Rattle.ir_layout.specs.Nodes.{node_point, node_of}
 use Rattle.ir_layout.specs.Layout.{Landing, lands_in, laid_arms}
 use Rattle.ir_layout.specs.Views.{stacked, around_of, ahead_view, after_first, laid_behind}

@@ -1,5 +1,5 @@
 use Rattle.std.proofs.Common.{◌≡◌, ◌++◌, map, drop}
-use Rattle.block_meaning.specs.Trees.{sequence_of, arm_row}
+use Rattle.ir_core.specs.Trees.{sequence_of, arm_row}
 use Rattle.ir_layout.specs.Views.{number, arm_starts_from}
 use Rattle.ir_layout.proofs.ways.arm_starts.Given as goal
 

@@ -1,5 +1,5 @@
 use Rattle.std.proofs.Common.{◌≡◌, ◌∙◌, ◌+◌, ℕ, ap, sym, map, get_or, rules, arith}
-use Rattle.block_meaning.specs.Trees.{sequence_of, part_of, shape_of, arm_row, part_row, switch}
+use Rattle.ir_core.specs.Trees.{sequence_of, part_of, shape_of, arm_row, part_row, switch}
 use Rattle.ir_layout.specs.Sizes.{parts_size}
 use Rattle.ir_layout.specs.Views.{number, arm_starts_from, other_in}
 use Rattle.ir_layout.specs.Layout.{by_case, arm_start, other_start, ahead_of, behind_shape}

@@ -1,7 +1,7 @@
 use Rattle.std.proofs.Common.{◌∙◌, ap, sym, false, ◌&&◌, ◌||◌, get_or}
 use Rattle.std.specs.Prelude.{nat_lt}
 use Rattle.std.proofs.lemmas.List.{drop_all}
-use Rattle.lowering.specs.Lowering.{is_named}
+use Rattle.passes.specs.Lowering.{is_named}
 use Rattle.ir_lower.specs.Arms.{begins_arm}
 use Rattle.ir_lower.proofs.Arming.{marks_step, none_left}
 use Rattle.ir_lower.proofs.arms.arm_begins.Goals as goal

@@ -1,6 +1,6 @@
 use Rattle.std.proofs.Common.{◌≡◌, ℕ, false, ◌&&◌, ◌||◌, drop, length, get_or}
 use Rattle.std.specs.Prelude.{nat_lt}
-use Rattle.lowering.specs.Lowering.{is_named}
+use Rattle.passes.specs.Lowering.{is_named}
 use Rattle.ir_lower.specs.Arms.{begins_arm}
 use Rattle.ir_lower.proofs.arms.arm_begins.Given as goal
 

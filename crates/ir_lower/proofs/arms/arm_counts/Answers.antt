@@ -1,7 +1,7 @@
 use Rattle.std.proofs.Common.{◌≡◌, ◌∙◌, ◌+◌, ℕ, ap, length, arith, ◌&&◌}
 use Rattle.std.proofs.lemmas.Bool.{lt-ltb}
 use Rattle.std.proofs.lemmas.List.{length_push}
-use Rattle.lowering.specs.Lowering.{is_named}
+use Rattle.passes.specs.Lowering.{is_named}
 use Rattle.ir_lower.specs.Arms.{arms_until}
 use Rattle.ir_lower.proofs.Arming.{counts_next, counts_more, counts_all}
 use Rattle.ir_lower.proofs.arms.arm_counts.Goals as goal

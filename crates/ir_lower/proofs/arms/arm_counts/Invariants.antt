@@ -1,5 +1,5 @@
 use Rattle.std.proofs.Common.{◌≡◌, ℕ, ◌<◌, length, get_or}
-use Rattle.lowering.specs.Lowering.{arms_before}
+use Rattle.passes.specs.Lowering.{arms_before}
 use Rattle.ir_lower.proofs.arms.arm_counts.Given as goal
 
 abbrev pub invariant-loop-i : goal.invariant-loop-i

@@ -1,5 +1,5 @@
 use Rattle.std.proofs.Common.{◌≡◌, drop}
-use Rattle.lowering.specs.Lowering.{other}
+use Rattle.passes.specs.Lowering.{other}
 use Rattle.ir_lower.proofs.arms.other_target.Given as goal
 
 abbrev pub invariant-loop-label : goal.invariant-loop-label

@@ -1,6 +1,6 @@
 use Rattle.std.proofs.Common.{◌∙◌, ◌<◌, ap, sym, map, length}
-use Rattle.block_meaning.specs.Trees.{sequence_of, arm_row}
-use Rattle.lowering.specs.Lowering.{parts_of}
+use Rattle.ir_core.specs.Trees.{sequence_of, arm_row}
+use Rattle.passes.specs.Lowering.{parts_of}
 use Rattle.ir_lower.specs.Lines.{first_parts, later_arms}
 use Rattle.ir_lower.proofs.Rows.{sequence_out, front}
 use Rattle.ir_lower.proofs.arms.split_first.Goals as goal

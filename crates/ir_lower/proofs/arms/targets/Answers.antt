@@ -1,6 +1,6 @@
 use Rattle.std.proofs.Common.{◌∙◌, ◌++◌, ap, sym}
 use Rattle.std.proofs.lemmas.List.{drop_all, append-nil}
-use Rattle.lowering.specs.Lowering.{targets}
+use Rattle.passes.specs.Lowering.{targets}
 use Rattle.ir_lower.proofs.Arming.{targets_step}
 use Rattle.ir_lower.proofs.arms.targets.Goals as goal
 

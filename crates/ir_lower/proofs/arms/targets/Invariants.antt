@@ -1,5 +1,5 @@
 use Rattle.std.proofs.Common.{◌≡◌, ◌++◌, drop}
-use Rattle.lowering.specs.Lowering.{targets}
+use Rattle.passes.specs.Lowering.{targets}
 use Rattle.ir_lower.proofs.arms.targets.Given as goal
 
 abbrev pub invariant-loop-label : goal.invariant-loop-label

@@ -1,5 +1,5 @@
 use Rattle.std.proofs.Common.{◌≡◌, drop}
-use Rattle.lowering.specs.Copies.{all_fixed}
+use Rattle.passes.specs.Lowering.Copies.{all_fixed}
 use Rattle.ir_lower.specs.Copies.{fixed_of}
 use Rattle.ir_lower.proofs.copies.all_fixed.Given as goal
 

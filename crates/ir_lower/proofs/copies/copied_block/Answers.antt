@@ -1,6 +1,6 @@
 use Rattle.std.proofs.Common.{ap}
-use Rattle.block_meaning.specs.Trees.{block_of}
-use Rattle.lowering.specs.Copies.{with_copied}
+use Rattle.ir_core.specs.Trees.{block_of}
+use Rattle.passes.specs.Lowering.Copies.{with_copied}
 use Rattle.ir_lower.proofs.copies.copied_block.Goals as goal
 
 pub returns : goal.returns

@@ -1,8 +1,8 @@
 use Rattle.std.proofs.Common.{◌∙◌, ◌≤◌, ap, sym, subst, map, List, length}
 use Rattle.std.proofs.lemmas.List.{drop_all}
 use Rattle.ir_core.specs.declared.body.Out.{Out}
-use Rattle.block_meaning.specs.Trees.{part_of, part_row}
-use Rattle.lowering.specs.Copies.{copied_outs}
+use Rattle.ir_core.specs.Trees.{part_of, part_row}
+use Rattle.passes.specs.Lowering.Copies.{copied_outs}
 use Rattle.block_draft.specs.Drafts.{scope_of}
 use Rattle.ir_lower.specs.Copies.{fixed_of, copied_of}
 use Rattle.ir_lower.proofs.copies.copied_outs.Goals as goal

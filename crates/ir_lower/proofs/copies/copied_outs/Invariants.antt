@@ -1,7 +1,7 @@
 use Rattle.std.proofs.Common.{◌≡◌, [], drop, map}
-use Rattle.block_meaning.specs.Bodies.{op_of}
-use Rattle.block_meaning.specs.Trees.{part_of, part_row}
-use Rattle.lowering.specs.Copies.{copied_outs}
+use Rattle.ir_core.specs.Bodies.{op_of}
+use Rattle.ir_core.specs.Trees.{part_of, part_row}
+use Rattle.passes.specs.Lowering.Copies.{copied_outs}
 use Rattle.block_draft.specs.Drafts.{scope_of}
 use Rattle.ir_lower.specs.Copies.{fixed_of, copied_of}
 use Rattle.ir_lower.proofs.copies.copied_outs.Given as goal

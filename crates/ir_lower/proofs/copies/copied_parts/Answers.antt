@@ -2,13 +2,13 @@ use Rattle.std.proofs.Common.{◌≡◌, ◌∙◌, ap, sym, refl, map, List, []
 use Rattle.std.specs.Prelude.{reverse, if◌then◌else◌, ◌&&◌}
 use Rattle.std.proofs.lemmas.List.{reverse-reverse}
 use Rattle.ir_core.specs.declared.tree.Part.{Part}
-use Rattle.block_meaning.specs.Bodies.{op_of}
-use Rattle.block_meaning.specs.Trees.{shape_of, block_of, part_of, part_row}
+use Rattle.ir_core.specs.Bodies.{op_of}
+use Rattle.ir_core.specs.Trees.{shape_of, block_of, part_of, part_row}
 use Rattle.ir_core.specs.declared.body.Op.{Op}
 use Rattle.ir_core.specs.declared.body.Out.{Out}
 use Rattle.ir_core.specs.declared.stamp.Untimed.{Untimed}
-use Rattle.lowering.specs.Outs.{held}
-use Rattle.lowering.specs.Copies.{copied_parts, fixed_behind_shape, with_ops, outs_set, parts_set, is_fixed}
+use Rattle.passes.specs.Lowering.Outs.{held}
+use Rattle.passes.specs.Lowering.Copies.{copied_parts, fixed_behind_shape, with_ops, outs_set, parts_set, is_fixed}
 use Rattle.block_draft.specs.Drafts.{scope_of}
 use Rattle.ir_lower.specs.Copies.{is_in, fixed_of}
 use Rattle.ir_lower.specs.Lines.{with_parts}

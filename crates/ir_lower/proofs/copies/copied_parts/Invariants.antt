@@ -1,7 +1,7 @@
 use Rattle.std.proofs.Common.{◌≡◌, map, length}
 use Rattle.std.specs.Prelude.{reverse}
-use Rattle.block_meaning.specs.Trees.{part_of, part_row}
-use Rattle.lowering.specs.Copies.{copied_parts}
+use Rattle.ir_core.specs.Trees.{part_of, part_row}
+use Rattle.passes.specs.Lowering.Copies.{copied_parts}
 use Rattle.block_draft.specs.Drafts.{scope_of}
 use Rattle.ir_lower.specs.Copies.{is_in}
 use Rattle.ir_lower.specs.Lines.{with_parts}

@@ -1,9 +1,9 @@
 use Rattle.std.proofs.Common.{◌∙◌, ap, ◌&&◌, map}
 use Rattle.std.specs.Prelude.{if◌then◌else◌, not}
 use Rattle.hls_base.specs.declared.number.VarId.{VarId}
-use Rattle.block_meaning.specs.Trees.{part_of, part_row}
-use Rattle.lowering.specs.Outs.{held}
-use Rattle.lowering.specs.Copies.{outs_set, parts_set, is_fixed}
+use Rattle.ir_core.specs.Trees.{part_of, part_row}
+use Rattle.passes.specs.Lowering.Outs.{held}
+use Rattle.passes.specs.Lowering.Copies.{outs_set, parts_set, is_fixed}
 use Rattle.ir_lower.specs.Copies.{is_in, fixed_of}
 use Rattle.ir_lower.proofs.Copying.{outs_step, outs_all, either_way}
 use Rattle.ir_lower.proofs.copies.fixed_behind.Goals as goal

@@ -1,8 +1,8 @@
 use Rattle.std.proofs.Common.{ap, ◌&&◌}
 use Rattle.std.specs.Prelude.{not}
 use Rattle.hls_base.specs.declared.number.VarId.{VarId}
-use Rattle.block_meaning.specs.Trees.{shape_of}
-use Rattle.lowering.specs.Copies.{shape_sets}
+use Rattle.ir_core.specs.Trees.{shape_of}
+use Rattle.passes.specs.Lowering.Copies.{shape_sets}
 use Rattle.ir_lower.specs.Copies.{is_in}
 use Rattle.ir_lower.proofs.Copying.{kept_step, kept_all}
 use Rattle.ir_lower.proofs.copies.fixed_behind_shape.Goals as goal

@@ -1,6 +1,6 @@
 use Rattle.std.proofs.Common.{◌≡◌, drop, map, []}
-use Rattle.block_meaning.specs.Bodies.{op_of}
-use Rattle.lowering.specs.Copies.{with_ops}
+use Rattle.ir_core.specs.Bodies.{op_of}
+use Rattle.passes.specs.Lowering.Copies.{with_ops}
 use Rattle.ir_lower.specs.Copies.{is_in, fixed_of}
 use Rattle.ir_lower.proofs.copies.fixed_in.Given as goal
 

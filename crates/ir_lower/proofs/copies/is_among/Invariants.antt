@@ -1,5 +1,5 @@
 use Rattle.std.proofs.Common.{◌≡◌, drop}
-use Rattle.lowering.specs.Copies.{is_among}
+use Rattle.passes.specs.Lowering.Copies.{is_among}
 use Rattle.ir_lower.proofs.copies.is_among.Given as goal
 
 abbrev pub invariant-loop-other : goal.invariant-loop-other

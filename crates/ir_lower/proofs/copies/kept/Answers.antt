@@ -1,7 +1,7 @@
 use Rattle.std.proofs.Common.{ap, ◌&&◌}
 use Rattle.std.specs.Prelude.{not}
 use Rattle.hls_base.specs.declared.number.VarId.{VarId}
-use Rattle.lowering.specs.Copies.{outs_set}
+use Rattle.passes.specs.Lowering.Copies.{outs_set}
 use Rattle.ir_lower.specs.Copies.{is_in}
 use Rattle.ir_lower.proofs.Copying.{kept_step, kept_all}
 use Rattle.ir_lower.proofs.copies.kept.Goals as goal

@@ -1,13 +1,13 @@
 use Rattle.std.proofs.Common.{◌∙◌, ap, sym, map, List, []}
 use Rattle.ir_core.specs.declared.tree.Sequence.{out-Sequence}
-use Rattle.block_meaning.specs.Trees.{block_of, part_of, part_row}
+use Rattle.ir_core.specs.Trees.{block_of, part_of, part_row}
 use Rattle.std.specs.Prelude.{if◌then◌else◌, ◌&&◌}
 use Rattle.ir_core.specs.declared.body.Op.{Op}
 use Rattle.ir_core.specs.declared.body.Out.{Out}
 use Rattle.ir_core.specs.declared.stamp.Untimed.{Untimed}
-use Rattle.block_meaning.specs.Bodies.{op_of}
-use Rattle.lowering.specs.Outs.{held}
-use Rattle.lowering.specs.Copies.{copied, with_ops, outs_set, parts_set, is_fixed}
+use Rattle.ir_core.specs.Bodies.{op_of}
+use Rattle.passes.specs.Lowering.Outs.{held}
+use Rattle.passes.specs.Lowering.Copies.{copied, with_ops, outs_set, parts_set, is_fixed}
 use Rattle.block_draft.specs.Drafts.{scope_of}
 use Rattle.ir_lower.specs.Copies.{is_in, fixed_of}
 use Rattle.ir_lower.proofs.Rows.{sequence_out, sequence_rolled}

@@ -2,7 +2,7 @@ use Rattle.std.proofs.Common.{◌≡◌, ◌∙◌, ap, sym, subst, IfOk}
 use Rattle.std.proofs.lemmas.Result.{IfOk-weaker}
 use Rattle.pieces.specs.Trees as tree
 use Rattle.pieces.specs.View.{pure_of, piece_of}
-use Rattle.lowering.specs.Blocks.{all_set, set}
+use Rattle.passes.specs.Lowering.Blocks.{all_set, set}
 use Rattle.block_draft.specs.Drafts.{scope_of, open_at}
 use Rattle.ir_lower.proofs.PieceForms.{set_tree}
 use Rattle.ir_lower.proofs.line.add_set.Goals as goal

@@ -1,8 +1,8 @@
 use Rattle.std.proofs.Common.{◌≡◌, drop}
 use Rattle.hls_base.specs.declared.point.Point.{Point}
 use Rattle.pieces.specs.View.{pieces_of}
-use Rattle.block_meaning.specs.Trees.{ExitTree}
-use Rattle.lowering.specs.Blocks.{all_set}
+use Rattle.ir_core.specs.Trees.{ExitTree}
+use Rattle.passes.specs.Lowering.Blocks.{all_set}
 use Rattle.block_draft.specs.Drafts.{scope_of, open_at}
 use Rattle.ir_lower.proofs.line.set_all.Given as goal
 

@@ -1,7 +1,7 @@
 use Rattle.std.proofs.Common.{◌∙◌, ap, sym, map, List}
 use Rattle.ir_core.specs.declared.tree.Part.{Part}
-use Rattle.block_meaning.specs.Trees.{sequence, block_of, part_of, shape_of}
-use Rattle.lowering.specs.Lowering.{followed}
+use Rattle.ir_core.specs.Trees.{sequence, block_of, part_of, shape_of}
+use Rattle.passes.specs.Lowering.{followed}
 use Rattle.ir_lower.specs.Lines.{behind, with_parts, shape_before}
 use Rattle.ir_lower.proofs.Rows.{pushed, followed_is, before_followed}
 use Rattle.ir_lower.proofs.line.with_block.Goals as goal

@@ -1,7 +1,7 @@
 use Rattle.std.proofs.Common.{◌∙◌, ap, sym, map}
 use Rattle.ir_core.specs.declared.tree.Part.{Part}
-use Rattle.block_meaning.specs.Trees.{sequence, no_part, block_of, part_of}
-use Rattle.lowering.specs.Lowering.{last}
+use Rattle.ir_core.specs.Trees.{sequence, no_part, block_of, part_of}
+use Rattle.passes.specs.Lowering.{last}
 use Rattle.ir_lower.specs.Lines.{behind}
 use Rattle.ir_lower.proofs.Rows.{sequence_rolled, row_none, pushed}
 use Rattle.ir_lower.proofs.line.with_last.Goals as goal

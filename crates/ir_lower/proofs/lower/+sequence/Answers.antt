@@ -9,11 +9,11 @@ use Rattle.pieces.specs.Trees as tree
 use Rattle.pieces.specs.Weight.{weight}
 use Rattle.ir_core.specs.declared.tree.Shape.TheVariants as v
 use Rattle.pieces.specs.View.{pure_of, piece_of, pieces_of}
-use Rattle.block_meaning.specs.Trees.{sequence_of, shape_of, fork, loop, switch, side, side_of, more_arms, part_of, part_row, arm_row}
-use Rattle.lowering.specs.Shapes as shapes
-use Rattle.lowering.specs.Blocks.{begun, is_live, ends_by_test, ends_by_fork, ends_by_cases}
-use Rattle.lowering.specs.Lowering as spec
-use Rattle.lowering.specs.Lowering.{Rest, last, followed, side_from, stepped, lowered, lowered_piece, is_named}
+use Rattle.ir_core.specs.Trees.{sequence_of, shape_of, fork, loop, switch, side, side_of, more_arms, part_of, part_row, arm_row}
+use Rattle.passes.specs.Lowering.Shapes as shapes
+use Rattle.passes.specs.Lowering.Blocks.{begun, is_live, ends_by_test, ends_by_fork, ends_by_cases}
+use Rattle.passes.specs.Lowering as spec
+use Rattle.passes.specs.Lowering.{Rest, last, followed, side_from, stepped, lowered, lowered_piece, is_named}
 use Rattle.block_draft.specs.Drafts.{scope_of}
 use Rattle.ir_lower.specs.Lines.{ended, ended_arms, open_of, with_arms, first_parts, later_arms}
 use Rattle.ir_lower.specs.Points.{pointed, is_fork_that_converts, is_loop_that_overlaps}

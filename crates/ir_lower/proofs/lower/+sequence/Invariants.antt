@@ -1,9 +1,9 @@
 use Rattle.std.proofs.Common.{◌≡◌, drop}
 use Rattle.pieces.specs.View.{pieces_of}
-use Rattle.block_meaning.specs.Trees.{more_arms, break_}
-use Rattle.lowering.specs.Blocks.{begun}
-use Rattle.lowering.specs.Lowering as spec
-use Rattle.lowering.specs.Lowering.{Rest}
+use Rattle.ir_core.specs.Trees.{more_arms, break_}
+use Rattle.passes.specs.Lowering.Blocks.{begun}
+use Rattle.passes.specs.Lowering as spec
+use Rattle.passes.specs.Lowering.{Rest}
 use Rattle.block_draft.specs.Drafts.{scope_of}
 use Rattle.ir_lower.specs.Lines.{ended, ended_arms}
 use Rattle.ir_lower.proofs.lower.+sequence.Given as goal

@@ -1,8 +1,8 @@
 use Rattle.std.proofs.Common.{◌∙◌, ap, sym}
 use Rattle.std.specs.Option.{option_map}
 use Rattle.pieces.specs.View.{pieces_of}
-use Rattle.block_meaning.specs.Trees.{sequence_of, side_of}
-use Rattle.lowering.specs.Lowering.{last, lowered, side_from}
+use Rattle.ir_core.specs.Trees.{sequence_of, side_of}
+use Rattle.passes.specs.Lowering.{last, lowered, side_from}
 use Rattle.block_draft.specs.Drafts.{scope_of}
 use Rattle.ir_lower.proofs.lower.lower.Goals as goal
 

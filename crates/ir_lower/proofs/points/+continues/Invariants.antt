@@ -1,6 +1,6 @@
 use Rattle.std.proofs.Common.{◌≡◌, drop}
 use Rattle.pieces.specs.View.{pieces_of}
-use Rattle.lowering.specs.Shapes.{any_continues}
+use Rattle.passes.specs.Lowering.Shapes.{any_continues}
 use Rattle.ir_lower.proofs.points.+continues.Given as goal
 
 abbrev pub invariant-any_continues-loop-piece : goal.invariant-any_continues-loop-piece

@@ -1,6 +1,6 @@
 use Rattle.std.proofs.Common.{◌≡◌, drop, map}
-use Rattle.block_meaning.specs.Trees.{part_of, part_row}
-use Rattle.lowering.specs.Copies.{parts_set}
+use Rattle.ir_core.specs.Trees.{part_of, part_row}
+use Rattle.passes.specs.Lowering.Copies.{parts_set}
 use Rattle.ir_lower.proofs.sets.+sets.Given as goal
 
 abbrev pub invariant-parts_set-loop-part : goal.invariant-parts_set-loop-part

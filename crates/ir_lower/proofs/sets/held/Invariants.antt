@@ -1,5 +1,5 @@
 use Rattle.std.proofs.Common.{◌≡◌, drop}
-use Rattle.lowering.specs.Outs.{held}
+use Rattle.passes.specs.Lowering.Outs.{held}
 use Rattle.ir_lower.proofs.sets.held.Given as goal
 
 abbrev pub invariant-loop-out : goal.invariant-loop-out

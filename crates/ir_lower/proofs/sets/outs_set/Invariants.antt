@@ -1,5 +1,5 @@
 use Rattle.std.proofs.Common.{◌≡◌, drop}
-use Rattle.lowering.specs.Copies.{outs_set}
+use Rattle.passes.specs.Lowering.Copies.{outs_set}
 use Rattle.ir_lower.proofs.sets.outs_set.Given as goal
 
 abbrev pub invariant-loop-out : goal.invariant-loop-out

@@ -1,6 +1,6 @@
 use Rattle.std.proofs.Common.{◌≡◌, map, drop}
-use Rattle.core_program.specs.Core.{row, argument_row}
-use Rattle.core_program.specs.CoreView.{core_of, core_argument_of}
+use Rattle.pieces.specs.Resolved.Core.{row, argument_row}
+use Rattle.pieces.specs.Resolved.CoreView.{core_of, core_argument_of}
 use Rattle.piece_making.specs.Acting.{either, effects_of_all, effects_of_arguments}
 use Rattle.piece_making.proofs.effects.+effects.Given as goal
 

@@ -1,6 +1,6 @@
 use Rattle.std.proofs.Common.{◌≡◌, ◌||◌, map, drop}
-use Rattle.core_program.specs.Core.{stmt_row}
-use Rattle.core_program.specs.CoreView.{core_stmt_of}
+use Rattle.pieces.specs.Resolved.Core.{stmt_row}
+use Rattle.pieces.specs.Resolved.CoreView.{core_stmt_of}
 use Rattle.piece_making.specs.Leaving.{any_leaves}
 use Rattle.piece_making.proofs.leaving.+leaving.Given as goal
 

@@ -1,6 +1,6 @@
 use Rattle.piece_making.proofs.ObjectLaws.{file_made, file_heavy}
 use Rattle.piece_making.proofs.Exits.{through}
-use Rattle.core_program.specs.CoreView.{file_object_of}
+use Rattle.pieces.specs.Resolved.CoreView.{file_object_of}
 use Rattle.piece_making.proofs.objects.file_array.Goals as goal
 
 pub returns-in_err-charge-clause-refused : goal.returns-in_err-charge-clause-refused

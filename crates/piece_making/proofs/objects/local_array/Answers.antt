@@ -1,6 +1,6 @@
 use Rattle.piece_making.proofs.ObjectLaws.{local_made, local_heavy}
 use Rattle.piece_making.proofs.Exits.{through}
-use Rattle.core_program.specs.CoreView.{core_object_of}
+use Rattle.pieces.specs.Resolved.CoreView.{core_object_of}
 use Rattle.piece_making.proofs.objects.local_array.Goals as goal
 
 pub returns-in_err-charge-clause-refused : goal.returns-in_err-charge-clause-refused

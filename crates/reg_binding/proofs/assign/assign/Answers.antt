@@ -1,8 +1,8 @@
 use Rattle.std.proofs.Common.{◌≡◌, ℕ, Bool, length, Some, arith, sym, ap, subst, ◌∙◌}
 use Rattle.std.proofs.lemmas.Option.{slice_get-get_or}
-use Rattle.live_variables.specs.Sets.{has}
-use Rattle.live_variables.specs.Liveness.{summary_of, is_behind}
-use Rattle.clock_ir.specs.declared.timed.Timed.{Timed}
+use Rattle.reg_binding.specs.Sets.{has}
+use Rattle.reg_binding.specs.Liveness.{summary_of, is_behind}
+use Rattle.ir_core.specs.declared.timed.Timed.{Timed}
 use Rattle.ir_core.specs.declared.cfg.Node.{Node}
 use Rattle.reg_binding.specs.Lives.{node_lives, node_period}
 use Rattle.reg_binding.specs.Assigned.{AddsRows, IsAssigned}

@@ -1,4 +1,4 @@
-use Rattle.live_variables.specs.Liveness.{summary_of, is_behind}
+use Rattle.reg_binding.specs.Liveness.{summary_of, is_behind}
 use Rattle.reg_binding.specs.Assigned.{IsAssigned}
 use Rattle.reg_binding.proofs.assign.assign.Given as goal
 

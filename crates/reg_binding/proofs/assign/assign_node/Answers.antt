@@ -1,4 +1,4 @@
-use Rattle.live_variables.specs.Sets.{has}
+use Rattle.reg_binding.specs.Sets.{has}
 use Rattle.reg_binding.specs.Lives.{node_lives, node_period}
 use Rattle.reg_binding.proofs.Rows.{adds_rows}
 use Rattle.reg_binding.proofs.assign.assign_node.Goals as goal

@@ -1,6 +1,6 @@
 use Rattle.std.proofs.Common.{◌≡◌, ◌++◌, drop}
 use Rattle.std.specs.List.{flat_map}
-use Rattle.live_variables.specs.Sets.{has}
+use Rattle.reg_binding.specs.Sets.{has}
 use Rattle.reg_binding.specs.Lives as spec
 use Rattle.reg_binding.proofs.block_reads.push_outs.Given as goal
 

@@ -2,7 +2,7 @@ use Rattle.std.proofs.Common.{◌≡◌, ◌*◌, ◌^◌, ◌<◌, ℕ, Option,
 use Rattle.std.specs.Prelude.{IfSome}
 use Rattle.std.specs.List.{All}
 use Rattle.std.proofs.lemmas.List.Elements.{All-from_get_or, All-get_or}
-use Rattle.live_variables.specs.Sets.{has}
+use Rattle.reg_binding.specs.Sets.{has}
 use Rattle.reg_binding.specs.Lives.{last_read, loop_reads, period}
 use Rattle.reg_binding.proofs.Soon.{last_soon}
 use Rattle.reg_binding.proofs.loop_reads.loop_lives.Goals as goal

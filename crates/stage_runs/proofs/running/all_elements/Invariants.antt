@@ -1,5 +1,5 @@
 use Rattle.std.proofs.Common.{◌≡◌, length, map, take}
-use Rattle.seq_machine.specs.States.{words_of}
+use Rattle.flat_programs.specs.Machine.States.{words_of}
 use Rattle.stage_runs.specs.Stages.{AreArrays}
 use Rattle.stage_runs.proofs.running.all_elements.Given as goal
 

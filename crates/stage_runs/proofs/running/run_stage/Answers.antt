@@ -1,6 +1,6 @@
 use Rattle.std.proofs.Common.{◌∙◌, map, ap, sym, subst}
-use Rattle.c_state.specs.Reading.{Reading}
-use Rattle.seq_machine.specs.declared.machine.SeqMachine.{SeqMachine}
+use Rattle.c_machine.specs.State.Reading.{Reading}
+use Rattle.flat_programs.specs.declared.machine.machine.SeqMachine.{SeqMachine}
 use Rattle.stage_runs.specs.declared.stage.PointCount.{PointCount}
 use Rattle.stage_runs.specs.Points.{counted}
 use Rattle.stage_runs.proofs.Ending.{HasCome, has_come, points_are, counts_in_c, told_at}

@@ -1,5 +1,5 @@
 use Rattle.std.proofs.Common.{◌∙◌, ap, arith}
-use Rattle.seq_machine.specs.declared.machine.SeqMachine.{SeqMachine}
+use Rattle.flat_programs.specs.declared.machine.machine.SeqMachine.{SeqMachine}
 use Rattle.stage_runs.proofs.Ending.{further}
 use Rattle.stage_runs.proofs.running.run_to_end.Goals as goal
 

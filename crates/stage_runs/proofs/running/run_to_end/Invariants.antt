@@ -1,5 +1,5 @@
 use Rattle.std.proofs.Common.{◌≡◌, ◌≤◌, ◌+◌}
-use Rattle.seq_machine.specs.Rest.{IsWhole, rest}
+use Rattle.flat_programs.specs.Machine.Rest.{IsWhole, rest}
 use Rattle.stage_runs.specs.Points.{HasPassed}
 use Rattle.stage_runs.proofs.running.run_to_end.Given as goal
 

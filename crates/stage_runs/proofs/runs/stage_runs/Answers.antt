@@ -1,14 +1,14 @@
 use Rattle.std.proofs.Common.{◌≡◌, ◌∙◌, Some, map, slice_get, ap, sym, subst}
 use Rattle.c_tree.specs.Tree as tree
 use Rattle.c_tree.specs.View.{program_of, item_of, function_of}
-use Rattle.c_checked.specs.declared.checked.Checked.{Checked}
+use Rattle.c_meaning.specs.declared.checks.Checked.{Checked}
 use Rattle.checked_source.specs.SourceFaults.{IsSourceFault}
 use Rattle.c_elaborate.specs.Programs.{program_elaborated}
 use Rattle.c_expand.specs.Expansion.{IsOverweight}
 use Rattle.pieces.specs.declared.expanded.Expanded.{Expanded}
 use Rattle.stage_runs.specs.Agreement as a
 use Rattle.pieces.specs.Program.{ExpandedTree}
-use Rattle.run_file.specs.RunFile.{reading_of}
+use Rattle.cosim_levels.specs.RunFile.{reading_of}
 use Rattle.stage_runs.specs.Agreement.{IsRefusedAs, AreStageRuns}
 use Rattle.stage_runs.specs.Whole.{HasWholeStages}
 use Rattle.stage_runs.proofs.WholeStages.{faultless_of}

@@ -1,6 +1,6 @@
 use Rattle.std.proofs.Common.{◌≤◌, length, get_or, arith}
 use Rattle.std.proofs.lemmas.List.{length-map}
-use Rattle.ir_operation.specs.declared.timing.UnitClass.TheVariants.{Multiplier}
+use Rattle.ir_core.specs.declared.timing.UnitClass.TheVariants.{Multiplier}
 use Rattle.unit_binding.specs.declared.bind.Request.{Request}
 use Rattle.unit_binding.specs.declared.binding.Binding.{Binding}
 use Rattle.unit_binding.specs.Binding.{order_view, binding_view, dealt, first_turn}

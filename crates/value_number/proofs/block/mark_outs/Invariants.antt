@@ -1,5 +1,5 @@
 use Rattle.std.proofs.Common.{◌≡◌, ℕ, ◌<◌, ◌||◌, false, length, drop, slice_index_or}
-use Rattle.numbering.specs.Numbering as n
+use Rattle.passes.specs.Numbering as n
 use Rattle.value_number.proofs.block.mark_outs.Given as goal
 
 abbrev pub invariant-loop-out : goal.invariant-loop-out

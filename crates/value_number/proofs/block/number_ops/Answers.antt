@@ -1,8 +1,8 @@
 use Rattle.std.proofs.Common.{◌≡◌, ◌<◌, ◌∙◌, ◌++◌, ap, sym, subst, arith, map, [], ◌∷◌, append_assoc, length, length-append, false, slice_index_or}
 use Rattle.std.proofs.lemmas.List.{length-map, map-append}
-use Rattle.block_meaning.specs.Bodies.{op_of}
-use Rattle.numbering.specs.Numbering.{numbered_with, numbered_ops, nothing, makes_out}
-use Rattle.numbering.proofs.Growing.{numbered_more, counts}
+use Rattle.ir_core.specs.Bodies.{op_of}
+use Rattle.passes.specs.Numbering.{numbered_with, numbered_ops, nothing, makes_out}
+use Rattle.passes.proofs.Growing.{numbered_more, counts}
 use Rattle.value_number.specs.Views.{Shows, scope_of, value_of}
 use Rattle.value_number.proofs.block.number_ops.Goals as goal
 

@@ -1,6 +1,6 @@
 use Rattle.std.proofs.Common.{◌≡◌, ◌++◌, true, map}
-use Rattle.block_meaning.specs.Bodies.{op_of}
-use Rattle.numbering.specs.Numbering.{numbered_ops, nothing}
+use Rattle.ir_core.specs.Bodies.{op_of}
+use Rattle.passes.specs.Numbering.{numbered_ops, nothing}
 use Rattle.value_number.specs.Settled.{all_settled}
 use Rattle.value_number.specs.Views.{Shows, scope_of}
 use Rattle.value_number.proofs.block.number_ops.Given as goal

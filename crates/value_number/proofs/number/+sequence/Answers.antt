@@ -1,5 +1,5 @@
 use Rattle.std.proofs.Common.{◌∙◌, ap, map}
-use Rattle.block_meaning.specs.Trees.{sequence_of, part_of, part_row, arm_row}
+use Rattle.ir_core.specs.Trees.{sequence_of, part_of, part_row, arm_row}
 use Rattle.value_number.specs.Settled.{all_true, is_sequence_settled}
 use Rattle.value_number.specs.Views.{scope_of}
 use Rattle.value_number.proofs.Adding.{one_more_part, all_true_more}

@@ -1,6 +1,6 @@
 use Rattle.std.proofs.Common.{◌≡◌, true, map}
-use Rattle.block_meaning.specs.Trees.{sequence_of, part_of, part_row, arm_row}
-use Rattle.numbering.specs.Numbering as n
+use Rattle.ir_core.specs.Trees.{sequence_of, part_of, part_row, arm_row}
+use Rattle.passes.specs.Numbering as n
 use Rattle.value_number.specs.Settled.{all_true, is_part_settled, is_sequence_settled}
 use Rattle.value_number.specs.Views.{scope_of}
 use Rattle.value_number.proofs.number.+sequence.Given as goal

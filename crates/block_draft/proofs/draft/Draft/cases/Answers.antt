@@ -1,8 +1,8 @@
 use Rattle.std.proofs.Common.{◌≡◌, ◌∙◌, ap, subst, IfOk, [], refl}
 use Rattle.c_value.specs.Values.{promoted}
 use Rattle.pieces.specs.View.{pure_of}
-use Rattle.lowering.specs.Expressions.{emitted}
-use Rattle.lowering.specs.Blocks.{promoted_given}
+use Rattle.passes.specs.Lowering.Expressions.{emitted}
+use Rattle.passes.specs.Lowering.Blocks.{promoted_given}
 use Rattle.block_draft.specs.Views.{ops_of}
 use Rattle.block_draft.specs.Drafts.{cases_of, cases_behind}
 use Rattle.block_draft.proofs.draft.Draft.cases.Goals as goal

@@ -1,6 +1,6 @@
 use Rattle.std.proofs.Common.{◌∙◌, ap}
 use Rattle.pieces.specs.View.{pure_of, pures_of}
-use Rattle.lowering.specs.Operations.{Emitted}
+use Rattle.passes.specs.Lowering.Operations.{Emitted}
 use Rattle.block_draft.specs.Views.{ops_of}
 use Rattle.block_draft.specs.Drafts.{open_at, stored_in}
 use Rattle.block_draft.proofs.draft.Draft.put.Goals as goal

@@ -1,9 +1,9 @@
 use Rattle.std.proofs.Common.{◌∙◌, ap, arith, length, []}
 use Rattle.std.proofs.lemmas.Bool.{lt-ltb, le-ltb}
 use Rattle.pieces.specs.View.{pure_of}
-use Rattle.lowering.specs.Outs.{with_out}
-use Rattle.lowering.specs.Expressions.{emitted}
-use Rattle.lowering.specs.Blocks.{given_as, set_to}
+use Rattle.passes.specs.Lowering.Outs.{with_out}
+use Rattle.passes.specs.Lowering.Expressions.{emitted}
+use Rattle.passes.specs.Lowering.Blocks.{given_as, set_to}
 use Rattle.block_draft.specs.Views.{ops_of, made}
 use Rattle.block_draft.specs.Drafts.{scope_of, open_at}
 use Rattle.block_draft.proofs.Drafting.{set_there, set_missing}

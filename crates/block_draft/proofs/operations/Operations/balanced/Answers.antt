@@ -1,6 +1,6 @@
 use Rattle.std.proofs.Common.{◌≡◌, ◌∙◌, IfOk, subst, ap, ap₂}
 use Rattle.c_value.specs.Values.{promoted}
-use Rattle.lowering.specs.Operations.{Emitted, converted, assigned}
+use Rattle.passes.specs.Lowering.Operations.{Emitted, converted, assigned}
 use Rattle.block_draft.specs.Views.{ops_of, given_of, made}
 use Rattle.block_draft.proofs.operations.Operations.balanced.Goals as goal
 

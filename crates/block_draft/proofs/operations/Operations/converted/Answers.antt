@@ -1,5 +1,5 @@
 use Rattle.std.proofs.Common.{◌≡◌, IfOk, subst, ap₂}
-use Rattle.lowering.specs.Operations.{Emitted, converted}
+use Rattle.passes.specs.Lowering.Operations.{Emitted, converted}
 use Rattle.block_draft.specs.Views.{made}
 use Rattle.block_draft.proofs.operations.Operations.converted.Goals as goal
 

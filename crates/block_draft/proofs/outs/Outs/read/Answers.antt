@@ -1,6 +1,6 @@
 use Rattle.std.proofs.Common.{◌∙◌, ap, sym}
 use Rattle.std.specs.Option.{option_copied}
-use Rattle.lowering.specs.Outs.{held}
+use Rattle.passes.specs.Lowering.Outs.{held}
 use Rattle.block_draft.proofs.Settling.{held_settled, value_or}
 use Rattle.block_draft.proofs.outs.Outs.read.Goals as goal
 

@@ -1,7 +1,7 @@
 use Rattle.std.proofs.Common.{◌∙◌, ap, sym, None}
 use Rattle.std.specs.Map.{lookup}
 use Rattle.indexmap.specs.IndexMap.{insert_entry}
-use Rattle.lowering.specs.Outs.{operand_eq, held, with_out}
+use Rattle.passes.specs.Lowering.Outs.{operand_eq, held, with_out}
 use Rattle.block_draft.specs.Settings.{var_eq, settled, latest_from}
 use Rattle.block_draft.proofs.Settling.{set_kept, set_more, is_latest_more, later, set_count}
 use Rattle.block_draft.proofs.outs.Outs.set.Goals as goal

@@ -2,11 +2,11 @@ use Rattle.std.proofs.Common.{◌≡◌, ◌∙◌, ◌++◌, [], ◌∷◌, sym
 use Rattle.c_tree.specs.View.{tree_of}
 use Rattle.c_tree.specs.declared.expression.Expr.{size-Expr}
 use Rattle.c_tree.specs.declared.expression.Expr.TheViews.{sized-Binary}
-use Rattle.c_frames.specs.Chains.{around}
+use Rattle.c_machine.specs.Waiting.Chains.{around}
 use Rattle.c_moves.specs.Machines.{configuration_of}
 use Rattle.c_machine.specs.Moves.{kind_here}
-use Rattle.c_frames.specs.declared.chain.Operator.{Operator}
-use Rattle.c_frames.proofs.OperatorChains.{binary_around}
+use Rattle.c_machine.specs.declared.waiting.chain.Operator.{Operator}
+use Rattle.c_machine.proofs.WaitingLemmas.OperatorChains.{binary_around}
 use Rattle.c_moves.proofs.machine.Machine.+kind_here.Goals as goal
 
 -- src/machine/operand.rt:124:9

@@ -1,7 +1,7 @@
 use Rattle.std.proofs.Common.{◌≡◌, ◌≤◌}
 use Rattle.c_tree.specs.View.{tree_of}
 use Rattle.c_tree.specs.declared.expression.Expr.{size-Expr}
-use Rattle.c_frames.specs.Chains.{around}
+use Rattle.c_machine.specs.Waiting.Chains.{around}
 use Rattle.c_moves.specs.Machines.{configuration_of}
 use Rattle.c_machine.specs.Moves.{kind_here}
 use Rattle.c_moves.proofs.machine.Machine.+kind_here.Given as goal

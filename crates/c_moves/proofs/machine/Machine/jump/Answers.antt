@@ -5,7 +5,7 @@ use Rattle.c_tree.specs.View.{stmts_of}
 use Rattle.c_value.specs.Values.{promoted, convert}
 use Rattle.c_meaning.specs.Statement.{target_label}
 use Rattle.c_machine.specs.Moves.{landing}
-use Rattle.c_frames.specs.Labels.{landing_of}
+use Rattle.c_machine.specs.Waiting.Labels.{landing_of}
 use Rattle.c_moves.specs.Machines.{configuration_of}
 use Rattle.c_moves.proofs.Jumping.{on_ok, jumped-is}
 use Rattle.c_moves.proofs.machine.Machine.jump.Goals as goal

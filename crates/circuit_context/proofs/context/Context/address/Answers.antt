@@ -5,7 +5,7 @@ use Rattle.rtl_logic.specs.Making.{circuit}
 use Rattle.program_validity.proofs.Memories.{memory_valid}
 use Rattle.program_validity.proofs.EachOperation.{some_dims}
 use Rattle.datapath.specs.Plans.{Array, array_at}
-use Rattle.plan_sizes.proofs.Programs.{memory_array}
+use Rattle.datapath.proofs.Programs.{memory_array}
 use Rattle.circuit_context.proofs.Standing.{program_of}
 use Rattle.circuit_context.proofs.Addresses.{not_found, array_there, array_missing, array_address}
 use Rattle.circuit_context.proofs.context.Context.address.Goals as goal

@@ -5,7 +5,7 @@ use Rattle.rtl_logic.specs.Making.{circuit}
 use Rattle.rtl_logic.proofs.Making.{appended, fits_later}
 use Rattle.datapath.specs.Cycles.{Cycle, Active, Time, holds, bit}
 use Rattle.datapath.specs.Reading as reading
-use Rattle.circuit_wires.proofs.Combining.{carries_as, there_already}
+use Rattle.datapath.proofs.Combining.{carries_as, there_already}
 use Rattle.circuit_context.proofs.Telling.{holds_tells, both_tell}
 use Rattle.circuit_context.proofs.Standing.{span_there, at_each, at_counted}
 use Rattle.circuit_context.proofs.context.Context.at.Goals as goal

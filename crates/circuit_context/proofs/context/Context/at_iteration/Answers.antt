@@ -4,7 +4,7 @@ use Rattle.std.proofs.lemmas.Result.{IfOk-weaker}
 use Rattle.rtl_logic.specs.Making.{circuit}
 use Rattle.datapath.specs.Cycles.{Cycle, Passed, holds, bit}
 use Rattle.datapath.specs.Reading as reading
-use Rattle.circuit_wires.proofs.Combining.{carries_as}
+use Rattle.datapath.proofs.Combining.{carries_as}
 use Rattle.circuit_context.proofs.Telling.{holds_tells, made_both}
 use Rattle.circuit_context.proofs.Standing.{span_there, at_first, at_later}
 use Rattle.circuit_context.proofs.context.Context.at_iteration.Goals as goal

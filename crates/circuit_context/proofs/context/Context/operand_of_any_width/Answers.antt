@@ -1,8 +1,8 @@
 use Rattle.std.proofs.Common.{◌≡◌, ◌∙◌, Some, None, sym, ap}
 use Rattle.std.proofs.lemmas.Result.{IfOk-weaker}
 use Rattle.dep_graph.specs.Dependences.{maker_of}
-use Rattle.clock_meaning.specs.Flows.{TimedBody, place, ready}
-use Rattle.clock_meaning.specs.ClockRuns.{timed_node}
+use Rattle.clock_ir.specs.Flows.{TimedBody, place, ready}
+use Rattle.clock_ir.specs.ClockRuns.{timed_node}
 use Rattle.rtl_logic.specs.Making.{circuit}
 use Rattle.datapath.specs.Plans.{body_of}
 use Rattle.datapath.specs.Cycles.{Cycle}

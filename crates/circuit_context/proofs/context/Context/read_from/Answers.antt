@@ -3,7 +3,7 @@ use Rattle.std.specs.Prelude.{IfOk}
 use Rattle.std.proofs.lemmas.Result.{IfOk-weaker}
 use Rattle.datapath.specs.Cycles.{Cycle, Variable}
 use Rattle.datapath.specs.Reading as reading
-use Rattle.circuit_log.specs.Logs.{CarriesSome}
+use Rattle.circuit_context.specs.Wanted.Logs.{CarriesSome}
 use Rattle.circuit_context.proofs.Telling.{register_some}
 use Rattle.circuit_context.proofs.Chains.{constant_read}
 use Rattle.circuit_context.proofs.context.Context.read_from.Goals as goal

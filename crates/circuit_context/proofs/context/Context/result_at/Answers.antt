@@ -4,7 +4,7 @@ use Rattle.reg_binding.specs.declared.registers.Held.{Held}
 use Rattle.datapath.specs.Plans.{Plan}
 use Rattle.datapath.specs.Cycles.{Cycle, Value}
 use Rattle.datapath.specs.Reading as reading
-use Rattle.held_places.specs.Held.{IsHeldBy}
+use Rattle.datapath.specs.Held.{IsHeldBy}
 use Rattle.circuit_context.proofs.Telling.{some_as, register_some}
 use Rattle.circuit_context.proofs.Chains.{place_read}
 use Rattle.circuit_context.proofs.context.Context.result_at.Goals as goal

@@ -3,7 +3,7 @@ use Rattle.std.specs.Prelude.{IsSome}
 use Rattle.rtl_logic.specs.Making.{circuit}
 use Rattle.datapath.specs.Plans.{Plan}
 use Rattle.datapath.specs.Cycles.{Register}
-use Rattle.circuit_wires.specs.Carrying.{IsBegun}
+use Rattle.datapath.specs.CircuitWires.Carrying.{IsBegun}
 use Rattle.circuit_context.specs.Contexts.{IsContext, MakesAddress}
 use Rattle.circuit_context.proofs.context.Context.side_by_side.Given as goal
 

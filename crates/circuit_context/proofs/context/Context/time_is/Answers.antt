@@ -4,7 +4,7 @@ use Rattle.std.proofs.lemmas.Bool.{ltb-false}
 use Rattle.rtl_logic.specs.Making.{circuit}
 use Rattle.datapath.specs.Cycles.{Cycle, Time, bit}
 use Rattle.datapath.specs.Control.{greatest_time}
-use Rattle.circuit_wires.proofs.Combining.{there_already}
+use Rattle.datapath.proofs.Combining.{there_already}
 use Rattle.circuit_context.proofs.Telling.{nothing_held}
 use Rattle.circuit_context.proofs.Standing.{program_of, no_time}
 use Rattle.circuit_context.proofs.context.Context.time_is.Goals as goal

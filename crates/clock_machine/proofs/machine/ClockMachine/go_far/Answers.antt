@@ -1,5 +1,5 @@
 use Rattle.std.proofs.Common.{◌≡◌, ◌+◌, ◌-◌, refl, sym, ◌∙◌, subst, arith}
-use Rattle.machine_laws.specs.Halts.{HasHalted}
+use Rattle.ir_core.specs.Halts.{HasHalted}
 use Rattle.clock_machine.specs.declared.machine.ClockMachine.{ClockMachine}
 use Rattle.clock_machine.specs.Halts.{halt_at}
 use Rattle.clock_machine.specs.Runs.{IsBehind}

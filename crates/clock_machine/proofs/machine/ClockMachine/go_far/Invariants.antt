@@ -1,7 +1,7 @@
 use Rattle.std.proofs.Common.{◌≡◌, ◌+◌, ◌-◌, ◌≤◌, ℕ}
-use Rattle.block_meaning.specs.Bodies.{Words}
-use Rattle.machine_laws.specs.Halts.{HasHalted}
-use Rattle.clock_meaning.specs.ClockRuns.{TimedProgram}
+use Rattle.ir_core.specs.Bodies.{Words}
+use Rattle.ir_core.specs.Halts.{HasHalted}
+use Rattle.clock_ir.specs.ClockRuns.{TimedProgram}
 use Rattle.clock_machine.specs.Halts.{halt_at}
 use Rattle.clock_machine.specs.Runs.{IsBehind}
 use Rattle.clock_machine.proofs.machine.ClockMachine.go_far.Given as goal

@@ -1,5 +1,5 @@
 use Rattle.std.proofs.Common.{◌+◌, refl}
-use Rattle.clock_meaning.specs.ClockRuns.{clock_run}
+use Rattle.clock_ir.specs.ClockRuns.{clock_run}
 use Rattle.clock_machine.proofs.Runs.{steps_on, ends_so}
 use Rattle.clock_machine.proofs.machine.ClockMachine.go_on.Goals as goal
 

@@ -1,6 +1,6 @@
 use Rattle.std.proofs.Common.{sym, subst}
-use Rattle.block_meaning.specs.FirstContents.{first_words}
-use Rattle.clock_meaning.specs.ClockRuns.{timed_program}
+use Rattle.ir_core.specs.FirstContents.{first_words}
+use Rattle.clock_ir.specs.ClockRuns.{timed_program}
 use Rattle.clock_machine.specs.Standing.{StandsAt}
 use Rattle.clock_machine.proofs.Orderly.{steady_of}
 use Rattle.clock_machine.proofs.Runs.{begins_run}

@@ -1,6 +1,6 @@
 use Rattle.std.proofs.Common.{◌≡◌}
-use Rattle.block_meaning.specs.Bodies.{Words}
-use Rattle.clock_meaning.specs.ClockRuns.{TimedProgram}
+use Rattle.ir_core.specs.Bodies.{Words}
+use Rattle.clock_ir.specs.ClockRuns.{TimedProgram}
 use Rattle.clock_machine.specs.Runs.{IsBehind, GoesOn}
 use Rattle.clock_machine.proofs.machine.ClockMachine.steps_to_end.Given as goal
 

@@ -1,10 +1,10 @@
 use Rattle.std.proofs.Common.{◌≡◌, ◌≤◌, ℕ, List, length, take, map, refl, ap, ◌∙◌, subst, arith}
-use Rattle.machine_memory.proofs.Banks.{written_back}
-use Rattle.clock_lines.specs.declared.program.Assignment.{Assignment}
-use Rattle.clock_lines.specs.declared.program.Line.{Line}
+use Rattle.flat_programs.proofs.MemoryLemmas.Banks.{written_back}
+use Rattle.clock_machine.specs.declared.lines.program.Assignment.{Assignment}
+use Rattle.clock_machine.specs.declared.lines.program.Line.{Line}
 use Rattle.clock_machine.specs.Leaving.{AssignmentsAreWithin, AssignmentsAreThere, with_words}
-use Rattle.clock_lines.specs.Registers.{word_read}
-use Rattle.clock_lines.specs.Registers.{held}
+use Rattle.clock_machine.specs.Lines.Registers.{word_read}
+use Rattle.clock_machine.specs.Lines.Registers.{held}
 use Rattle.clock_machine.proofs.TakenWords.{words_read}
 use Rattle.clock_machine.proofs.state.State.assign.Goals as goal
 

@@ -1,5 +1,5 @@
 use Rattle.std.proofs.Common.{refl}
-use Rattle.machine_memory.specs.Contents.{words_in}
+use Rattle.flat_programs.specs.Memory.Contents.{words_in}
 use Rattle.clock_machine.specs.declared.state.Position.TheVariants as position
 use Rattle.clock_machine.specs.declared.state.State.{State}
 use Rattle.clock_machine.specs.Standing.{KeepsRoom}

@@ -1,5 +1,5 @@
 use Rattle.std.proofs.Common.{◌≡◌, ◌+◌, ◌<◌, ◌≤◌, ◌∙◌, arith}
-use Rattle.clock_meaning.specs.Flows.{tick}
+use Rattle.clock_ir.specs.Flows.{tick}
 use Rattle.clock_machine.proofs.Going.{block_leaves, block_goes_on, block_is_left}
 use Rattle.clock_machine.proofs.Staying.{room_then, state_stays}
 use Rattle.clock_machine.proofs.Ticks.{next_time}

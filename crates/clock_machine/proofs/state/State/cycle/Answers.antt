@@ -1,6 +1,6 @@
 use Rattle.std.proofs.Common.{◌≡◌, ◌<◌, length, slice_get, Some, sym, ◌∙◌, subst, arith}
 use Rattle.std.proofs.lemmas.Option.{slice_get_within, slice_get-get_or}
-use Rattle.clock_lines.specs.declared.program.Stage.{Stage}
+use Rattle.clock_machine.specs.declared.lines.program.Stage.{Stage}
 use Rattle.clock_machine.proofs.Going.{cycle_block, cycle_loop}
 use Rattle.clock_machine.proofs.state.State.cycle.Goals as goal
 

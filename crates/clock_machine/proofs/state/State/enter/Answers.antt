@@ -1,6 +1,6 @@
 use Rattle.std.proofs.Common.{◌≡◌, ◌<◌, length, slice_get, Some, refl, sym, ◌∙◌, subst, arith}
 use Rattle.std.proofs.lemmas.Option.{slice_get-get_or}
-use Rattle.clock_lines.specs.declared.program.Stage.{Stage}
+use Rattle.clock_machine.specs.declared.lines.program.Stage.{Stage}
 use Rattle.clock_machine.specs.declared.state.Position.TheVariants as position
 use Rattle.clock_machine.specs.Starts.{words_of}
 use Rattle.clock_machine.specs.Standing.{KeepsRoom}

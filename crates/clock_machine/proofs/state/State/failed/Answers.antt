@@ -1,6 +1,6 @@
 use Rattle.std.proofs.Common.{◌≡◌, ◌+◌, ◌-◌, ◌^◌, true, false, min, sym, ◌∙◌, subst, arith}
-use Rattle.clock_meaning.specs.Flows.{is_at, gates_now}
-use Rattle.clock_lines.specs.Showing.{ShowsGates}
+use Rattle.clock_ir.specs.Flows.{is_at, gates_now}
+use Rattle.clock_machine.specs.Lines.Showing.{ShowsGates}
 use Rattle.clock_machine.proofs.Testing.{seen_fails, seen_runs, not_seen}
 use Rattle.clock_machine.proofs.state.State.failed.Goals as goal
 

@@ -1,9 +1,9 @@
 use Rattle.std.proofs.Common.{length, sym, ap, ◌∙◌, subst}
-use Rattle.machine_memory.specs.Contents.{dims_in, words_in}
-use Rattle.clock_meaning.specs.Flows.{gates_now}
-use Rattle.clock_lines.specs.declared.registers.Registers.{Registers}
-use Rattle.clock_lines.specs.Registers.{SameSizes}
-use Rattle.clock_lines.specs.Showing.{ShowsGates}
+use Rattle.flat_programs.specs.Memory.Contents.{dims_in, words_in}
+use Rattle.clock_ir.specs.Flows.{gates_now}
+use Rattle.clock_machine.specs.declared.lines.registers.Registers.{Registers}
+use Rattle.clock_machine.specs.Lines.Registers.{SameSizes}
+use Rattle.clock_machine.specs.Lines.Showing.{ShowsGates}
 use Rattle.clock_machine.specs.declared.state.State.{State}
 use Rattle.clock_machine.specs.Keeping.{IsForm, HasGiven, ShowsGiven}
 use Rattle.clock_machine.specs.Standing.{KeepsRoom}

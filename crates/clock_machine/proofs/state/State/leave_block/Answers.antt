@@ -1,11 +1,11 @@
 use Rattle.std.proofs.Common.{◌≡◌, ℕ, List, refl, sym, ap, ap₂, ◌∙◌, subst}
 use Rattle.std.specs.Option.{option_map}
-use Rattle.machine_memory.specs.Contents.{words_in}
-use Rattle.block_meaning.specs.Bodies.{Words}
-use Rattle.clock_meaning.specs.ClockRuns.{enter, goes_to}
-use Rattle.clock_lines.specs.declared.program.Case.{Case}
-use Rattle.clock_lines.specs.declared.program.Line.{Line}
-use Rattle.clock_lines.specs.Registers.{held, word_read}
+use Rattle.flat_programs.specs.Memory.Contents.{words_in}
+use Rattle.ir_core.specs.Bodies.{Words}
+use Rattle.clock_ir.specs.ClockRuns.{enter, goes_to}
+use Rattle.clock_machine.specs.declared.lines.program.Case.{Case}
+use Rattle.clock_machine.specs.declared.lines.program.Line.{Line}
+use Rattle.clock_machine.specs.Lines.Registers.{held, word_read}
 use Rattle.clock_machine.specs.declared.state.Position.TheVariants as position
 use Rattle.clock_machine.specs.Acts.{ReadIsWithinIf}
 use Rattle.clock_machine.specs.Leaving.{CasesAreWithin, WayIsWithin, assigned, chosen_in, going_in}

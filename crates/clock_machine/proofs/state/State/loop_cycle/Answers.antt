@@ -1,8 +1,8 @@
 use Rattle.std.proofs.Common.{◌≡◌, ℕ, ◌<◌, ◌^◌, ◌-◌, true, false, not, ◌&&◌, sym, ap, ◌∙◌, subst}
-use Rattle.machine_memory.specs.Contents.{words_in}
-use Rattle.clock_meaning.specs.Flows.{is_at, runs_at, place, known}
-use Rattle.clock_meaning.specs.ClockRuns.{enter}
-use Rattle.clock_lines.specs.Registers.{held, word_read}
+use Rattle.flat_programs.specs.Memory.Contents.{words_in}
+use Rattle.clock_ir.specs.Flows.{is_at, runs_at, place, known}
+use Rattle.clock_ir.specs.ClockRuns.{enter}
+use Rattle.clock_machine.specs.Lines.Registers.{held, word_read}
 use Rattle.clock_machine.specs.Leaving.{assigned}
 use Rattle.clock_machine.specs.Standing.{StandsAt}
 use Rattle.clock_machine.proofs.Going.{gate_near, loop_goes_on, loop_leaves}

@@ -1,7 +1,7 @@
 use Rattle.std.proofs.Common.{◌≡◌, Bool, true, false, ◌&&◌, List, refl, sym, ap, ◌∙◌, subst}
-use Rattle.clock_meaning.specs.Flows.{known, holds_at}
-use Rattle.clock_lines.specs.declared.program.Line.{Line}
-use Rattle.clock_lines.specs.Reads.{EachIf, IsCovered}
+use Rattle.clock_ir.specs.Flows.{known, holds_at}
+use Rattle.clock_machine.specs.declared.lines.program.Line.{Line}
+use Rattle.clock_machine.specs.Lines.Reads.{EachIf, IsCovered}
 use Rattle.clock_machine.specs.Acts.{ReadIsWithinIf, guard_holds}
 use Rattle.clock_machine.proofs.Doing.{reads_if}
 use Rattle.clock_machine.proofs.Testing.{one_before}

@@ -1,5 +1,5 @@
 use Rattle.std.proofs.Common.{◌≡◌, length, set, ap, ◌∙◌, arith}
-use Rattle.machine_memory.proofs.Banks.{written_back}
+use Rattle.flat_programs.proofs.MemoryLemmas.Banks.{written_back}
 use Rattle.clock_machine.proofs.state.State.set_fresh.Goals as goal
 
 pub returns-clause-fresh : goal.returns-clause-fresh

@@ -1,7 +1,7 @@
 use Rattle.std.proofs.Common.{length, sym, ap, ◌∙◌, subst}
-use Rattle.machine_memory.specs.Contents.{dims_in, words_in}
-use Rattle.clock_meaning.specs.Flows.{gates_now}
-use Rattle.clock_lines.specs.Showing.{ShowsGates}
+use Rattle.flat_programs.specs.Memory.Contents.{dims_in, words_in}
+use Rattle.clock_ir.specs.Flows.{gates_now}
+use Rattle.clock_machine.specs.Lines.Showing.{ShowsGates}
 use Rattle.clock_machine.specs.declared.state.State.{State}
 use Rattle.clock_machine.specs.Keeping.{HasGiven}
 use Rattle.clock_machine.proofs.Staying.{room_then, room_same, at_stays}

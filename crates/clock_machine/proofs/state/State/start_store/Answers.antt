@@ -1,11 +1,11 @@
 use Rattle.std.proofs.Common.{◌≡◌, ℕ, ◌<◌, ◌≤◌, inl, inr, false, List, length, get_or, map, sym, ap, ◌∙◌, subst, arith}
 use Rattle.std.proofs.lemmas.Option.{slice_get_within, slice_get-get_or, get_or_from_slice_get}
 use Rattle.ir_core.specs.declared.body.OpKind.TheVariants as kinds
-use Rattle.machine_memory.specs.Contents.{dims_in, words_in}
-use Rattle.block_meaning.specs.Bodies.{effect}
-use Rattle.clock_lines.specs.declared.program.Action.{Action}
-use Rattle.clock_lines.specs.declared.program.Line.{Line}
-use Rattle.clock_lines.specs.Registers.{word_read}
+use Rattle.flat_programs.specs.Memory.Contents.{dims_in, words_in}
+use Rattle.ir_core.specs.Bodies.{effect}
+use Rattle.clock_machine.specs.declared.lines.program.Action.{Action}
+use Rattle.clock_machine.specs.declared.lines.program.Line.{Line}
+use Rattle.clock_machine.specs.Lines.Registers.{word_read}
 use Rattle.clock_machine.specs.declared.state.State.{State}
 use Rattle.clock_machine.specs.Acts.{IsThere, ReadsAreWithin, ReadIsWithinIf, allows, is_store, op_in}
 use Rattle.clock_machine.specs.Starts.{words_of}

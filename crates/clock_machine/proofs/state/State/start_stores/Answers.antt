@@ -1,7 +1,7 @@
 use Rattle.std.proofs.Common.{◌≡◌, suc, ◌+◌, ◌-◌, ◌<◌, ◌≤◌, length, refl, sym, ap, ◌∙◌, subst, arith}
-use Rattle.machine_memory.specs.Contents.{words_in}
-use Rattle.clock_meaning.specs.Flows.{gates_now, behind_stores}
-use Rattle.clock_lines.specs.Showing.{ShowsGates}
+use Rattle.flat_programs.specs.Memory.Contents.{words_in}
+use Rattle.clock_ir.specs.Flows.{gates_now, behind_stores}
+use Rattle.clock_machine.specs.Lines.Showing.{ShowsGates}
 use Rattle.clock_machine.specs.declared.state.State.{State}
 use Rattle.clock_machine.proofs.Doing.{rests}
 use Rattle.clock_machine.proofs.Staying.{room_same, at_stays}

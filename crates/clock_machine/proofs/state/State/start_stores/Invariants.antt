@@ -1,10 +1,10 @@
 use Rattle.std.proofs.Common.{◌≡◌, ◌-◌, ◌<◌, length, map}
-use Rattle.block_meaning.specs.Bodies.{Shapes}
-use Rattle.machine_memory.specs.Contents.{dims_in, words_in}
-use Rattle.clock_meaning.specs.Flows.{TimedBody, Flow, behind_stores, gates_now}
-use Rattle.clock_lines.specs.declared.program.Action.{Action}
-use Rattle.clock_lines.specs.Agendas.{phase_at}
-use Rattle.clock_lines.specs.Showing.{ShowsGates}
+use Rattle.ir_core.specs.Bodies.{Shapes}
+use Rattle.flat_programs.specs.Memory.Contents.{dims_in, words_in}
+use Rattle.clock_ir.specs.Flows.{TimedBody, Flow, behind_stores, gates_now}
+use Rattle.clock_machine.specs.declared.lines.program.Action.{Action}
+use Rattle.clock_machine.specs.Lines.Agendas.{phase_at}
+use Rattle.clock_machine.specs.Lines.Showing.{ShowsGates}
 use Rattle.clock_machine.specs.Standing.{IsAt}
 use Rattle.clock_machine.proofs.Storing.{from}
 use Rattle.clock_machine.proofs.state.State.start_stores.Given as goal

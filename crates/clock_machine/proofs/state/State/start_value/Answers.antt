@@ -2,11 +2,11 @@ use Rattle.std.proofs.Common.{◌≡◌, ◌<◌, ◌≤◌, true, false, List, 
 use Rattle.std.proofs.Math.ListN.{length-set}
 use Rattle.std.proofs.lemmas.List.{get_or-set_same, get_or-set_other}
 use Rattle.std.proofs.lemmas.Option.{slice_get_within, slice_get-get_or, get_or_from_slice_get}
-use Rattle.machine_memory.specs.Contents.{dims_in, words_in}
-use Rattle.block_meaning.specs.Bodies.{Performed}
-use Rattle.clock_meaning.specs.Flows.{performed}
-use Rattle.clock_lines.specs.declared.program.Action.{Action}
-use Rattle.clock_lines.specs.declared.program.Line.{Line}
+use Rattle.flat_programs.specs.Memory.Contents.{dims_in, words_in}
+use Rattle.ir_core.specs.Bodies.{Performed}
+use Rattle.clock_ir.specs.Flows.{performed}
+use Rattle.clock_machine.specs.declared.lines.program.Action.{Action}
+use Rattle.clock_machine.specs.declared.lines.program.Line.{Line}
 use Rattle.clock_machine.specs.declared.state.State.{State}
 use Rattle.clock_machine.specs.Acts.{ReadsAreWithin, ReadIsWithinIf, guard_holds}
 use Rattle.clock_machine.specs.Starting.{value_of}

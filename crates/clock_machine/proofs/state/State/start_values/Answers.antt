@@ -1,7 +1,7 @@
 use Rattle.std.proofs.Common.{◌≡◌, suc, ◌<◌, ◌≤◌, true, false, inl, inr, length, refl, sym, ap, ◌∙◌, subst, arith}
 use Rattle.std.proofs.lemmas.Bool.{cases_lt, cases_eq}
 use Rattle.std.proofs.lemmas.Option.{slice_get_within}
-use Rattle.machine_memory.specs.Contents.{dims_in, words_in}
+use Rattle.flat_programs.specs.Memory.Contents.{dims_in, words_in}
 use Rattle.clock_machine.specs.declared.state.State.{State}
 use Rattle.clock_machine.specs.Keeping.{GivesAt}
 use Rattle.clock_machine.proofs.Staying.{room_same, at_stays}

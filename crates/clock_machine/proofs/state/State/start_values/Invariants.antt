@@ -1,9 +1,9 @@
 use Rattle.std.proofs.Common.{◌≡◌, ◌-◌, ◌<◌, ℕ, length, map}
-use Rattle.block_meaning.specs.Bodies.{Shapes}
-use Rattle.machine_memory.specs.Contents.{words_in}
-use Rattle.clock_meaning.specs.Flows.{TimedBody, Flow}
-use Rattle.clock_lines.specs.declared.program.Action.{Action}
-use Rattle.clock_lines.specs.Agendas.{phase_at}
+use Rattle.ir_core.specs.Bodies.{Shapes}
+use Rattle.flat_programs.specs.Memory.Contents.{words_in}
+use Rattle.clock_ir.specs.Flows.{TimedBody, Flow}
+use Rattle.clock_machine.specs.declared.lines.program.Action.{Action}
+use Rattle.clock_machine.specs.Lines.Agendas.{phase_at}
 use Rattle.clock_machine.specs.Keeping.{GivesAt}
 use Rattle.clock_machine.specs.Standing.{IsAt}
 use Rattle.clock_machine.proofs.state.State.start_values.Given as goal

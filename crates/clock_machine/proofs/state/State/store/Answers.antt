@@ -1,5 +1,5 @@
 use Rattle.std.proofs.Common.{sym, ap}
-use Rattle.block_meaning.specs.Bodies.{Performed}
+use Rattle.ir_core.specs.Bodies.{Performed}
 use Rattle.clock_machine.proofs.state.State.store.Goals as goal
 
 pub returns-in-Store-clause-stores : goal.returns-in-Store-clause-stores

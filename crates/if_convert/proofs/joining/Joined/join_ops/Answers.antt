@@ -1,7 +1,7 @@
 use Rattle.std.proofs.Common.{◌∙◌, [], ◌∷◌, ap, sym, map}
 use Rattle.std.proofs.lemmas.List.{map-append}
-use Rattle.block_meaning.specs.Bodies.{op_of}
-use Rattle.conversion.specs.Joining.{joined_op, joined_ops}
+use Rattle.ir_core.specs.Bodies.{op_of}
+use Rattle.passes.specs.Conversion.Joining.{joined_op, joined_ops}
 use Rattle.if_convert.specs.Entries.{outs_of}
 use Rattle.if_convert.specs.Views.{joined_of}
 use Rattle.if_convert.proofs.Adding.{joined_more}

@@ -1,8 +1,8 @@
 use Rattle.std.proofs.Common.{◌≡◌, map}
-use Rattle.conversion.specs.Joining as spec
+use Rattle.passes.specs.Conversion.Joining as spec
 use Rattle.if_convert.specs.Views.{joined_of}
 use Rattle.if_convert.specs.Entries.{outs_of}
-use Rattle.block_meaning.specs.Bodies.{op_of}
+use Rattle.ir_core.specs.Bodies.{op_of}
 use Rattle.if_convert.proofs.joining.Joined.join_ops.Given as goal
 
 abbrev pub invariant-loop-op : goal.invariant-loop-op

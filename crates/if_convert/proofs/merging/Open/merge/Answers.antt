@@ -1,5 +1,5 @@
 use Rattle.std.proofs.Common.{◌∙◌, ap, map, Some}
-use Rattle.conversion.specs.Merging as m
+use Rattle.passes.specs.Conversion.Merging as m
 use Rattle.if_convert.specs.Views.{guards_of}
 use Rattle.if_convert.specs.Blocks.{open_of, branches_of, branched_of, choice_of}
 use Rattle.if_convert.proofs.merging.Open.merge.Goals as goal

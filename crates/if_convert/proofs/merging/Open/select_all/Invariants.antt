@@ -1,5 +1,5 @@
 use Rattle.std.proofs.Common.{◌≡◌, map, drop}
-use Rattle.conversion.specs.Merging as spec
+use Rattle.passes.specs.Conversion.Merging as spec
 use Rattle.if_convert.specs.Blocks.{choice_of, open_of}
 use Rattle.if_convert.proofs.merging.Open.select_all.Given as goal
 

@@ -1,5 +1,5 @@
 use Rattle.std.proofs.Common.{◌≡◌, ◌≤◌, length, map, drop}
-use Rattle.block_meaning.specs.Trees.{part_of, part_row}
+use Rattle.ir_core.specs.Trees.{part_of, part_row}
 use Rattle.ir_layout.specs.WellFormed.{lands_in}
 use Rattle.ir_layout.specs.Fitting.{numbered}
 use Rattle.ir_layout.proofs.fits.Places.note_all.Given as goal

@@ -1,6 +1,6 @@
 use Rattle.std.proofs.Common.{◌∙◌, ◌-◌, ap, sym, arith}
 use Rattle.ir_core.specs.declared.tree.Part.{Part}
-use Rattle.block_meaning.specs.Trees.{shape_of}
+use Rattle.ir_core.specs.Trees.{shape_of}
 use Rattle.ir_layout.specs.Sizes.{shape_size}
 use Rattle.ir_layout.specs.Layout.{with_land}
 use Rattle.ir_layout.specs.Views.{stacked}

@@ -1,5 +1,5 @@
 use Rattle.std.proofs.Common.{◌≡◌, ◌≤◌, ◌+◌, length, map, take, drop}
-use Rattle.block_meaning.specs.Trees.{part_of, part_row}
+use Rattle.ir_core.specs.Trees.{part_of, part_row}
 use Rattle.ir_layout.specs.Sizes.{parts_size}
 use Rattle.ir_layout.specs.Layout.{lands_in}
 use Rattle.ir_layout.specs.Views.{stacked}

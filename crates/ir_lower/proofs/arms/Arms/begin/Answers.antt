@@ -1,8 +1,8 @@
 use Rattle.std.proofs.Common.{◌≡◌, ◌∙◌, ap, sym, map, arith, true}
 use Rattle.std.specs.Prelude.{if◌then◌else◌}
-use Rattle.block_meaning.specs.Trees.{more_arms, sequence_of}
-use Rattle.lowering.specs.Blocks.{begun}
-use Rattle.lowering.specs.Lowering.{last}
+use Rattle.ir_core.specs.Trees.{more_arms, sequence_of}
+use Rattle.passes.specs.Lowering.Blocks.{begun}
+use Rattle.passes.specs.Lowering.{last}
 use Rattle.ir_lower.specs.Lines.{ended, with_arms, ended_arms}
 use Rattle.ir_lower.proofs.Rows.{arm_pushed}
 use Rattle.ir_lower.proofs.arms.Arms.begin.Goals as goal

@@ -1,5 +1,5 @@
 use Rattle.std.proofs.Common.{◌∙◌, ap, map}
-use Rattle.block_meaning.specs.Trees.{no_arm, more_arms, sequence_of}
+use Rattle.ir_core.specs.Trees.{no_arm, more_arms, sequence_of}
 use Rattle.ir_lower.specs.Lines.{with_arms, first_parts, later_arms}
 use Rattle.ir_lower.proofs.Rows.{arms_none, arm_pushed}
 use Rattle.ir_lower.proofs.arms.Arms.finish.Goals as goal

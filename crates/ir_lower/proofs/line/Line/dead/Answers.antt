@@ -1,4 +1,4 @@
-use Rattle.block_meaning.specs.Trees.{break_}
+use Rattle.ir_core.specs.Trees.{break_}
 use Rattle.block_draft.specs.Drafts.{opened}
 use Rattle.ir_lower.proofs.line.Line.dead.Goals as goal
 

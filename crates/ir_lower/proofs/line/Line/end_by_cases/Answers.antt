@@ -1,7 +1,7 @@
 use Rattle.std.proofs.Common.{◌≡◌, arith, true}
 use Rattle.pieces.specs.View.{pure_of}
-use Rattle.block_meaning.specs.Trees.{BlockTree}
-use Rattle.lowering.specs.Blocks.{choosing}
+use Rattle.ir_core.specs.Trees.{BlockTree}
+use Rattle.passes.specs.Lowering.Blocks.{choosing}
 use Rattle.block_draft.specs.Drafts.{cases_of, switched_cases}
 use Rattle.ir_lower.specs.Lines.{open_of}
 use Rattle.ir_lower.proofs.Lining.{moved, chosen_block}

@@ -1,8 +1,8 @@
 use Rattle.std.proofs.Common.{◌≡◌, arith, true, ap, List}
 use Rattle.pieces.specs.View.{pure_of, pieces_of}
 use Rattle.ir_core.specs.declared.body.Out.{Out}
-use Rattle.block_meaning.specs.Trees.{BlockTree, exit_of}
-use Rattle.lowering.specs.Blocks.{condition, forking}
+use Rattle.ir_core.specs.Trees.{BlockTree, exit_of}
+use Rattle.passes.specs.Lowering.Blocks.{condition, forking}
 use Rattle.block_draft.specs.Views.{ops_of, made}
 use Rattle.block_draft.specs.Drafts.{scope_of, open_at}
 use Rattle.ir_lower.specs.Lines.{open_of}

@@ -1,7 +1,7 @@
 use Rattle.std.proofs.Common.{◌≡◌, arith, true}
 use Rattle.pieces.specs.View.{pure_of}
-use Rattle.block_meaning.specs.Trees.{BlockTree, exit_of}
-use Rattle.lowering.specs.Blocks.{condition, branching}
+use Rattle.ir_core.specs.Trees.{BlockTree, exit_of}
+use Rattle.passes.specs.Lowering.Blocks.{condition, branching}
 use Rattle.block_draft.specs.Views.{made}
 use Rattle.ir_lower.specs.Lines.{open_of}
 use Rattle.ir_lower.proofs.Lining.{moved, tested_block}

@@ -1,6 +1,6 @@
 use Rattle.std.proofs.Common.{◌∙◌, ap}
 use Rattle.std.proofs.lemmas.Result.{IfOk-weaker}
-use Rattle.lowering.specs.Lowering.{last}
+use Rattle.passes.specs.Lowering.{last}
 use Rattle.ir_lower.specs.Lines.{behind}
 use Rattle.ir_lower.proofs.line.Line.finish.Goals as goal
 

@@ -1,4 +1,4 @@
-use Rattle.block_meaning.specs.Trees.{next}
+use Rattle.ir_core.specs.Trees.{next}
 use Rattle.block_draft.specs.Drafts.{opened}
 use Rattle.ir_lower.proofs.line.Line.new.Goals as goal
 

@@ -1,7 +1,7 @@
 use Rattle.std.proofs.Common.{◌≡◌, arith, true}
 use Rattle.pieces.specs.View.{pure_of}
-use Rattle.block_meaning.specs.Trees.{exit_of}
-use Rattle.lowering.specs.Blocks.{set}
+use Rattle.ir_core.specs.Trees.{exit_of}
+use Rattle.passes.specs.Lowering.Blocks.{set}
 use Rattle.block_draft.specs.Drafts.{scope_of}
 use Rattle.ir_lower.proofs.Lining.{moved}
 use Rattle.ir_lower.proofs.line.Line.set.Goals as goal

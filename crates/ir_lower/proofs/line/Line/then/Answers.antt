@@ -1,6 +1,6 @@
 use Rattle.std.proofs.Common.{◌∙◌, ap}
-use Rattle.block_meaning.specs.Trees.{next, shape_of}
-use Rattle.lowering.specs.Lowering.{followed}
+use Rattle.ir_core.specs.Trees.{next, shape_of}
+use Rattle.passes.specs.Lowering.{followed}
 use Rattle.block_draft.specs.Drafts.{open_at, opened}
 use Rattle.ir_lower.specs.Lines.{open_of, behind}
 use Rattle.ir_lower.proofs.line.Line.then.Goals as goal

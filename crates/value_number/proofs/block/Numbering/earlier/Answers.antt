@@ -3,7 +3,7 @@ use Rattle.std.specs.Prelude.{slice_get, get_or, if◌then◌else◌}
 use Rattle.std.specs.Option.{option_copied}
 use Rattle.std.proofs.lemmas.Option.{slice_get_read, slice_get-get_or}
 use Rattle.indexmap.specs.IndexMap.{get}
-use Rattle.block_meaning.specs.Bodies.{op_of}
+use Rattle.ir_core.specs.Bodies.{op_of}
 use Rattle.value_number.specs.Views.{key_eq}
 use Rattle.value_number.proofs.Showing.{earlier_is, first_within, none_there}
 use Rattle.value_number.proofs.block.Numbering.earlier.Goals as goal

@@ -1,9 +1,9 @@
 use Rattle.std.proofs.Common.{◌≡◌, ◌∙◌, ◌++◌, ◌∷◌, [], ap, sym, subst, subst₂, arith, length}
 use Rattle.std.specs.Result.{OnOk}
 use Rattle.std.proofs.lemmas.List.{length-map}
-use Rattle.block_meaning.specs.Bodies.{op_of}
-use Rattle.numbering.specs.Numbering as n
-use Rattle.numbering.specs.Numbering.{Kept, with_earlier, with_out}
+use Rattle.ir_core.specs.Bodies.{op_of}
+use Rattle.passes.specs.Numbering as n
+use Rattle.passes.specs.Numbering.{Kept, with_earlier, with_out}
 use Rattle.value_number.specs.Views.{Shows, kept_of}
 use Rattle.value_number.proofs.block.Numbering.go_on.Goals as goal
 

@@ -1,5 +1,5 @@
 use Rattle.std.proofs.Common.{◌≡◌, ◌++◌, map, drop}
-use Rattle.numbering.specs.Numbering.{renamed}
+use Rattle.passes.specs.Numbering.{renamed}
 use Rattle.value_number.specs.Views.{values_of}
 use Rattle.value_number.proofs.block.Numbering.mapped.Given as goal
 

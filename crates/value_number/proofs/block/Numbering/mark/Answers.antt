@@ -1,8 +1,8 @@
 use Rattle.std.proofs.Common.{◌∙◌, true, refl, ap, sym, arith, length}
 use Rattle.std.proofs.lemmas.List.{length-map}
 use Rattle.std.specs.Prelude.{slice_set}
-use Rattle.numbering.specs.Numbering as n
-use Rattle.numbering.proofs.Growing.{flags_of, flags_not_set}
+use Rattle.passes.specs.Numbering as n
+use Rattle.passes.proofs.Growing.{flags_of, flags_not_set}
 use Rattle.value_number.proofs.Showing.{marks, flags_set, flags_beyond}
 use Rattle.value_number.proofs.block.Numbering.mark.Goals as goal
 use Rattle.value_number.proofs.block.Numbering.mark.Goals.{else-is_out-via-then-is_out+else-first-len, else-is_out-via-else-is_out}

@@ -3,9 +3,9 @@ use Rattle.std.specs.Prelude.{is_some}
 use Rattle.std.proofs.lemmas.List.{length-map}
 use Rattle.std.proofs.lemmas.Result.{on_ok_weaker}
 use Rattle.indexmap.specs.IndexMap.{get}
-use Rattle.block_meaning.specs.Bodies.{op_of}
-use Rattle.numbering.specs.Equal.{is_equal}
-use Rattle.numbering.specs.Numbering.{Kept}
+use Rattle.ir_core.specs.Bodies.{op_of}
+use Rattle.passes.specs.Numbering.Equal.{is_equal}
+use Rattle.passes.specs.Numbering.{Kept}
 use Rattle.value_number.specs.Views.{key_of, key_eq, kept_of, noted}
 use Rattle.value_number.proofs.Showing.{not_noted, guarded_apart, access_apart, and_false, noted_first, none_there}
 use Rattle.value_number.proofs.block.Numbering.note.Goals as goal

@@ -1,9 +1,0 @@
-use Rattle.std.proofs.Common.{◌≡◌, [], take}
-use Rattle.access_ports.specs.Counting.{ports_from, tables_in, Counts}
-use Rattle.access_ports.proofs.ports.row_of.Given as goal
-
-abbrev pub invariant-loop-op : goal.invariant-loop-op
-invariant-loop-op l = record {
-  row : l.row.items ≡ ports_from (tables_in l.memories) l.span [] (take l.op-index l.ops);
-  counts : Counts l.span (take l.op-index l.ops) l.loads;
-}

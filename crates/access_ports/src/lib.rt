@@ -1,5 +1,0 @@
-//! At which port each access takes place.
-#![tactic(auto)]
-
-mod loads;
-pub mod ports;

@@ -1,4 +1,0 @@
-//! Addresses of the arrays of programs without faults have few bits.
-#![tactic(auto)]
-
-pub mod laws;

@@ -1,4 +1,0 @@
-//! Addresses of the memories of frames have few bits.
-#![tactic(auto)]
-
-pub mod laws;

@@ -1,4 +1,0 @@
-pub mod Apart
-pub mod Points
-pub mod Places
-pub mod Laws

@@ -1,4 +1,0 @@
-//! The points of expanded programs differ.
-#![tactic(auto)]
-
-pub mod laws;

@@ -1,2 +1,0 @@
-pub mod AddressWords
-pub mod Rising

@@ -1,6 +1,0 @@
-use Rattle.std.proofs.Common.{◌≡◌, ◌++◌, ◌-◌}
-use Rattle.array_address.specs.AddressWords.{rows_at}
-use Rattle.array_address.proofs.address.rows.Given as goal
-
-abbrev pub invariant-loop : goal.invariant-loop
-invariant-loop l = l.all.items ++ rows_at l.start l.size l.row (l.length - l.counter) ≡ rows_at 0 l.size l.row l.length

@@ -1,4 +1,0 @@
-//! Where the elements of an array stand in its memory.
-#![tactic(auto)]
-
-pub mod address;

@@ -1,7 +1,0 @@
-//! Laws of circuits that are put together.
-ghost use Rattle.assembled_circuits.specs.Laws.{PartsAreAssembled};
-
-/// Where the registers of a bank, the shared units and the ports are all there and take what the plan gives them, the circuit is assembled.
-pub fn parts_are_assembled()
-    ensures { PartsAreAssembled }
-{}

@@ -1,5 +1,0 @@
-pub mod Reads
-pub mod Beginning
-pub mod Points
-pub mod Typed
-pub mod Laws

@@ -1,4 +1,0 @@
-//! The points of blocks differ.
-#![tactic(auto)]
-
-pub mod laws;

@@ -1,2 +1,0 @@
-pub mod CAnswers
-pub mod Laws

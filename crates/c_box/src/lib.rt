@@ -1,4 +1,0 @@
-//! What the box of a C program answers to a start.
-#![tactic(auto)]
-
-pub mod laws;

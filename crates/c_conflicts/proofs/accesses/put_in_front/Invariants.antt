@@ -1,8 +1,0 @@
-use Rattle.std.proofs.Common.{◌≡◌, ◌++◌, deque_len}
-use Rattle.c_conflicts.proofs.accesses.put_in_front.Given as goal
-
-abbrev pub decreases-loop-access : goal.decreases-loop-access
-decreases-loop-access l = deque_len l.listed
-
-abbrev pub invariant-loop-access : goal.invariant-loop-access
-invariant-loop-access l = l.listed.items ++ l.all ≡ l.fn.these ++ l.fn.those

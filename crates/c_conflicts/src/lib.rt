@@ -1,5 +1,0 @@
-//! Accesses of names, and changes in conflict.
-#![tactic(auto)]
-
-pub mod accesses;
-pub mod conflicts;

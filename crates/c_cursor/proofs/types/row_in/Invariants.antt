@@ -1,7 +1,0 @@
-use Rattle.std.proofs.Common.{◌≡◌, drop, map}
-use Rattle.c_tree.specs.Kinds.{row_with}
-use Rattle.c_cursor.specs.Types.{plain_row}
-use Rattle.c_cursor.proofs.types.row_in.Given as goal
-
-abbrev pub invariant-loop-row : goal.invariant-loop-row
-invariant-loop-row l = row_with l.words (map plain_row (drop l.row-index l.rows)) ≡ row_with l.words (map plain_row l.rows)

@@ -1,7 +1,0 @@
-use Rattle.std.proofs.Common.{◌≡◌, ◌++◌, drop, map}
-use Rattle.c_tree.specs.View.{object_of}
-use Rattle.c_checked.specs.Limits.{array_places}
-use Rattle.c_declarations.proofs.arrays.add_arrays.Given as goal
-
-abbrev pub invariant-loop-object : goal.invariant-loop-object
-invariant-loop-object l = l.places.items ++ array_places (map object_of (drop l.object-index l.objects)) ≡ l.initial.places.items ++ array_places (map object_of l.objects)

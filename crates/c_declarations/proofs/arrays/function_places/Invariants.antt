@@ -1,7 +1,0 @@
-use Rattle.std.proofs.Common.{◌≡◌, ◌++◌, [], drop, map}
-use Rattle.c_tree.specs.View.{item_of}
-use Rattle.c_checked.specs.Limits.{new_function_places}
-use Rattle.c_declarations.proofs.arrays.function_places.Given as goal
-
-abbrev pub invariant-loop-item : goal.invariant-loop-item
-invariant-loop-item l = l.places.items ++ new_function_places l.known.items (map item_of (drop l.item-index l.items)) ≡ new_function_places [] (map item_of l.items)

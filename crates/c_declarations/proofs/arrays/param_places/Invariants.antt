@@ -1,7 +1,0 @@
-use Rattle.std.proofs.Common.{◌≡◌, ◌++◌, drop, map}
-use Rattle.c_tree.specs.View.{param_of}
-use Rattle.c_checked.specs.Limits.{param_places}
-use Rattle.c_declarations.proofs.arrays.param_places.Given as goal
-
-abbrev pub invariant-loop-param : goal.invariant-loop-param
-invariant-loop-param l = l.places.items ++ param_places (map param_of (drop l.param-index l.params)) ≡ param_places (map param_of l.params)

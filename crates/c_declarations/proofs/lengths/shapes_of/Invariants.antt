@@ -1,7 +1,0 @@
-use Rattle.std.proofs.Common.{◌≡◌, ◌++◌, drop, map}
-use Rattle.c_tree.specs.View.{param_of}
-use Rattle.c_checked.specs.Calls.{param_shapes}
-use Rattle.c_declarations.proofs.lengths.shapes_of.Given as goal
-
-abbrev pub invariant-loop-param : goal.invariant-loop-param
-invariant-loop-param l = l.shapes.items ++ param_shapes (map param_of (drop l.param-index l.params)) ≡ param_shapes (map param_of l.params)

@@ -1,9 +1,0 @@
-use Rattle.std.proofs.Common.{◌≡◌, length}
-use Rattle.c_frames.specs.Chains.{around}
-use Rattle.c_frames.proofs.chain.around.Given as goal
-
-abbrev pub invariant-loop-operator : goal.invariant-loop-operator
-invariant-loop-operator l = around l.operators.items l.whole ≡ around l.fn.operators.items l.fn.kind
-
-abbrev pub decreases-loop-operator : goal.decreases-loop-operator
-decreases-loop-operator l = length l.operators.items

@@ -1,7 +1,0 @@
-use Rattle.std.proofs.Common.{◌≡◌, ◌++◌, drop}
-use Rattle.c_tree.specs.View.{stmts_of}
-use Rattle.c_checked.specs.Labels.{block_labels}
-use Rattle.c_labels.proofs.labels.block_labels.Given as goal
-
-abbrev pub invariant-loop-stmt : goal.invariant-loop-stmt
-invariant-loop-stmt l = l.labels.items ++ block_labels l.kind (stmts_of (drop l.stmt-index l.body)) ≡ block_labels l.kind (stmts_of l.body)

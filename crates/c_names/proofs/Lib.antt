@@ -1,0 +1,3 @@
+pub mod DeclarationsLemmas
+pub mod LabelsLemmas
+pub mod ConflictsLemmas

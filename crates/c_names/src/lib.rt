@@ -1,0 +1,6 @@
+//! Names, labels, and accesses in conflict.
+#![tactic(auto)]
+
+pub mod conflicts;
+pub mod declarations;
+pub mod labels;

@@ -1,0 +1,17 @@
+pub mod Lists
+pub mod Operations
+pub mod Turns
+pub mod FlowStores
+pub mod Ports
+pub mod Wanted
+pub mod Quiet
+pub mod Storing
+pub mod Elements
+pub mod Hosts
+pub mod Outside
+pub mod Shown
+pub mod Variables
+pub mod Starting
+pub mod Bits
+pub mod Serving
+pub mod Found

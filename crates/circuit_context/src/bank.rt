@@ -1,0 +1,5 @@
+//! The registers of a circuit under construction, by what they are for.
+
+pub mod bank;
+mod lines;
+mod slots;

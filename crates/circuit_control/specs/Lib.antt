@@ -1,0 +1,4 @@
+pub mod Gathered
+pub mod Spans
+pub mod Savings
+pub mod Drives

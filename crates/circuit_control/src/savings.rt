@@ -1,0 +1,5 @@
+//! What a circuit leaves out.
+
+mod cases;
+mod reads;
+pub mod savings;

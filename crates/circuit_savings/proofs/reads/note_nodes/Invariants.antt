@@ -1,9 +1,0 @@
-use Rattle.std.proofs.Common.{take}
-use Rattle.std.specs.List.{list_any}
-use Rattle.live_variables.specs.Sets.{Gains}
-use Rattle.live_variables.specs.Liveness.{IsSized}
-use Rattle.datapath.specs.LeftOut.{is_read_in}
-use Rattle.circuit_savings.proofs.reads.note_nodes.Given as goal
-
-abbrev pub invariant-loop-node : goal.invariant-loop-node
-invariant-loop-node l = IsSized l.live → Gains l.initial.set l.set (λ n. list_any (is_read_in l.live n) (take l.node-index l.nodes))

@@ -1,0 +1,3 @@
+pub mod MemoriesLemmas
+pub mod UnitsLemmas
+pub mod DemandsLemmas

@@ -1,0 +1,14 @@
+pub mod Demands
+pub mod Users
+pub mod Equal
+pub mod Adding
+pub mod Seeing
+pub mod Multipliers
+pub mod Parts
+pub mod Dividing
+pub mod Fitting
+pub mod Dividers
+pub mod Unsigned
+pub mod Signed
+pub mod Added
+pub mod Widths

@@ -1,0 +1,6 @@
+use Rattle.std.proofs.Common.{◌≡◌, take, map}
+use Rattle.rtl_logic.specs.declared.select.Choice.{Choice}
+use Rattle.circuit_units.proofs.memories.ports.bits_of.Given as goal
+
+abbrev pub invariant-loop-choice : goal.invariant-loop-choice
+invariant-loop-choice l = l.bits.items ≡ map (λ (c : Choice). c.when) (take l.choice-index l.choices)

@@ -1,0 +1,4 @@
+//! The multipliers and dividers of a circuit.
+
+pub mod units;
+pub mod uses;

@@ -1,6 +1,0 @@
-use Rattle.std.proofs.Common.{◌≡◌, ◌-◌, ◌<◌, length}
-use Rattle.clock_lines.proofs.Agendas.{IsFrom}
-use Rattle.clock_lines.proofs.agenda.Agenda.new.Given as goal
-
-abbrev pub invariant-loop-done : goal.invariant-loop-done
-invariant-loop-done l = (length l.first.items ≡ l.interval) × (length l.next.items ≡ length l.times) × (0 < l.interval → IsFrom l.interval l.times l.first.items l.next.items (length l.times - l.done))

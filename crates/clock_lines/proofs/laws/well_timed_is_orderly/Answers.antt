@@ -1,5 +1,0 @@
-use Rattle.clock_lines.proofs.Orderly.{orderly_at}
-use Rattle.clock_lines.proofs.laws.well_timed_is_orderly.Goals as goal
-
-pub returns : goal.returns
-returns c = λ cfg timed none_ well. orderly_at cfg.frame.memories.items cfg.nodes.items timed.nodes.items well.nodes none_

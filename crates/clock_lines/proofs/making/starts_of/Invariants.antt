@@ -1,6 +1,0 @@
-use Rattle.std.proofs.Common.{◌≡◌, map, take}
-use Rattle.clock_lines.specs.declared.program.Action.{Action}
-use Rattle.clock_lines.proofs.making.starts_of.Given as goal
-
-abbrev pub invariant-loop-action : goal.invariant-loop-action
-invariant-loop-action l = l.times.items ≡ map (λ (a : Action). a.start) (take l.action-index l.actions)

@@ -1,7 +1,0 @@
-use Rattle.std.proofs.Common.{◌≡◌, ◌<◌, ◌^◌, map, take}
-use Rattle.clock_lines.specs.Reads.{read_of}
-use Rattle.clock_lines.specs.Regions.{IsOrderly, body_of}
-use Rattle.clock_lines.proofs.reads.Region.reads.Given as goal
-
-abbrev pub invariant-loop-operand : goal.invariant-loop-operand
-invariant-loop-operand l = IsOrderly l.self → l.time < 2 ^ 32 → l.reads.items ≡ map (read_of (body_of l.self) l.time) (take l.operand-index l.operands)

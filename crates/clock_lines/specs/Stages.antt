@@ -1,8 +1,0 @@
--- The body of a stage.
-use Rattle.clock_lines.specs.declared.program.Stage.{Stage}
-use Rattle.clock_lines.specs.declared.program.Stage.TheVariants as stage
-use Rattle.clock_lines.specs.declared.program.Work.{Work}
-
-abbrev pub work_in : Stage → Work
-work_in (stage.Block work way) = work
-work_in (stage.Loop work exit) = work

@@ -1,3 +1,0 @@
-pub mod Flows
-pub mod ClockRuns
-pub mod WellTimed

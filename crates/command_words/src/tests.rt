@@ -1,0 +1,122 @@
+use crate::command::Command;
+use crate::reading::read_words;
+use std::alloc::{AllocError, Global};
+
+fn words_of(alloc: Global, line: &str) -> Result<Vec<String>, AllocError> {
+    let mut words = Vec::new(alloc);
+    for word in line.split_whitespace() {
+        words.push(word.to_string(alloc)?)?;
+    }
+    Ok(words)
+}
+
+/// What is read of a line, as one text.
+fn shown(alloc: Global, line: &str) -> Result<String, AllocError> {
+    let words = words_of(alloc, line)?;
+    match read_words(alloc, &words)? {
+        Some(Command::Synth(s)) => format!(in alloc;
+            "synth {} {} {} {} {} {} {} {}",
+            s.source, s.module_file, s.report, s.top, s.mul, s.div, s.ports, s.plain
+        ),
+        Some(Command::Cosim(c)) => format!(in alloc;
+            "cosim {} {} {} {} {} {} {}",
+            c.source, c.module_file, c.report, c.run, c.top, c.points, c.cycles
+        ),
+        Some(Command::Soak(number)) => format!(in alloc; "soak {number}"),
+        None => format!(in alloc; "none"),
+    }
+}
+
+#[test]
+fn plain_form(rt: HostRuntime) -> Result<(), AllocError> {
+    for (line, want) in [
+        ("synth c v r --top f", "synth c v r f 1 1 1 false"),
+        (
+            "synth c v r --plain --mul 008 --top f",
+            "synth c v r f 8 1 1 true",
+        ),
+        (
+            "synth c v r --top f --ports 2 --div 4",
+            "synth c v r f 1 4 2 false",
+        ),
+        (
+            "cosim c v r run --cycles 10 --top f",
+            "cosim c v r run f 1000000 10",
+        ),
+        ("soak 18446744073709551615", "soak 18446744073709551615"),
+        ("soak 00", "soak 0"),
+    ] {
+        assert_eq!(rt; shown(rt.alloc(), line)?.as_str(), want, "{line}");
+    }
+    Ok(())
+}
+
+#[test]
+fn other_forms(rt: HostRuntime) -> Result<(), AllocError> {
+    for (line, want) in [
+        ("synth --top=f c v r", "synth c v r f 1 1 1 false"),
+        (
+            "synth c --mul=3 v --plain r --top f",
+            "synth c v r f 3 1 1 true",
+        ),
+        (
+            "synth --top f --ports 2 -- -c -v --top",
+            "synth -c -v --top f 1 1 2 false",
+        ),
+        ("synth c v --top f -- r", "synth c v r f 1 1 1 false"),
+        ("synth c v r --top=-f", "synth c v r -f 1 1 1 false"),
+        (
+            "cosim --points=7 c v --top=f r run",
+            "cosim c v r run f 7 1000000",
+        ),
+        ("soak -- 5", "soak 5"),
+    ] {
+        assert_eq!(rt; shown(rt.alloc(), line)?.as_str(), want, "{line}");
+    }
+    Ok(())
+}
+
+#[test]
+fn no_command(rt: HostRuntime) -> Result<(), AllocError> {
+    for line in [
+        "",
+        "help",
+        "--help",
+        "-h",
+        "--version",
+        "help synth",
+        "synth --help",
+        "other c v r --top f",
+        "soak",
+        "soak -1",
+        "soak +1",
+        "soak -- -1",
+        "soak 18446744073709551616",
+        "soak 1 2",
+        "soak 1x",
+        "synth c v r",
+        "synth c v --top f",
+        "synth x x y --top f",
+        "synth x y x --top f",
+        "synth y x x --top=f",
+        "synth c v r --top -f",
+        "synth c v r --top",
+        "synth c v r --top f --top g",
+        "synth c v r --top=f --top=f",
+        "synth c v r --top=f --plain --plain",
+        "synth c v r --top f --plain=true",
+        "synth c v r --top f --mul 9",
+        "synth c v r --top f --mul=0",
+        "synth c v r --top f --points 1",
+        "synth c v r --top f --period 5",
+        "synth c v r --to f",
+        "synth c v r --top f more",
+        "--top f synth c v r",
+        "cosim c v r c --top=f",
+        "cosim c v r run --top f --cycles 1000000001",
+        "cosim c v r run --top f --plain",
+    ] {
+        assert_eq!(rt; shown(rt.alloc(), line)?.as_str(), "none", "{line}");
+    }
+    Ok(())
+}

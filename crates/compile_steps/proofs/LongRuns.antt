@@ -1,0 +1,4 @@
+pub mod Places
+pub mod Beginning
+pub mod Nodes
+pub mod Whole

@@ -1,6 +1,0 @@
-pub mod Gathered
-pub mod Wanted
-pub mod Telling
-pub mod Numbered
-pub mod Within
-pub mod Pieces

@@ -1,6 +1,0 @@
-use Rattle.std.proofs.Common.{◌≡◌, map, take}
-use Rattle.rtl_logic.specs.declared.select.Choice.{Choice}
-use Rattle.controller.proofs.asked.bits_of.Given as goal
-
-abbrev pub invariant-loop-choice : goal.invariant-loop-choice
-invariant-loop-choice l = l.bits.items ≡ map (λ (choice : Choice). choice.when) (take l.choice-index l.choices)

@@ -1,9 +1,0 @@
-use Rattle.std.proofs.lemmas.Result.{IfOk-weaker}
-use Rattle.rtl_logic.specs.Making.{circuit}
-use Rattle.circuit_wires.proofs.Combining.{or_tells}
-use Rattle.controller.proofs.bits.either.Goals as goal
-
-pub returns : goal.returns
-returns c = λ p names one other begun left right.
-    let d = circuit c.args.logic.now in
-    IfOk-weaker c.or.result _ _ (λ a made. or_tells p names d (circuit c.or.new.self) c.args.left c.args.right a one other begun left right made) (c.or.ensures begun.sound left.fits right.fits)

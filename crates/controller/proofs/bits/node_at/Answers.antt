@@ -1,5 +1,0 @@
-use Rattle.controller.proofs.Pieces.{node_found}
-use Rattle.controller.proofs.bits.node_at.Goals as goal
-
-pub returns : goal.returns
-returns c = λ p names n context stands. node_found p names c.args.of.now c.args.number c.index.result.now n context c.requires c.index.ensures stands

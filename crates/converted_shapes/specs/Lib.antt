@@ -1,4 +1,0 @@
-pub mod Converting
-pub mod Straight
-pub mod Laws
-pub mod Examples

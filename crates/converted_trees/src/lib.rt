@@ -1,4 +1,0 @@
-//! What numbering and conversion keep of trees: how blocks are left, the widths of operands, and the forks that are to be merged.
-#![tactic(auto)]
-
-pub mod laws;

@@ -1,2 +1,0 @@
-//! What a run of a core program is, as definitions.
-#![tactic(auto)]

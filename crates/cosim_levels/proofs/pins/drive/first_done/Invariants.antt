@@ -1,0 +1,6 @@
+use Rattle.cosim_levels.proofs.PinsLemmas.Waits.{IsWaiting}
+use Rattle.rtl_core.specs.Interface.{done_of}
+use Rattle.cosim_levels.proofs.pins.drive.first_done.Given as goal
+
+abbrev pub invariant-loop-k : goal.invariant-loop-k
+invariant-loop-k l = IsWaiting done_of l.initial.driver l.driver l.k

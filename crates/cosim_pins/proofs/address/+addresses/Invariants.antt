@@ -1,5 +1,0 @@
-use Rattle.std.proofs.Common.{length}
-use Rattle.cosim_pins.proofs.address.+addresses.Given as goal
-
-abbrev pub decreases-addresses : goal.decreases-addresses
-decreases-addresses l = length l.lengths.now

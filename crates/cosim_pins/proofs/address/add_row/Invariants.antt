@@ -1,5 +1,0 @@
-use Rattle.std.proofs.Common.{◌≡◌, ◌++◌, ◌+◌, ◌%◌, ◌^◌, map, take}
-use Rattle.cosim_pins.proofs.address.add_row.Given as goal
-
-abbrev pub invariant-loop-low : goal.invariant-loop-low
-invariant-loop-low l = l.all.items ≡ l.initial.all.items ++ map (λ low. (l.start + low) % 2 ^ 64) (take l.low-index l.row)

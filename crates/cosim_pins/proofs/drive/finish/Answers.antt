@@ -1,8 +1,0 @@
-use Rattle.std.proofs.Common.{sym, ap, ◌∙◌, subst}
-use Rattle.cosim_pins.specs.Host.{Driven, HasHostInputs}
-use Rattle.cosim_pins.proofs.PinCounts.{netlist-waited}
-use Rattle.cosim_pins.proofs.drive.finish.Goals as goal
-
-pub shown_words-requires : goal.shown_words-requires
-shown_words-requires c =
-    subst HasHostInputs (sym (ap (λ (s : Driven). s.netlist) c.in-Some.ensures.after ∙ netlist-waited c.args.driver.now c.in-Some.count)) c.requires

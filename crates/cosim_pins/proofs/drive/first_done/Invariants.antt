@@ -1,6 +1,0 @@
-use Rattle.cosim_pins.proofs.Waits.{IsWaiting}
-use Rattle.rtl_core.specs.Interface.{done_of}
-use Rattle.cosim_pins.proofs.drive.first_done.Given as goal
-
-abbrev pub invariant-loop-k : goal.invariant-loop-k
-invariant-loop-k l = IsWaiting done_of l.initial.driver l.driver l.k

@@ -1,7 +1,0 @@
-use Rattle.std.proofs.Common.{◌≡◌, take}
-use Rattle.cosim_pins.specs.Host.{clocked_all}
-use Rattle.cosim_pins.specs.ModuleRun.{write_rows}
-use Rattle.cosim_pins.proofs.drive.write_array.Given as goal
-
-abbrev pub invariant-loop-k : goal.invariant-loop-k
-invariant-loop-k l = l.driver ≡ clocked_all l.initial.driver (write_rows l.initial.driver.arguments l.number (take l.k l.addresses) (take l.k l.words))

@@ -1,5 +1,0 @@
-use Rattle.cosim_pins.proofs.Accesses.{AreWritten}
-use Rattle.cosim_pins.proofs.drive.write_arrays.Given as goal
-
-abbrev pub invariant-loop-k : goal.invariant-loop-k
-invariant-loop-k l = AreWritten l.initial.driver l.driver l.k l.arrays l.given

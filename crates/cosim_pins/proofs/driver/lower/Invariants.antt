@@ -1,5 +1,0 @@
-use Rattle.std.proofs.Common.{◌≡◌, take, replicate}
-use Rattle.cosim_pins.proofs.driver.lower.Given as goal
-
-abbrev pub invariant-loop-k : goal.invariant-loop-k
-invariant-loop-k l = take l.k l.pins ≡ replicate l.k 0

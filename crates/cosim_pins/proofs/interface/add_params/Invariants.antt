@@ -1,9 +1,0 @@
-use Rattle.std.proofs.Common.{◌≡◌, ◌++◌, map, drop}
-use Rattle.c_tree.specs.View.{param_of}
-use Rattle.cosim_pins.specs.FunctionPins.{scalar_bits, array_shapes, shape_of}
-use Rattle.cosim_pins.proofs.interface.add_params.Given as goal
-
-abbrev pub invariant-loop-param : goal.invariant-loop-param
-invariant-loop-param l =
-    (l.scalars.items ++ scalar_bits (map param_of (drop l.param-index l.params)) ≡ l.initial.scalars.items ++ scalar_bits (map param_of l.params))
-    × (map shape_of l.arrays.items ++ array_shapes (map param_of (drop l.param-index l.params)) ≡ map shape_of l.initial.arrays.items ++ array_shapes (map param_of l.params))

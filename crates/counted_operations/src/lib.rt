@@ -1,4 +1,0 @@
-//! That lowered programs have no more operations than were counted, and that these are few.
-#![tactic(auto)]
-
-pub mod laws;

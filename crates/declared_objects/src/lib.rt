@@ -1,4 +1,0 @@
-//! How many objects and parameters the functions of elaborated programs have.
-#![tactic(auto)]
-
-pub mod laws;

@@ -1,7 +1,0 @@
-//! Laws of the variables of expanded programs.
-ghost use Rattle.declared_variables.specs.Laws.{VariablesAreCounted};
-
-/// What a program is expanded to has no more variables than it has weight, parameters of its top function, and a result.
-pub fn variables_are_counted()
-    ensures { VariablesAreCounted }
-{}

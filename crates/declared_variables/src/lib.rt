@@ -1,4 +1,0 @@
-//! How many variables expanded programs have.
-#![tactic(auto)]
-
-pub mod laws;

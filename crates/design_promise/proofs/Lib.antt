@@ -1,2 +1,0 @@
-pub mod Whole
-mod Names

@@ -1,7 +1,0 @@
-//! The law of compiled circuits.
-ghost use Rattle.design_promise.specs.Laws.{DesignsKeepPromise};
-
-/// The circuit of a source without faults agrees with the box of the C function, to the cycle that the report's formula gives.
-pub fn designs_keep_promise()
-    ensures { DesignsKeepPromise }
-{}

@@ -1,4 +1,0 @@
-//! Subscripts of elements in elaborated programs.
-#![tactic(auto)]
-
-pub mod laws;

@@ -1,7 +1,0 @@
-//! Laws of the loops of expanded programs.
-ghost use Rattle.ended_loops.specs.Laws.{ExpandedLoopsEnd};
-
-/// Each loop of an expanded program ends at the End of the point at which its body begins.
-pub fn expanded_loops_end()
-    ensures { ExpandedLoopsEnd }
-{}

@@ -1,6 +1,0 @@
-mod Spent
-mod Cycles
-mod Times
-mod Contents
-mod Starts
-pub mod Whole

@@ -1,7 +1,0 @@
-//! Laws of statements.
-ghost use Rattle.expand_statements.specs.Laws.{StatementsKeepRuns};
-
-/// The pieces of statements without calls do what the statements do, wherever that is defined.
-pub fn statements_keep_runs()
-    ensures { StatementsKeepRuns }
-{}

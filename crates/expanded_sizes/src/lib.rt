@@ -1,4 +1,0 @@
-//! How large expanded programs are.
-#![tactic(auto)]
-
-pub mod laws;

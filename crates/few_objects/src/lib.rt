@@ -1,4 +1,0 @@
-//! How many objects the functions of a source have.
-#![tactic(auto)]
-
-pub mod laws;

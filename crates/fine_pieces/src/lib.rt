@@ -1,4 +1,0 @@
-//! Pieces of expanded programs are as all passes on blocks ask.
-#![tactic(auto)]
-
-pub mod laws;

@@ -1,4 +1,0 @@
-pub mod Programs
-pub mod Worlds
-pub mod Standing
-pub mod Laws

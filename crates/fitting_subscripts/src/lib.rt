@@ -1,4 +1,0 @@
-//! Subscripts of the elements that programs are expanded to.
-#![tactic(auto)]
-
-pub mod laws;

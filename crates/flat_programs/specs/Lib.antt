@@ -1,0 +1,4 @@
+pub mod There
+pub mod Laws
+pub mod Memory
+pub mod Machine

@@ -1,0 +1,4 @@
+//! The memories of a program that runs.
+
+mod bank;
+pub mod memories;

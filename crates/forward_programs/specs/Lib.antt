@@ -1,3 +1,0 @@
-pub mod NearConstants
-pub mod Examples
-pub mod Laws

@@ -1,0 +1,17 @@
+pub mod Standing
+pub mod Pushing
+pub mod Listing
+pub mod Beginning
+pub mod Choosing
+pub mod Arriving
+pub mod Placing
+pub mod Outs
+pub mod Frames
+pub mod Growing
+pub mod Composing
+pub mod Showing
+pub mod Whole
+pub mod Built
+pub mod CircuitParts
+pub mod LoggedWrites
+pub mod AssembledCircuits

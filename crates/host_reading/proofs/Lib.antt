@@ -1,4 +1,0 @@
-pub mod Halving
-pub mod Choosing
-pub mod Naming
-pub mod Widths

@@ -1,5 +1,0 @@
-//! What the host reads.
-#![tactic(auto)]
-
-pub mod host;
-mod levels;

@@ -1,0 +1,6 @@
+use Rattle.std.proofs.Common.{◌≡◌, ◌++◌, ◌-◌}
+use Rattle.ir_core.specs.AddressWords.{rows_at}
+use Rattle.ir_core.proofs.address.rows.Given as goal
+
+abbrev pub invariant-loop : goal.invariant-loop
+invariant-loop l = l.all.items ++ rows_at l.start l.size l.row (l.length - l.counter) ≡ rows_at 0 l.size l.row l.length

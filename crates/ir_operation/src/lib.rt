@@ -1,5 +1,0 @@
-//! What each operation takes and gives: widths, latencies, units and values.
-#![tactic(auto)]
-
-pub mod timing;
-pub mod value;

@@ -1,4 +1,0 @@
-pub mod Seen
-pub mod Points
-pub mod Folds
-pub mod Laws

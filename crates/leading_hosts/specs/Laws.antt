@@ -1,8 +1,0 @@
--- The order of the arrays of expanded programs.
-use Rattle.core_program.specs.Core.{CoreProgramTree}
-use Rattle.c_expand.specs.Expansion.{expansion}
-use Rattle.expand_calls.specs.Programs.{IsProgramSound}
-use Rattle.compiled_plans.specs.Frames.{HostsComeFirst}
-
-abbrev pub ExpandedHostsComeFirst : Type 0
-ExpandedHostsComeFirst = (p : CoreProgramTree) → IsProgramSound p → HostsComeFirst (expansion p).arrays

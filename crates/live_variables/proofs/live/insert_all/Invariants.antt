@@ -1,7 +1,0 @@
-use Rattle.std.proofs.Common.{take}
-use Rattle.live_variables.specs.Sets.{Gains}
-use Rattle.live_variables.specs.Liveness.{is_among}
-use Rattle.live_variables.proofs.live.insert_all.Given as goal
-
-abbrev pub invariant-loop-variable : goal.invariant-loop-variable
-invariant-loop-variable l = Gains l.initial.set l.set (λ n. is_among n (take l.variable-index l.variables))

@@ -1,5 +1,0 @@
-use Rattle.live_variables.specs.Liveness.{Holds, flow_of}
-use Rattle.live_variables.proofs.live.live_variables.Given as goal
-
-abbrev pub invariant-loop-pass : goal.invariant-loop-pass
-invariant-loop-pass g l = Holds (flow_of l.cfg) l.live

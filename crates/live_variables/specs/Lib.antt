@@ -1,2 +1,0 @@
-pub mod Liveness
-pub mod Sets

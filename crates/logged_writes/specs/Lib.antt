@@ -1,4 +1,0 @@
-pub mod Roles
-pub mod Wanted
-pub mod Parts
-pub mod Laws

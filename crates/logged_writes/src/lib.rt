@@ -1,4 +1,0 @@
-//! What is logged for each target is what the plan wants of it.
-#![tactic(auto)]
-
-pub mod laws;

@@ -1,4 +1,0 @@
-pub mod Places
-mod Beginning
-mod Nodes
-pub mod Whole

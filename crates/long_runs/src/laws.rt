@@ -1,7 +1,0 @@
-//! The law of runs that end.
-ghost use Rattle.long_runs.specs.Laws.{EndedRunsAreLong};
-
-/// A run that ends passes the point of its function, and this is the point of the first node: so it takes a cycle there, beside the first.
-pub fn ended_runs_are_long()
-    ensures { EndedRunsAreLong }
-{}

@@ -1,3 +1,0 @@
-pub mod Iterations
-pub mod Gates
-pub mod Laws

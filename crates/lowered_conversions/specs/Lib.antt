@@ -1,4 +1,0 @@
-pub mod Suiting
-pub mod PiecePoints
-pub mod Laws
-pub mod Examples

@@ -1,7 +1,0 @@
-//! Laws of the nodes of lowered trees.
-ghost use Rattle.lowered_nodes.specs.Laws.{LoweredNodesAreFew};
-
-/// Pieces become few nodes for what they weigh.
-pub fn lowered_nodes_are_few()
-    ensures { LoweredNodesAreFew }
-{}

@@ -1,4 +1,0 @@
-//! Lowered trees have the run of their pieces.
-#![tactic(auto)]
-
-pub mod laws;

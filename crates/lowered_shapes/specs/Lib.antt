@@ -1,0 +1,4 @@
+pub mod LoopTests
+pub mod ConvertedShapes
+pub mod StraightCalls
+pub mod TreeFlow

@@ -1,4 +1,0 @@
-//! What lowered trees are: operands come before their uses, and each block is left as what stands behind it asks.
-#![tactic(auto)]
-
-pub mod laws;

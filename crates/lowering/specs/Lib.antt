@@ -1,9 +1,0 @@
-pub mod Operations
-pub mod Outs
-pub mod Guards
-pub mod Expressions
-pub mod Shapes
-pub mod Blocks
-pub mod Copies
-pub mod Lowering
-pub mod Examples

@@ -1,9 +1,0 @@
-//! The memories and tables of a circuit, with all that reads and writes them.
-#![tactic(auto)]
-
-pub mod memories;
-pub mod outside;
-pub mod places;
-pub mod ports;
-pub mod tables;
-pub mod words;

@@ -1,5 +1,0 @@
-use Rattle.node_ends.proofs.Staying.{variables_stay_in_blocks}
-use Rattle.node_ends.proofs.laws.variables_stay_in_blocks.Goals as goal
-
-pub returns : goal.returns
-returns c = variables_stay_in_blocks

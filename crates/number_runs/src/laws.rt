@@ -1,7 +1,0 @@
-//! Laws of numbering.
-ghost use Rattle.number_runs.specs.Laws.{NumberingKeepsRuns};
-
-/// The numbered tree has the run of the tree, from all contents, and for every number of points.
-pub fn numbering_keeps_runs()
-    ensures { NumberingKeepsRuns }
-{}

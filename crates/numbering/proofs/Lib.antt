@@ -1,2 +1,0 @@
-pub mod Equalities
-pub mod Growing

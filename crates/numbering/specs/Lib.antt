@@ -1,4 +1,0 @@
-pub mod Equal
-pub mod Constants
-pub mod Numbering
-pub mod Examples

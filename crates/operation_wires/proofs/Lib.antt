@@ -1,6 +1,0 @@
-mod Comparing
-mod Giving
-mod Patterns
-mod Shifting
-mod Signs
-mod Steps

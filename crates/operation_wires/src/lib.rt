@@ -1,5 +1,0 @@
-//! The wires of operations that have a unit of their own.
-#![tactic(auto)]
-
-pub mod numbers;
-pub mod operations;

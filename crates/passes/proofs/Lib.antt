@@ -1,0 +1,4 @@
+pub mod Equalities
+pub mod Growing
+pub mod NumberRuns
+pub mod DistinctOperations

@@ -1,0 +1,9 @@
+pub mod Numbering
+pub mod Lowering
+pub mod Conversion
+pub mod Lands
+pub mod Objects
+pub mod Totals
+pub mod OperationCount
+pub mod NumberRuns
+pub mod DistinctOperations

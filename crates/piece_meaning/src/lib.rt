@@ -1,2 +1,0 @@
-//! What a run of an expanded program is, as definitions.
-#![tactic(auto)]

@@ -1,7 +1,0 @@
-use Rattle.std.proofs.Common.{◌≡◌, ◌≤◌, ◌+◌, drop}
-use Rattle.std.specs.Prelude.{min}
-use Rattle.hls_base.specs.ArrayAddress.{address_bits}
-use Rattle.plan_sizes.proofs.sizes.depth_log.Given as goal
-
-abbrev pub invariant-loop-length : goal.invariant-loop-length
-invariant-loop-length l = (min (l.bits + address_bits (drop l.length-index l.memory.dims.items)) 255 ≡ min (address_bits l.memory.dims.items) 255) × (l.bits ≤ 255)

@@ -1,6 +1,0 @@
-use Rattle.std.proofs.Common.{◌≡◌, drop}
-use Rattle.machine_memory.specs.Filling.{filled}
-use Rattle.plan_sizes.proofs.words.fill.Given as goal
-
-abbrev pub invariant-loop-index : goal.invariant-loop-index
-invariant-loop-index l = filled (drop l.index l.places) (drop l.index l.elements) l.words ≡ filled l.places l.elements l.initial.words

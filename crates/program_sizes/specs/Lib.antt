@@ -1,0 +1,9 @@
+pub mod FewObjects
+pub mod ExpandedSizes
+pub mod DeclaredVariables
+pub mod DeclaredObjects
+pub mod LoweredNodes
+pub mod CountedOperations
+pub mod ConvertedOperations
+pub mod KeptNodes
+pub mod CompiledSizes

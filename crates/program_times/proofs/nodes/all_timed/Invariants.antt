@@ -1,8 +1,0 @@
-use Rattle.std.proofs.Common.{map, take}
-use Rattle.cycle_report.specs.PlainReport.{loop_of}
-use Rattle.program_times.specs.Timing.{AreTimed}
-use Rattle.program_times.proofs.nodes.all_timed.Given as goal
-
-abbrev pub invariant-loop-node : goal.invariant-loop-node
-invariant-loop-node l =
-    AreTimed l.memories l.units (take l.node-index l.nodes) l.timed.items (map loop_of l.loops.items)

@@ -1,0 +1,24 @@
+-- Which expanded programs are compiled: those whose flat programs are valid and can be given small times.
+use Rattle.std.specs.Prelude.{◌≡◌, Bool, true}
+use Rattle.std.specs.List.{All}
+use Rattle.pieces.specs.Program.{ExpandedTree}
+use Rattle.ir_core.specs.declared.cfg.Cfg.{Cfg}
+use Rattle.ir_core.specs.declared.stamp.Untimed.{Untimed}
+use Rattle.ir_lower.specs.Frames.{frame_view}
+use Rattle.program_validity.specs.Programs.{is_valid}
+use Rattle.report_rows.specs.ForwardNodes.{HasForwardBody}
+use Rattle.program_sizes.specs.CompiledSizes.{IsSmallProgram}
+use Rattle.compile_steps.specs.Flat.{IsFlatOf}
+use Rattle.compile_steps.specs.Resets.{expanded_frame}
+use Rattle.source_machines.specs.SmallTimes.NearOuts.{OutsAreNear}
+
+-- a valid program of few nodes and operations, each of which comes behind those that it waits for, with outs and tests of few iterations before
+pub record IsCompilable (cfg : Cfg Untimed) : Type 0 where
+  pub valid : is_valid cfg ≡ true
+  pub small : IsSmallProgram cfg
+  pub forward : All HasForwardBody cfg.nodes.items
+  pub near : OutsAreNear cfg
+
+-- Each flat program that the expanded program becomes, with or without loops that are overlapped, is so.
+abbrev pub BecomesCompilable : ExpandedTree → Type 0
+BecomesCompilable e = (plain : Bool) (cfg : Cfg Untimed) → IsFlatOf e plain cfg → frame_view cfg.frame ≡ expanded_frame e → IsCompilable cfg

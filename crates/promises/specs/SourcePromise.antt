@@ -1,0 +1,46 @@
+-- The circuits of sources without faults.
+use Rattle.std.specs.Prelude.{◌≡◌, ℕ, Bool, List, Some, slice_get}
+use Rattle.hls_base.specs.declared.settings.Units.{Units}
+use Rattle.c_tree.specs.Tree.{FunctionTree, ProgramTree}
+use Rattle.c_meaning.specs.Run.{function_at, first_contents}
+use Rattle.cosim_levels.specs.CAnswers.{c_answers}
+use Rattle.cosim_levels.specs.Pins.FunctionPins.{interface_of}
+use Rattle.ir_core.specs.declared.cfg.Cfg.{Cfg}
+use Rattle.ir_core.specs.declared.stamp.Untimed.{Untimed}
+use Rattle.ir_lower.specs.Frames.{frame_view}
+use Rattle.ir_core.specs.declared.timed.Timed.{Timed}
+use Rattle.reg_binding.specs.declared.live.Live.{Live}
+use Rattle.reg_binding.specs.declared.registers.Registers.{Registers}
+use Rattle.reg_binding.specs.Assigned.{IsAssignment}
+use Rattle.rtl_core.specs.Netlist.{Netlist}
+use Rattle.rtl_core.specs.Valid.{IsValid}
+use Rattle.rtl_core.specs.Agreement.{Agrees}
+use Rattle.cycle_report.specs.PlainReport.{PlainLoop, PlainReport}
+use Rattle.report_rows.specs.Costs.{AreRowsOf}
+use Rattle.report_rows.specs.Initial.{initial_cycles}
+use Rattle.compile_steps.specs.Flat.{IsFlatOf}
+use Rattle.compile_steps.specs.Resets.{expanded_frame}
+use Rattle.compile_steps.specs.Reports.{IsTimed}
+use Rattle.datapath.specs.Plans.{Plan, plan_of}
+use Rattle.datapath.specs.Netlists.{IsCircuitOf}
+use Rattle.circuit_flow.specs.Compiled.{IsCompiled}
+use Rattle.circuit_agreement.specs.Boxes.{HasMemories}
+use Rattle.ir_core.specs.Small.{HasSmallNumbers}
+use Rattle.datapath.specs.LeftOut.{savings_of}
+use Rattle.source_runs.specs.Laws.{IsFaultless, expanded}
+
+-- Of a source without faults: the plan of its program with times is compiled, where the numbers of the program are small and its values have registers.
+abbrev pub SourcePlansAreCompiled : Type 0
+SourcePlansAreCompiled = (source : List ℕ) (p : ProgramTree) (top : ℕ) (name : List ℕ) → IsFaultless source p top name → (plain : Bool) (untimed : Cfg Untimed) → IsFlatOf (expanded p top) plain untimed
+    → (units : Units) (timed : Cfg Timed) (loops : List PlainLoop) → IsTimed units untimed timed loops → frame_view timed.frame ≡ expanded_frame (expanded p top) → HasSmallNumbers timed
+    → (live : Live) (registers : Registers) → IsAssignment timed live registers → IsCompiled (plan_of timed registers (savings_of timed live))
+
+-- Of a source without faults, with this top function: a valid netlist that is the circuit of this plan agrees with the box of the function, with the answers of C in the cycles of the report, where the report is at base 1, its rows are the costs of the program, and its initial cycles are those of the frame.
+abbrev pub SourcesKeepPromise : Type 0
+SourcesKeepPromise = (source : List ℕ) (p : ProgramTree) (top : ℕ) (name : List ℕ) → IsFaultless source p top name → (function : FunctionTree) → function_at (slice_get p.items top) ≡ Some function
+    → (plain : Bool) (untimed : Cfg Untimed) → IsFlatOf (expanded p top) plain untimed
+    → (units : Units) (timed : Cfg Timed) (loops : List PlainLoop) → IsTimed units untimed timed loops → frame_view timed.frame ≡ expanded_frame (expanded p top) → HasSmallNumbers timed
+    → (report : PlainReport) → report.base ≡ 1 → AreRowsOf timed.nodes.items report.rows → report.init ≡ initial_cycles timed.frame
+    → (live : Live) (registers : Registers) → IsAssignment timed live registers
+    → let plan : Plan = plan_of timed registers (savings_of timed live) in
+    (d : Netlist) → IsCircuitOf plan d → HasMemories plan d → IsValid d → Agrees d (interface_of function) report.init (first_contents p) (c_answers p top report)

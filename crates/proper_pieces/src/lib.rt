@@ -1,4 +1,0 @@
-//! Pieces of expanded programs are proper.
-#![tactic(auto)]
-
-pub mod laws;

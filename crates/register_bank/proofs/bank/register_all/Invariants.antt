@@ -1,7 +1,0 @@
-use Rattle.std.proofs.Common.{take}
-use Rattle.rtl_logic.specs.Making.{circuit}
-use Rattle.register_bank.specs.Slots.{AreRegistered}
-use Rattle.register_bank.proofs.bank.register_all.Given as goal
-
-abbrev pub invariant-loop-slot : goal.invariant-loop-slot
-invariant-loop-slot l = AreRegistered (circuit l.initial.logic) (circuit l.logic) (take l.slot-index l.slots) l.roles.keys

@@ -1,9 +1,0 @@
-use Rattle.std.proofs.Common.{map}
-use Rattle.std.specs.List.{range_with_len}
-use Rattle.datapath.specs.Plans.{Plan}
-use Rattle.circuit_log.specs.declared.role.Role.TheVariants as role
-use Rattle.register_bank.specs.Slots.{Adds}
-use Rattle.register_bank.proofs.slots.push_gates.Given as goal
-
-abbrev pub invariant-loop-tests : goal.invariant-loop-tests
-invariant-loop-tests l = (p : Plan) → Adds p l.initial.slots.items l.slots.items (map role.Gate (range_with_len 0 l.tests))

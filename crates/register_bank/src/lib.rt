@@ -1,6 +1,0 @@
-//! The registers of a circuit under construction, by what they are for.
-#![tactic(auto)]
-
-pub mod bank;
-mod lines;
-mod slots;

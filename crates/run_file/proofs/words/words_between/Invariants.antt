@@ -1,6 +1,0 @@
-use Rattle.std.proofs.Common.{◌≡◌, ◌==◌, not, filter, length}
-use Rattle.run_file.specs.Rows.{texts_of}
-use Rattle.run_file.proofs.words.words_between.Given as goal
-
-abbrev pub invariant-loop-part : goal.invariant-loop-part
-invariant-loop-part l = texts_of l.words.items ≡ filter (λ part. not (length part == 0)) (texts_of l.yielded)

@@ -1,8 +1,0 @@
-use Rattle.seq_machine.proofs.Going.{ended_so, undefined_so}
-use Rattle.seq_machine.proofs.machine.SeqMachine.halts_as_the_run.Goals as goal
-
-pub returns-clause-ended : goal.returns-clause-ended
-returns-clause-ended c = λ t most n x e h. ended_so c.args.self.now.cfg.now t c.args.self.now.state most n x e h
-
-pub returns-clause-undefined : goal.returns-clause-undefined
-returns-clause-undefined c = λ t most n rule place x e h. undefined_so c.args.self.now.cfg.now t c.args.self.now.state most n rule place x e h

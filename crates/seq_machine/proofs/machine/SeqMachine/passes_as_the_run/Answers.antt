@@ -1,5 +1,0 @@
-use Rattle.seq_machine.proofs.Going.{passes_all}
-use Rattle.seq_machine.proofs.machine.SeqMachine.passes_as_the_run.Goals as goal
-
-pub returns : goal.returns
-returns c = λ t points most n x e h few. passes_all c.args.self.now.cfg.now t c.args.self.now.state points most n x e h few

@@ -1,5 +1,0 @@
-use Rattle.seq_machine.proofs.Going.{one_step}
-use Rattle.seq_machine.proofs.machine.SeqMachineMachineUntimed.step.Goals as goal
-
-pub returns-clause-goes_on : goal.returns-clause-goes_on
-returns-clause-goes_on c = λ whole. one_step _ _ _ (c.pass.ensures.passes whole)

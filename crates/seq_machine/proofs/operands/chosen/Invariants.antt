@@ -1,7 +1,0 @@
-use Rattle.std.proofs.Common.{◌≡◌, ℕ, drop}
-use Rattle.block_meaning.specs.FlatRuns.{chosen}
-use Rattle.seq_machine.specs.Held.{holding}
-use Rattle.seq_machine.proofs.operands.chosen.Given as goal
-
-abbrev pub invariant-loop-case : goal.invariant-loop-case
-invariant-loop-case l = (memories : ℕ → ℕ → ℕ) → chosen (holding l.variables memories) l.results (drop l.case-index l.cases) l.other ≡ chosen (holding l.variables memories) l.results l.cases l.other

@@ -1,8 +1,0 @@
-use Rattle.std.proofs.Common.{◌≡◌, drop, length}
-use Rattle.block_meaning.specs.FirstContents.{with_arguments}
-use Rattle.seq_machine.specs.Held.{held}
-use Rattle.seq_machine.specs.Sizes.{ParametersThere}
-use Rattle.seq_machine.proofs.room.set_arguments.Given as goal
-
-abbrev pub invariant-loop-index : goal.invariant-loop-index
-invariant-loop-index l = ParametersThere l.params (length l.initial.variables) → with_arguments (drop l.index l.params) (drop l.index l.scalars) (held l.variables) ≡ with_arguments l.params l.scalars (held l.initial.variables)

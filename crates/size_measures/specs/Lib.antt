@@ -1,3 +1,0 @@
-pub mod Lands
-pub mod Objects
-pub mod Totals

@@ -1,2 +1,0 @@
-//! How large programs, pieces and trees of blocks are, as definitions.
-#![tactic(auto)]

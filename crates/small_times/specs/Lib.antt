@@ -1,3 +1,0 @@
-pub mod NearOuts
-pub mod Examples
-pub mod Laws

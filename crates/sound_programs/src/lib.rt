@@ -1,4 +1,0 @@
-//! Laid out programs are what schedules take for granted: operands name what is there, accesses and sums are checked, and loop nodes have results of their own for what they set.
-#![tactic(auto)]
-
-pub mod laws;

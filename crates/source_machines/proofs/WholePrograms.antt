@@ -1,0 +1,4 @@
+pub mod Bodies
+pub mod LaidOut
+pub mod Whole
+pub mod Machines

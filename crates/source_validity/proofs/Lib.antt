@@ -1,0 +1,6 @@
+pub mod ValidFrames
+pub mod CompiledValidity
+pub mod AcceptedPrograms
+pub mod NearOuts
+pub mod LeadingHosts
+pub mod AddressedFrames

@@ -1,0 +1,9 @@
+pub mod Classes
+pub mod Dealing
+pub mod Nodes
+pub mod Orders
+pub mod Programs
+pub mod Requests
+pub mod Rules
+pub mod Serving
+pub mod Turns

@@ -1,0 +1,34 @@
+-- Programs that are laid out from fine pieces are sound.
+use Rattle.std.specs.Prelude.{◌≤◌, slice_get}
+use Rattle.std.proofs.Common.{ℕ, zero, suc, sym, subst, List, [], ◌∷◌, map}
+use Rattle.pieces.specs.Program.{ArrayTree}
+use Rattle.ir_core.specs.Bodies.{Shapes}
+use Rattle.c_meaning.specs.PieceRuns.Values.{lengths_in}
+use Rattle.lower_runs.specs.Suits.{scope_of}
+use Rattle.lower_runs.specs.Showing.{AreShort}
+use Rattle.clock_runs.specs.Premises.{Each, IsSoundNode}
+use Rattle.timed_pieces.proofs.Whole.{clocked}
+use Rattle.sound_trees.proofs.Whole as trees
+use Rattle.timed_pieces.specs.SoundPrograms.{LaidOutProgramsAreSound, ScheduledProgramsKeepRuns}
+
+-- ---- dimensions
+
+short_each : (dims : List ℕ) → AreShort dims → Each (λ len. len ≤ 65536) dims
+short_each [] h = tt
+short_each (len ∷ dims) h = (h.0, short_each dims h.1)
+
+dims_short : (arrays : List ArrayTree) → ((a : ℕ) → AreShort (lengths_in (slice_get arrays a))) → Each (λ (dims : List ℕ). Each (λ len. len ≤ 65536) dims) (map (λ (a : ArrayTree). a.lengths) arrays)
+dims_short [] h = tt
+dims_short (a ∷ as_) h = (short_each a.lengths (h zero), dims_short as_ (λ i. h (suc i)))
+
+-- ---- the whole
+
+pub sound : LaidOutProgramsAreSound
+sound f choice kept pieces point returned cfg fine subscripts laid = record {
+  dims = subst (λ (s : Shapes). Each (λ (dims : List ℕ). Each (λ len. len ≤ 65536) dims) s.dims) (sym laid.shapes) (dims_short f.arrays fine.short);
+  nodes = subst (λ (s : Shapes). Each (IsSoundNode s) cfg.nodes.items) (sym laid.shapes) (trees.sound (scope_of f) choice.apart choice.loops pieces point returned cfg.nodes.items fine.typed subscripts laid.nodes);
+}
+
+pub kept_runs : ScheduledProgramsKeepRuns
+kept_runs f choice kept pieces point returned cfg fine subscripts laid units timed rows times s t holds fits =
+    clocked f choice kept pieces point returned cfg fine laid units timed rows times (sound f choice kept pieces point returned cfg fine subscripts laid) s t holds fits

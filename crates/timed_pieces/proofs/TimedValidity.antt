@@ -1,0 +1,7 @@
+pub mod Lists
+pub mod Frames
+pub mod Operands
+pub mod Operations
+pub mod Bodies
+pub mod Nodes
+pub mod Whole

@@ -1,7 +1,0 @@
-//! Laws of programs that were given times.
-ghost use Rattle.timed_validity.specs.Laws.{TimesKeepValidity};
-
-/// A program with times is valid exactly where the program without them is.
-pub fn times_keep_validity()
-    ensures { TimesKeepValidity }
-{}

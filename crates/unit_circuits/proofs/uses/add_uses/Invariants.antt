@@ -1,7 +1,0 @@
-use Rattle.std.proofs.Common.{◌≡◌, ◌++◌, drop}
-use Rattle.std.specs.List.{flat_map}
-use Rattle.unit_circuits.specs.Uses.{uses_in}
-use Rattle.unit_circuits.proofs.uses.add_uses.Given as goal
-
-abbrev pub invariant-loop-op : goal.invariant-loop-op
-invariant-loop-op l = l.uses.items ++ flat_map uses_in (drop l.op-index l.ops) ≡ l.initial.uses.items ++ flat_map uses_in l.ops

@@ -1,6 +1,0 @@
-use Rattle.std.proofs.Common.{◌≡◌, drop}
-use Rattle.unit_circuits.specs.Uses.{has_signed}
-use Rattle.unit_circuits.proofs.uses.has_signs.Given as goal
-
-abbrev pub invariant-loop-each : goal.invariant-loop-each
-invariant-loop-each l = has_signed l.unit (drop l.each-index l.uses) ≡ has_signed l.unit l.uses

@@ -1,9 +1,0 @@
-//! What operations compute, and what they give to shared units and to ports.
-#![tactic(auto)]
-
-pub mod accesses;
-pub mod arguments;
-pub mod demands;
-pub mod results;
-pub mod shared;
-pub mod started;

@@ -1,3 +1,0 @@
-pub mod Divisions
-pub mod UnderWay
-pub mod Laws

@@ -1,7 +1,0 @@
-//! Laws of conversion.
-ghost use Rattle.valid_conversion.specs.Laws.{ConvertedTreesAreValid};
-
-/// The converted tree of a valid tree is valid, where the loops that are overlapped have results of their own for what they set.
-pub fn converted_trees_are_valid()
-    ensures { ConvertedTreesAreValid }
-{}

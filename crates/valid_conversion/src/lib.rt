@@ -1,4 +1,0 @@
-//! Conversion keeps trees of blocks valid.
-#![tactic(auto)]
-
-pub mod laws;

@@ -1,3 +1,0 @@
-pub mod Proper
-pub mod Laws
-pub mod Examples

@@ -1,9 +1,0 @@
--- What numbering keeps of valid trees.
-use Rattle.block_meaning.specs.Trees.{SequenceTree}
-use Rattle.numbering.specs.Numbering.{Scope, numbered_sequence}
-use Rattle.tree_validity.specs.Shapes.{FrameShape}
-use Rattle.tree_validity.specs.Trees.{TreeIsValid}
-
--- The numbered tree of a valid tree is valid, in a loop that may be overlapped as elsewhere.
-abbrev pub NumberedTreesAreValid : Type 0
-NumberedTreesAreValid = (frame : FrameShape) (scope : Scope) (blocks : SequenceTree) → TreeIsValid frame blocks → TreeIsValid frame (numbered_sequence scope blocks)

@@ -1,4 +1,0 @@
-//! Numbering keeps trees of blocks valid.
-#![tactic(auto)]
-
-pub mod laws;

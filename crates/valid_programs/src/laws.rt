@@ -1,7 +1,0 @@
-//! Laws of valid programs.
-ghost use Rattle.valid_programs.specs.Laws.{ValidProgramsAreWhole};
-
-/// The variables and arrays that a valid program names are there, so that a machine that runs it stands in the run of its definition.
-pub fn valid_programs_are_whole()
-    ensures { ValidProgramsAreWhole }
-{}

@@ -1,4 +1,0 @@
-//! What programs have that are valid.
-#![tactic(auto)]
-
-pub mod laws;

@@ -1,0 +1,11 @@
+pub mod Shapes
+pub mod Operands
+pub mod Operations
+pub mod Bodies
+pub mod Trees
+pub mod Examples
+pub mod ValidNumbering
+pub mod ValidConversion
+pub mod ValidLayout
+pub mod ValidLowering
+pub mod WholeTrees

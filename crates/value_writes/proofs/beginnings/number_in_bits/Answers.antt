@@ -1,5 +1,0 @@
-use Rattle.value_writes.proofs.Beginning.{number_carries}
-use Rattle.value_writes.proofs.beginnings.number_in_bits.Goals as goal
-
-pub returns : goal.returns
-returns c = λ p names d. number_carries p names d c.args.number c.args.bits c.constant.result c.requires.some c.requires.few c.requires.fits c.constant.ensures

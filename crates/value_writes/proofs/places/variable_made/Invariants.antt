@@ -1,6 +1,0 @@
-use Rattle.std.proofs.Common.{◌≡◌, drop}
-use Rattle.value_writes.specs.Steps.{made_first}
-use Rattle.value_writes.proofs.places.variable_made.Given as goal
-
-abbrev pub invariant-loop-out : goal.invariant-loop-out
-invariant-loop-out l = made_first (drop l.out-index l.outs) l.op.0 ≡ made_first l.outs l.op.0

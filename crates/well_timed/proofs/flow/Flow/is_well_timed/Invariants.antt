@@ -1,7 +1,0 @@
-use Rattle.std.proofs.Common.{◌≡◌, drop}
-use Rattle.well_timed.specs.Checks.{ops_in_time, body_in_time}
-use Rattle.well_timed.proofs.flow.Flow.is_well_timed.Given as goal
-
-abbrev pub invariant-loop-index : goal.invariant-loop-index
-invariant-loop-index l =
-    ops_in_time l.self.interval l.self.memories.now l.self.body.now (drop l.index l.self.body.now.ops.items) ≡ body_in_time l.self.interval l.self.memories.now l.self.body.now

@@ -1,6 +1,0 @@
-use Rattle.std.proofs.Common.{◌≡◌, drop}
-use Rattle.modulo_loop.specs.Rules.{maker}
-use Rattle.well_timed.proofs.program.next_maker.Given as goal
-
-abbrev pub invariant-loop-out : goal.invariant-loop-out
-invariant-loop-out l = maker l.variable (drop l.out-index l.outs) ≡ maker l.variable l.outs

@@ -1,7 +1,0 @@
-use Rattle.std.proofs.Common.{◌≡◌, drop}
-use Rattle.std.specs.List.{list_all}
-use Rattle.well_timed.specs.Nodes.{is_out_ready}
-use Rattle.well_timed.proofs.program.outs_are_ready.Given as goal
-
-abbrev pub invariant-loop-out : goal.invariant-loop-out
-invariant-loop-out l = list_all (is_out_ready l.ops l.time) (drop l.out-index l.outs) ≡ list_all (is_out_ready l.ops l.time) l.outs

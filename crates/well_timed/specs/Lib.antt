@@ -1,4 +1,0 @@
-pub mod Untimed
-pub mod Sums
-pub mod Checks
-pub mod Nodes

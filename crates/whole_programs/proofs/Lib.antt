@@ -1,4 +1,0 @@
-mod Bodies
-mod LaidOut
-pub mod Whole
-pub mod Machines

@@ -1,4 +1,0 @@
-//! Numbered and converted trees name only variables and memories that are there, where the trees did.
-#![tactic(auto)]
-
-pub mod laws;

@@ -1,4 +1,0 @@
-//! Tables of words as wires.
-#![tactic(auto)]
-
-pub mod tables;
