@@ -1,0 +1,4 @@
+pub mod Flow
+pub mod Running
+pub mod Composing
+pub mod Meaning

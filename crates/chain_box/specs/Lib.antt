@@ -1,0 +1,5 @@
+pub mod StageBoxes
+pub mod Chains
+pub mod Laws
+pub mod Agreement
+pub mod Examples

@@ -1,0 +1,13 @@
+pub mod Holding
+pub mod Queues
+pub mod Controls
+pub mod UnitsFit
+pub mod Placed
+pub mod Standing
+pub mod Resetting
+pub mod Whole
+pub mod Following
+pub mod Shaped
+pub mod StagePins
+pub mod Pushing
+pub mod Linked

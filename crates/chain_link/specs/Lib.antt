@@ -1,0 +1,6 @@
+pub mod Units
+pub mod Linking
+pub mod Places
+pub mod Faults
+pub mod Laws
+pub mod Queues

@@ -1,0 +1,4 @@
+pub mod Embedding
+pub mod Assembling
+pub mod Exits
+pub mod Pins

@@ -1,0 +1,4 @@
+pub mod Paths
+pub mod Examples
+pub mod Laws
+pub mod Arrivals
