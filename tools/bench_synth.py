@@ -48,7 +48,7 @@ def arrays():
 
 
 def accesses(pairs):
-    """An overlapped loop with a load and a store of one array for each pair, and sums up to weight 256."""
+    """A pipelined loop with a load and a store of one array for each pair, and sums up to weight 256."""
     body = "".join(f"a[{'ijk'[n % 3]}]=a[{'jki'[n % 3]}];" for n in range(pairs))
     body += "s=s+1u;" * ((256 - 7 - 4 * pairs) // 4)
     return f"unsigned f(unsigned a[64],int j,int k){{unsigned s=0;for(int i=0;i<64;i++){{{body}}}return s;}}"
@@ -105,7 +105,7 @@ def best(words, output):
 
 
 def cosim(work):
-    """A run of a million cycles: the loop is overlapped with interval 1."""
+    """A run of a million cycles: the loop is pipelined at interval 1."""
     source, run = work / "c.c", work / "c.run"
     source.write_text("int f(int n){int s=0;for(int i=0;i<n;i++)s=s^i;return s;}")
     run.write_text("n = 999994\n")

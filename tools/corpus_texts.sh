@@ -11,7 +11,7 @@ trap 'rm -rf "$work"' EXIT
 
 # A repository of its own: the crates below, and a program that reads texts.
 mkdir -p "$work/crates/corpus_texts"/{src,specs,proofs}
-for crate in hls_base rtl_core verilog_print verilog_syntax verilog_read cycle_report; do
+for crate in hls_base ir_core rtl_core verilog_print verilog_syntax verilog_read cycle_report; do
     mkdir "$work/crates/$crate"
     cp -r "$root/crates/$crate/src" "$root/crates/$crate/specs" "$root/crates/$crate/proofs" "$work/crates/$crate/"
     grep "^$crate:" "$root/crates.txt" >>"$work/crates.txt"

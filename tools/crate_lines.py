@@ -10,9 +10,18 @@ import pathlib
 import re
 import sys
 
-from edits import crates
-
 ROOT = pathlib.Path(__file__).resolve().parent.parent
+
+
+def crates():
+    """The crates of the repository, each with the libraries that its line lists."""
+    below = {}
+    for line in (ROOT / "crates.txt").read_text().splitlines():
+        line = line.split("#")[0].strip()
+        if line:
+            name, deps = line.split(":")
+            below[name.split()[0]] = deps.split()
+    return below
 
 
 def named(crate, names):

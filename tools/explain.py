@@ -1,18 +1,19 @@
 #!/usr/bin/env python3
 """Explains on standard error why the compiler ended as it did, and prints its help.
 
-    tools/explain.py STATUS FILE WORD ..   FILE holds what the compiler put, the words are those it was given
+    tools/explain.py STATUS FILE WORD ..   FILE holds the compiler's standard output, the words are its arguments
     tools/explain.py help
 
-`./hls` calls it. It is not part of the program that is proved: it reads the program's line and the files that the words name.
+`./hls` calls it. It is not part of the program that is proved: it reads the compiler's line and the files that the arguments name.
+faults_text.py, faults_syntax.py and faults_names.py say what is wrong with a source, rule by rule; rules.txt has the table of rules.
 """
 import os
 import pathlib
 import re
+import signal
 import sys
 
 ROOT = pathlib.Path(__file__).resolve().parent.parent
-WIDTH = 100
 COMMANDS = {
     "synth": "synth SRC MOD REP --top NAME [--mul 1..8] [--div 1..4] [--ports 1..2] [--plain]",
     "cosim": "cosim SRC MOD REP RUN --top NAME [--points N] [--cycles N]",
@@ -24,39 +25,39 @@ RANGES = {
     "cosim": {"--points": (1, 10**9), "--cycles": (1, 10**9)},
     "soak": {},
 }
-HELP = """hls: from C to a clocked Verilog module, with a report of its exact cycles
+HELP = """hls: compiles a C function to a clocked Verilog module, and reports its exact cycles
 
     ./hls synth SRC MOD REP --top NAME [OPTION ..]       compiles: writes the module and the report
     ./hls cosim SRC MOD REP RUN --top NAME [OPTION ..]   runs the C program and the module, and compares them
     ./hls soak NUMBER                                    makes a program from the number, compiles it and compares a run
     ./hls --prove                                        proves and builds the compiler
-    ./hls --help                                         this page
+    ./hls --help                                         prints this page
 
 Options of synth
     --top NAME      the function to compile
     --mul 1..8      multipliers of each width (1)
     --div 1..4      dividers of each width (1)
     --ports 1..2    ports of each memory (1)
-    --plain         no loop is overlapped
+    --plain         pipelines no loop
 Options of cosim
     --top NAME      the function that was compiled
     --points N      stops the C program after N points (1000000)
     --cycles N      waits at most N cycles for the module (1000000)
 
-Status  Line on standard output                     When
+Status  Line on standard output                     Meaning
     0   made hls_NAME, or lines up to agree         done
-    1   rule R at LINE:COLUMN                       the source is refused; no file was written
-    2   usage: hls COMMAND ARGUMENTS                the words are no command
-    3   fault                                       a file or the output failed, or a file is not there
-    4   memory                                      there was no memory
+    1   rule R at LINE:COLUMN                       the source is rejected; no file was written
+    2   usage: hls COMMAND ARGUMENTS                invalid command line
+    3   fault                                       a file or standard output cannot be read or written
+    4   memory                                      out of memory
     5   differ verilog ..                           result, element or cycles of the module differ
     6   running c N, running verilog N              the limit of points or cycles was reached
-    7   run line N                                  this line of the run file is refused
-    8   module rule R at PLACE, report rule R at ..  the module or the report is refused
+    7   run line N                                  this line of the run file is rejected
+    8   module rule R at PLACE, report rule R at .. the module or the report is rejected
     9   undefined NAME at PLACE                     the run in C is undefined there
 
-A refusal is explained on standard error. HLS_PLAIN=1 keeps it silent, NO_COLOR=1 without colour.
-The pages docs/LANGUAGE.md, docs/CIRCUIT.md and docs/REPORT.md have these rules with examples.
+A rejection is explained on standard error. HLS_PLAIN=1 leaves the explanation out, NO_COLOR=1 its colours.
+docs/LANGUAGE.md, docs/CIRCUIT.md and docs/REPORT.md have the rules with examples.
 """
 
 
@@ -74,8 +75,11 @@ def table():
     return found
 
 
+RULES = table()
+
+
 class Words:
-    """The words of a command as they are read where they are right: files by what they are for, and options."""
+    """The arguments, read as they are meant: files by what they are for, and options."""
 
     def __init__(self, words):
         self.command = words[0] if words else ""
@@ -96,176 +100,255 @@ class Words:
                 self.plain.append(word)
         self.files = dict(zip(FILES.get(self.command, ()), self.plain))
 
-
-class Paper:
-    """Lines for standard error, coloured where it is a terminal that wants it."""
-
-    def __init__(self):
-        self.coloured = sys.stderr.isatty() and not os.environ.get("NO_COLOR")
-        self.lines = []
-
-    def paint(self, text, code):
-        return f"\033[{code}m{text}\033[0m" if self.coloured else text
-
-    def title(self, text):
-        self.lines.append(self.paint("hls: " + text, "1;31"))
-
-    def say(self, text):
-        self.lines.append("  " + text)
-
-    def show(self, name, line, column=None):
-        """The line of a file, with a caret under the column."""
-        try:
-            text = pathlib.Path(name).read_bytes().split(b"\n")
-        except OSError:
-            return
-        self.say(self.paint(f"--> {name}:{line}" + (f":{column}" if column else ""), "1"))
-        raw = text[line - 1].rstrip(b"\r") if line <= len(text) else b""
-        start = max(0, (column or 1) - 1 - WIDTH // 2) if len(raw) > WIDTH else 0
-        clean = lambda part: "".join(c if c == "\t" or c.isprintable() else "?" for c in part.decode(errors="replace"))
-        before, after = clean(raw[start:(column or 1) - 1]), clean(raw[(column or 1) - 1:start + WIDTH])
-        dots = ".." if start else ""
-        self.say(f"{line:>5} | {dots}{before}{after}" + (".." if start + WIDTH < len(raw) else ""))
-        if column:
-            blank = "".join(c if c == "\t" else " " for c in dots + before)
-            self.say("      | " + blank + self.paint("^", "1;32"))
-
-    def put(self):
-        try:
-            sys.stderr.write("\n".join(self.lines) + "\n" if self.lines else "")
-        except OSError:
-            pass
+    def top(self):
+        return self.options.get("--top") or ""
 
 
-def sentence(text):
-    return text[0].upper() + text[1:] + "."
+# ---- rejected sources (status 1)
 
 
-def macro(paper, source, line, column, part):
-    """Where a token comes from a replacement: the word and its definition."""
+def source_message(source, rule, place, top):
+    """The message for a rule of the source at a place, or None."""
+    from c_tree import parse
+    from c_check import Checker
+    from faults_syntax import nesting_message, syntax_message
+    from faults_text import text_message
+
+    message = text_message(source, rule, place)
+    if message:
+        return message
+    if rule == "32":
+        return nesting_message(source, place)
+    items, stop = parse(source.tokens)
+    if rule in ("6", "20", "23"):
+        return syntax_message(source, stop) if stop and stop_place(source, stop) == place else None
+    if stop:
+        return None
+    checker = Checker(source, items, top, (place, int(rule)))
+    return checker.too_heavy() if rule == "36" else checker.message
+
+
+def stop_place(source, stop):
+    return source.tokens[stop.index].place() if stop.index < len(source.tokens) else source.end()
+
+
+def at_source(paper, name, rule, place, top):
+    """A source that is rejected: what the source says of it, else what the table says."""
+    from c_words import Source
+
     try:
-        text = pathlib.Path(source).read_bytes().decode(errors="replace").split("\n")
+        source = Source(pathlib.Path(name).read_bytes())
     except OSError:
-        return
-    word = re.match(r"\w+", text[line - 1].encode()[column - 1:].decode(errors="replace")) if line <= len(text) else None
-    if not word:
-        return
-    paper.say(f"This is token {part} of what {word.group()} stands for:")
-    for k in range(line - 1, -1, -1):
-        if re.match(rf"\s*#\s*define\s+{re.escape(word.group())}\b", text[k]):
-            paper.show(source, k + 1)
-            return
+        return at_table(paper, name, rule, place)
+    try:
+        message = source_message(source, rule, place, top)
+    except Exception:
+        # A source may hold anything; the table has something to say in any case.
+        if os.environ.get("HLS_EXPLAIN_STRICT"):
+            raise
+        message = None
+    if message is None:
+        return at_table(paper, name, rule, place)
+    message.place = message.place or place
+    paper.message(name, message, rule, source)
+    return None
 
 
-def at_rule(paper, name, rule, place):
+def at_table(paper, name, rule, place):
+    from message import Message
+
     block = RULES.get(f"rule {rule}")
-    if not block:
-        return
-    line, column, part = place
-    paper.title(f"rule {rule}, {block['name']}")
-    paper.show(name, line, column)
-    if part:
-        macro(paper, name, line, column, part)
-    paper.say(sentence(block["refused"]))
-    paper.say(block["instead"])
+    if block:
+        message = Message(block["name"], place).note("the rule: " + block["refused"]).help(block["instead"])
+        paper.message(name, message, rule)
+
+
+# ---- the command line (status 2)
+
+
+def same_files(words):
+    """Two of the files that are one under two names, if there are some."""
+    names = list(words.files.items())
+    for k, (kind, name) in enumerate(names):
+        for other_kind, other in names[:k]:
+            if name == other or is_one_file(name, other):
+                return other_kind, other, kind, name
+    return None
+
+
+def is_one_file(name, other):
+    if os.path.exists(name) or os.path.exists(other):
+        return os.path.isfile(name) and os.path.exists(other) and os.path.samefile(name, other)
+    return os.path.realpath(name) == os.path.realpath(other)
 
 
 def usage(paper, words):
-    paper.title("these words are no command")
     command = words.command
     if command not in COMMANDS:
-        paper.say(f"`{command}` is no command." if command else "A command is missing.")
-        for line in COMMANDS.values():
-            paper.say(line)
-        paper.say("./hls --help says more.")
+        from message import nearest
+
+        paper.title(f"`{command}` is not a command" if command else "the command is missing")
+        near = nearest(command, COMMANDS)
+        if near:
+            paper.help(f"did you mean `{near}`?")
+        paper.help("write one of:\n" + "\n".join("./hls " + line for line in COMMANDS.values()) + "\n./hls --help")
         return
+    found = list(command_faults(words))
+    paper.title(found[0][0] if found else "invalid command line")
+    for title, _ in found[1:]:
+        paper.note(title)
+    for _, help_text in found:
+        if help_text:
+            paper.help(help_text)
+    paper.help("usage: ./hls " + COMMANDS[command])
+
+
+def command_faults(words):
+    """Each fault of the words of a command, and what to write."""
+    command = words.command
     for option, value in words.options.items():
-        if option not in RANGES[command] and option != "--top" and (option, command) != ("--plain", "synth"):
-            paper.say(f"`{option}` is no option of {command}.")
-        elif option in RANGES[command]:
+        if option in RANGES[command]:
             least, most = RANGES[command][option]
             if value is None or not re.fullmatch(r"[0-9]+", value) or not least <= int(value) <= most:
-                paper.say(f"`{option}` takes a number from {least} to {most}.")
-    if command != "soak" and not words.options.get("--top"):
-        paper.say("`--top NAME` is missing.")
+                yield f"`{option}` takes a number from {least} to {most}" + (f", not `{value}`" if value else ""), None
+        elif option != "--top" and (option, command) != ("--plain", "synth"):
+            owner = next((c for c in RANGES if option in RANGES[c] or (option, c) == ("--plain", "synth")), None)
+            yield f"`{option}` is not an option of `{command}`" + (f" but of `{owner}`" if owner else ""), None
+    if command != "soak" and not words.top():
+        yield "`--top NAME` is missing", None
     wanted = FILES[command] or ("NUMBER",)
     if len(words.plain) != len(wanted):
-        paper.say(f"{command} takes {len(wanted)} words before its options, {' '.join(wanted)}; {len(words.plain)} are given.")
-    elif FILES[command] and len(set(words.plain)) < len(words.plain):
-        paper.say("Each file has to have a name of its own.")
+        given = f"{len(words.plain)} {'is' if len(words.plain) == 1 else 'are'} given"
+        yield f"`{command}` takes {' '.join(wanted)}, but {given}", None
     elif command == "soak" and not (re.fullmatch(r"[0-9]+", words.plain[0]) and int(words.plain[0]) < 2**64):
-        paper.say("NUMBER is from 0 to 18446744073709551615, in digits.")
-    paper.say("usage: hls " + COMMANDS[command])
+        yield f"`{words.plain[0]}` is not a number from 0 to 18446744073709551615", None
+    same = same_files(words)
+    if same:
+        kind, name, other_kind, other = same
+        what = f"{kind} and {other_kind} are both `{name}`" if name == other else f"{kind} `{name}` and {other_kind} `{other}` are the same file"
+        why = "each has a format of its own" if command == "cosim" else "it would overwrite the source" if kind == "SRC" else "one would overwrite the other"
+        yield what, f"choose another file for {other_kind}: {why}"
+
+
+# ---- the other statuses
 
 
 def fault(paper, words):
-    paper.title("a file or the output failed")
     read = ("SRC",) if words.command == "synth" else tuple(words.files)
+    found = []
     for kind, name in words.files.items():
         path = pathlib.Path(name)
         if path.is_dir():
-            paper.say(f"{name} is a folder.")
+            found.append((f"{kind} `{name}` is a directory", "name a file"))
         elif kind in read and not path.exists():
-            paper.say(f"{name} is not there.")
+            found.append((f"{kind} `{name}` does not exist", first_command(kind, words)))
         elif kind in read and not os.access(path, os.R_OK):
-            paper.say(f"{name} cannot be read.")
+            found.append((f"{kind} `{name}` cannot be read", "allow reading it"))
         elif kind not in read and not path.parent.is_dir():
-            paper.say(f"The folder of {name} is not there.")
+            found.append((f"the directory `{path.parent}` of {kind} `{name}` does not exist", f"make it: `mkdir -p {path.parent}`"))
         elif kind not in read and not os.access(path if path.exists() else path.parent, os.W_OK):
-            paper.say(f"{name} cannot be written.")
+            found.append((f"{kind} `{name}` cannot be written", "allow writing it, or name another file"))
+    paper.title(found[0][0] if found else "a file or standard output cannot be read or written")
+    for title, _ in found[1:]:
+        paper.note(title)
+    for help_text in dict.fromkeys(text for _, text in found):
+        paper.help(help_text)
+    if not found:
+        paper.help("see whether the disk is full, and where standard output goes")
+
+
+def first_command(kind, words):
+    if kind in ("MOD", "REP") and words.command == "cosim":
+        files = words.files
+        return f"write it first: `./hls synth {files.get('SRC')} {files.get('MOD')} {files.get('REP')} --top {words.top()}`"
+    return "name a file that exists"
 
 
 def differ(paper, what):
-    paper.title("the module differs from the C program")
     if len(what) == 3 and what[0] == "ret":
-        paper.say(f"The result is {what[2]}, and C gives {what[1]}.")
+        paper.title(f"the module's result is {what[2]}, and that of the C program {what[1]}")
     elif len(what) == 3:
-        paper.say(f"The module took {what[2]} cycles, and the report gives {what[1]}.")
+        paper.title(f"the module took {what[2]} cycles, and the report gives {what[1]}")
     else:
-        paper.say(f"Element {what[1]} of {what[0]} (row by row, from 0) is {what[3]}, and C gives {what[2]}.")
-    paper.say("This module or report is not what `synth` writes for this source: one of them was changed, or another program wrote it.")
-    paper.say("If `synth` wrote both, this is a fault of the compiler.")
+        paper.title(f"element {what[1]} of `{what[0]}` (row by row, from 0) is {what[3]} in the module, and {what[2]} in the C program")
+    paper.note("the module or the report is not what `synth` writes for this source")
+    paper.help("compile the source again; if `synth` wrote both files, this is a bug of the compiler")
 
 
 def running(paper, what):
     limit = {"c": "points", "verilog": "cycles"}[what[0]]
     who = {"c": "the C program", "verilog": "the module"}[what[0]]
-    paper.title(f"{who} goes on after {what[1]} {limit}")
-    paper.say(f"A loop may never end. `--{limit} N` sets a higher limit.")
+    paper.title(f"{who} has not ended after {what[1]} {limit}")
+    paper.help(f"look for a loop that never ends, or set a higher limit: `--{limit} {min(10**9, int(what[1]) * 10)}`")
 
 
 def run_line(paper, words, number):
+    from run_file import run_message
+
     name = words.files.get("RUN", "")
-    paper.title(f"line {number} of the run file is refused")
+    message = run_message(words.files.get("SRC", ""), name, words.top(), number)
+    if message:
+        paper.message(name, message)
+    else:
+        paper.title(f"line {number} of the run file is rejected")
+        paper.help("a line is `NAME = V V ..`, with a parameter and its value, or all elements of the array row by row")
+
+
+def undefined(paper, name, what, place):
+    from undefined_runs import undefined_message
+    from c_words import Source
+
+    block = RULES[f"undefined {what}"]
+    message = source = None
     try:
-        count = len(pathlib.Path(name).read_bytes().removesuffix(b"\n").split(b"\n"))
-    except OSError:
-        count = number
-    if number > count or pathlib.Path(name).stat().st_size == 0:
-        paper.say(f"--> {name}")
-        paper.say("A parameter has no line: each one needs a line `NAME = V V ..`.")
-        return
-    paper.show(name, number)
-    paper.say("A line is `NAME = V V ..`: a parameter that has no line yet, and its value, or all elements of the array row by row,")
-    paper.say("as decimal numbers within its type, with one or more spaces between and none at the ends.")
+        source = Source(pathlib.Path(name).read_bytes())
+        message = undefined_message(source, what, place)
+    except Exception:
+        if os.environ.get("HLS_EXPLAIN_STRICT"):
+            raise
+    if message is None:
+        from message import Message
+
+        message = Message(f"the run in C is undefined: {block['refused']}", place).help(block["instead"])
+    message.place = message.place or place
+    paper.message(name, message, source=source)
+
+
+def died(paper, number):
+    try:
+        name = signal.Signals(number).name
+    except ValueError:
+        name = "unknown"
+    paper.title(f"the compiler was ended by signal {number} ({name}), and gave no answer")
+    if name == "SIGKILL":
+        paper.help("see whether the system ran out of memory, or a limit of time ended it")
+    elif name in ("SIGSEGV", "SIGBUS"):
+        paper.help("allow a larger stack (`ulimit -s`), or reduce the source; this is a bug of the compiler, so please report the source")
+    else:
+        paper.help("start it again")
 
 
 PLACE = r"(\d+):(\d+)(?:\.(\d+))?"
 
 
 def explain(status, line, words):
+    from message import Paper
+
     paper = Paper()
     place = re.search(PLACE + "$", line)
     place = place and tuple(int(n or 0) for n in place.groups())
     said = line.split()
-    if status == 1 and said[:1] == ["rule"]:
-        at_rule(paper, words.files.get("SRC", ""), said[1], place)
+    if status > 128:
+        died(paper, status - 128)
+    elif status == 1 and said[:1] == ["rule"]:
+        at_source(paper, words.files.get("SRC", ""), said[1], place, words.top())
     elif status == 2:
         usage(paper, words)
     elif status == 3:
         fault(paper, words)
     elif status == 4:
-        paper.title("there was no memory")
+        paper.title("out of memory")
+        paper.help("close other programs, or compile a smaller function")
     elif status == 5:
         differ(paper, said[2:])
     elif status == 6:
@@ -273,15 +356,9 @@ def explain(status, line, words):
     elif status == 7:
         run_line(paper, words, int(said[2]))
     elif status == 8:
-        at_rule(paper, words.files.get({"module": "MOD", "report": "REP"}[said[0]], ""), said[2], place)
+        at_table(paper, words.files.get({"module": "MOD", "report": "REP"}[said[0]], ""), said[2], place)
     elif status == 9:
-        block = RULES[f"undefined {said[1]}"]
-        paper.title(f"the run in C is undefined: {block['name']}")
-        paper.show(words.files.get("SRC", ""), *place[:2])
-        if place[2]:
-            macro(paper, words.files.get("SRC", ""), *place)
-        paper.say(sentence(block["refused"]))
-        paper.say(block["instead"])
+        undefined(paper, words.files.get("SRC", ""), said[1], place)
     paper.put()
 
 
@@ -295,6 +372,5 @@ def main(words):
     explain(int(words[0]), put[-1] if put else "", Words(words[2:]))
 
 
-RULES = table()
 if __name__ == "__main__":
     main(sys.argv[1:])

@@ -2,6 +2,7 @@
 """Runs a command, by default the gate as CI does it, and prints for each crate the processor seconds of its checks, and when the first began and the last ended, in seconds from the start.
 
     tools/gate_times.py [WORD ..]    for example  tools/gate_times.py rt ci
+    tools/gate_times.py --fill LOG   writes the table of such a run's output into docs/PERFORMANCE.md
 
 A process belongs to the crate in whose folder it works. What a process did between two looks, two seconds apart, is seen at the second one.
 """
@@ -39,7 +40,20 @@ def look(used, spans, now):
         spans[name] = (first, now)
 
 
+def fill(log):
+    """Puts the table at the end of a log, with its sum, between the marks of the page."""
+    page = ROOT / "docs" / "PERFORMANCE.md"
+    found = re.search(r"^\| Crate \| Processor seconds .*?\n\n(.*)$", pathlib.Path(log).read_text(), re.S | re.M)
+    if not found:
+        sys.exit(f"{log} has no table")
+    text = re.sub(r"(<!-- gate -->\n).*?(<!-- end -->)", lambda m: m[1] + found[0].strip() + "\n" + m[2], page.read_text(), flags=re.S)
+    page.write_text(text)
+
+
 def main(words):
+    if words[:1] == ["--fill"]:
+        fill(words[1])
+        return
     began = time.time()
     used, spans = {}, {}
     command = subprocess.Popen(words or ["bash", ".ci/run"], cwd=ROOT, stdin=subprocess.DEVNULL)

@@ -17,7 +17,7 @@ MARKED = re.compile(r"(<!-- rules (\w+) -->\n)(.*?)(<!-- end -->)", re.S)
 
 
 def rows(group):
-    yield "| Rule | Name | Refused | Place | Example |"
+    yield "| Rule | Name | Rejected | Place | Example |"
     yield "|---|---|---|---|---|"
     for key, block in RULES.items():
         if block.get("group") == group:

@@ -6,7 +6,7 @@
 
 The report has no `registers` and `edge` lines, which are not determined; the lines are those of `cosim` up to `clock`,
 behind which `verilog`, with the formula's number, and `agree` are expected. NAME.cycles has the cycles of the run and those with
-`--plain`, and NAME.loops the interval and the exit of each overlapped loop; nothing else is compared then. HLS names the program, else it is ./hls.
+`--plain`, and NAME.loops the interval and the exit of each pipelined loop; nothing else is compared then. HLS names the program, else it is ./hls.
 """
 import concurrent.futures
 import os
@@ -53,7 +53,7 @@ def fields(text):
 
 
 def compare_cycles(case, options, top):
-    """The cycles of the formula, the timed program and the module, overlapped and plain, and the loops of the report."""
+    """The cycles of the formula, the timed program and the module, pipelined and plain, and the loops of the report."""
     wanted = fields(case.with_suffix(".cycles").read_text())
     for more, cycles in ((), wanted["cycles"]), (("--plain",), wanted["plain"]):
         with tempfile.TemporaryDirectory() as work:

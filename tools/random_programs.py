@@ -219,7 +219,7 @@ class Writer:
         return lines + ["else", *self.block(scope, depth, self.draw.randint(1, 2))] if self.chance(0.5) else lines
 
     def simple_block(self, scope):
-        """Assignments without calls, and perhaps a condition: a body that may be overlapped."""
+        """Assignments without calls, and perhaps a condition: a body that may be pipelined."""
         quiet = scope.inner(functions=[])
         lines = []
         for _ in range(self.draw.randint(1, 3)):

@@ -8,9 +8,10 @@ done
 work=$(mktemp -d)
 trap 'rm -rf "$work"' EXIT
 
-# A repository of its own: the crates below, and two programs that draw circuits; one is proved and built, the other one only tried.
+# A repository of its own: the crates below, and two programs that draw circuits. Both are run by `rt try`, which proves nothing;
+# only `speed` proves and builds one of them.
 mkdir -p "$work/crates"
-for crate in hls_base rtl_core verilog_print verilog_cycle; do
+for crate in hls_base ir_core rtl_core verilog_print verilog_cycle; do
     mkdir "$work/crates/$crate"
     cp -r "$root/crates/$crate/src" "$root/crates/$crate/specs" "$root/crates/$crate/proofs" "$work/crates/$crate/"
     grep "^$crate:" "$root/crates.txt" >>"$work/crates.txt"
@@ -36,8 +37,8 @@ modules() {
     (cd "$work/crates/simulator_text" && rt try -- "$@" 2>&1) | awk -v to="$work/m" '/^circuit [0-9]+$/ { file = to $2 ".v"; next } file { print > file } /^endmodule$/ { file = "" }'
 }
 
-# The program's lines for these words.
-simulate() { (cd "$work/crates/simulator_probe" && rt run -- "$@" 2>&1) | grep ' shown$'; }
+# The probe's lines for these words, by `rt try` or `rt run`.
+simulate() { (cd "$work/crates/simulator_probe" && rt "$1" -- "${@:2}" 2>&1) | grep ' shown$'; }
 
 # Icarus Verilog's lines for a circuit: its seed, the cycles, and whether each is shown.
 icarus() {
@@ -47,7 +48,7 @@ icarus() {
 
 if [ "${1:-}" = speed ]; then
     modules 2000 200 7 0 1
-    simulate 0 2000 200 7 10 0 1 >/dev/null
+    simulate run 0 2000 200 7 10 0 1 >/dev/null
     program=$work/crates/simulator_probe/out/simulator_probe
     time "$program" 0 2000 200 7 20000 0 1
     time icarus 7 20000 0
@@ -57,7 +58,7 @@ fi
 circuits=36
 modules 60 12 100 1 $circuits
 for ((seed = 100; seed < 100 + circuits; seed++)); do icarus "$seed" 200 1; done >"$work/theirs"
-simulate 1 60 12 100 200 1 $circuits >"$work/ours"
+simulate try 1 60 12 100 200 1 $circuits >"$work/ours"
 if [ "$(wc -l <"$work/ours")" -eq $((circuits * 201)) ] && cmp -s "$work/ours" "$work/theirs"; then
     echo "simulator check: $circuits circuits agree in $((circuits * 200)) cycles"
 else

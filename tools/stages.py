@@ -5,7 +5,7 @@ or in how often the point of a node is passed.
     tools/stages.py [FOLDER] [NAME..]   each NAME.c with NAME.run (its run file) and NAME.opts (the options of `synth`); the folder is
                                         corpus/programs, if none is named
 
-Each program is run twice: with overlapped loops and, as with `--plain`, without. STAGES names the program, else it is the one
+Each program is run twice: with pipelined loops and, as with `--plain`, without. STAGES names the program, else it is the one
 that `rt ci` built, crates/stages/out/stages.
 """
 import concurrent.futures
