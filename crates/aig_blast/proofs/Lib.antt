@@ -1,0 +1,12 @@
+pub mod Context
+pub mod Pairs
+pub mod Nets
+pub mod Bits
+pub mod Cycles
+pub mod Growing
+pub mod NextBits
+pub mod Ports
+pub mod Banks
+pub mod Fresh
+pub mod Sizes
+pub mod Finishing

@@ -1,0 +1,5 @@
+pub mod Weight
+pub mod Encoding
+pub mod Literals
+pub mod Finished
+pub mod Ports
