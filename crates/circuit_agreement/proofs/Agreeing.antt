@@ -21,7 +21,7 @@ use Rattle.datapath.specs.Standing.{IsBusy}
 use Rattle.datapath.specs.Laws.{Resets}
 use Rattle.datapath.specs.Answers.{first_file_scope}
 use Rattle.datapath.proofs.Controller.{resets_always}
-use Rattle.circuit_flow.specs.Compiled.{IsCompiled}
+use Rattle.circuit_agreement.specs.CircuitFlow.Compiled.{IsCompiled}
 use Rattle.circuit_agreement.specs.CircuitStores.{HoldsHosts, IsFilled}
 use Rattle.circuit_agreement.proofs.CircuitStores.Found.{found_contents}
 use Rattle.circuit_agreement.proofs.CircuitStores.Starting.{filling_begins, filling_ends}

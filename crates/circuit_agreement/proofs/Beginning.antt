@@ -10,8 +10,8 @@ use Rattle.ir_core.specs.Bodies.{Words}
 use Rattle.datapath.specs.Plans.{Plan, Array, no_array, array_at, depth}
 use Rattle.datapath.specs.Cycles.{Variable, Contents}
 use Rattle.datapath.specs.Answers.{HaveWidths, Begins}
-use Rattle.circuit_flow.specs.Compiled.{IsCompiled}
-use Rattle.circuit_flow.specs.Flows.{HoldsMemories}
+use Rattle.circuit_agreement.specs.CircuitFlow.Compiled.{IsCompiled}
+use Rattle.circuit_agreement.specs.CircuitFlow.Flows.{HoldsMemories}
 use Rattle.circuit_agreement.specs.UnitResults.{HasWidths}
 use Rattle.circuit_agreement.specs.CircuitStores.HeldWords.{words_in}
 use Rattle.circuit_agreement.specs.CircuitStores.{TakesArguments}

@@ -9,17 +9,17 @@ use Rattle.datapath.specs.Plans.{Plan, body_at, span}
 use Rattle.datapath.specs.Cycles.{Contents}
 use Rattle.datapath.specs.Circuits.{Step}
 use Rattle.datapath.specs.Standing.{IsInside, IsEnteredAs}
-use Rattle.circuit_flow.specs.Compiled.{IsCompiled}
-use Rattle.circuit_flow.specs.Flows.{HoldsVariables, HoldsMemories}
-use Rattle.circuit_flow.proofs.Nodes.{body_found}
-use Rattle.circuit_flow.proofs.HeldResults.Beginning.{nothing_first, entries_held}
+use Rattle.circuit_agreement.specs.CircuitFlow.Compiled.{IsCompiled}
+use Rattle.circuit_agreement.specs.CircuitFlow.Flows.{HoldsVariables, HoldsMemories}
+use Rattle.circuit_agreement.proofs.Nodes.{body_found}
+use Rattle.circuit_agreement.proofs.HeldResults.Beginning.{nothing_first, entries_held}
 use Rattle.circuit_agreement.proofs.UnitResults.Stepping.{units_begin}
-use Rattle.circuit_flow.proofs.LoopGates.Turns.{first_time}
-use Rattle.circuit_flow.proofs.LoopGates.Blocks.{blocks_run}
-use Rattle.circuit_flow.proofs.LoopGates.Loops.{gates_begin}
-use Rattle.circuit_flow.proofs.LoopGates.Controller.{loops_begin}
-use Rattle.circuit_flow.proofs.NodeEnds.Comparing.{comparisons_begin}
-use Rattle.circuit_flow.proofs.NodeEnds.Staying.{variables_stay_loading}
+use Rattle.circuit_agreement.proofs.LoopGates.Turns.{first_time}
+use Rattle.circuit_agreement.proofs.LoopGates.Blocks.{blocks_run}
+use Rattle.circuit_agreement.proofs.LoopGates.Loops.{gates_begin}
+use Rattle.circuit_agreement.proofs.LoopGates.Controller.{loops_begin}
+use Rattle.circuit_agreement.proofs.NodeEnds.Comparing.{comparisons_begin}
+use Rattle.circuit_agreement.proofs.NodeEnds.Staying.{variables_stay_loading}
 use Rattle.circuit_agreement.proofs.CircuitStores.Shown.{loading_keeps}
 use Rattle.circuit_agreement.specs.Standing.{FollowsAs, StandsInside, StandsLoadingAs, StandsIn}
 use Rattle.circuit_agreement.specs.Laws.{NodesAreEntered}

@@ -1,3 +1,8 @@
+mod MemoryPorts
+pub mod Nodes
+pub mod LoopGates
+pub mod NodeEnds
+pub mod HeldResults
 pub mod CircuitStores
 pub mod UnitResults
 pub mod ApartStores

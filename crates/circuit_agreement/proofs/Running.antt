@@ -17,9 +17,9 @@ use Rattle.datapath.specs.Standing.{IsWaiting, IsBusy}
 use Rattle.datapath.specs.Answers.{HoldsArrays, Begins, HasEnded}
 use Rattle.datapath.proofs.Controller.{waits, starts_first}
 use Rattle.datapath.proofs.Sequence.{sequences}
-use Rattle.circuit_flow.specs.Compiled.{IsCompiled}
+use Rattle.circuit_agreement.specs.CircuitFlow.Compiled.{IsCompiled}
 use Rattle.circuit_agreement.specs.UnitResults.{HasWidths}
-use Rattle.circuit_flow.proofs.NodeEnds.Staying.{variables_stay_waiting}
+use Rattle.circuit_agreement.proofs.NodeEnds.Staying.{variables_stay_waiting}
 use Rattle.circuit_agreement.specs.CircuitStores.HeldWords.{words_in}
 use Rattle.circuit_agreement.specs.CircuitStores.{IsFilled}
 use Rattle.circuit_agreement.proofs.CircuitStores.Shown.{contents_are_shown}

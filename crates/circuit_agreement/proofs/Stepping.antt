@@ -20,27 +20,27 @@ use Rattle.datapath.specs.Standing.{IsInside}
 use Rattle.datapath.specs.Laws.{Leaves, leads_to}
 use Rattle.datapath.specs.Blocks.{left_words}
 use Rattle.datapath.proofs.BlockSteps.{ticked_entry}
-use Rattle.circuit_flow.specs.Compiled.{IsCompiled}
-use Rattle.circuit_flow.specs.Flows.{Sees, Arrives, CountsIntervals, StoresAsRun, LeavesAsRun, HoldsMemories, StoresAreApart}
-use Rattle.circuit_flow.proofs.Nodes.{body_found}
-use Rattle.circuit_flow.proofs.HeldResults.Seeing.{results_seen}
-use Rattle.circuit_flow.proofs.HeldResults.Steps.{stays_held_law}
+use Rattle.circuit_agreement.specs.CircuitFlow.Compiled.{IsCompiled}
+use Rattle.circuit_agreement.specs.CircuitFlow.Flows.{Sees, Arrives, CountsIntervals, StoresAsRun, LeavesAsRun, HoldsMemories, StoresAreApart}
+use Rattle.circuit_agreement.proofs.Nodes.{body_found}
+use Rattle.circuit_agreement.proofs.HeldResults.Seeing.{results_seen}
+use Rattle.circuit_agreement.proofs.HeldResults.Steps.{stays_held_law}
 use Rattle.circuit_agreement.specs.UnitResults.{HasWidths}
 use Rattle.circuit_agreement.specs.UnitResults.UnderWay.{IsWithin}
 use Rattle.circuit_agreement.proofs.UnitResults.Giving.{units_give}
 use Rattle.circuit_agreement.proofs.UnitResults.Stepping.{units_step}
-use Rattle.circuit_flow.specs.LoopGates.Gates.{HoldsGates, is_left, RunsOnce}
-use Rattle.circuit_flow.proofs.LoopGates.Blocks.{blocks_run_on, blocks_store}
-use Rattle.circuit_flow.proofs.LoopGates.Loops.{loops_count, gates_step}
-use Rattle.circuit_flow.proofs.LoopGates.Uses.{loops_leave, loops_store}
-use Rattle.circuit_flow.proofs.LoopGates.Controller.{loops_go_on, loops_lead, blocks_go_on}
+use Rattle.circuit_agreement.specs.CircuitFlow.LoopGates.Gates.{HoldsGates, is_left, RunsOnce}
+use Rattle.circuit_agreement.proofs.LoopGates.Blocks.{blocks_run_on, blocks_store}
+use Rattle.circuit_agreement.proofs.LoopGates.Loops.{loops_count, gates_step}
+use Rattle.circuit_agreement.proofs.LoopGates.Uses.{loops_leave, loops_store}
+use Rattle.circuit_agreement.proofs.LoopGates.Controller.{loops_go_on, loops_lead, blocks_go_on}
 use Rattle.circuit_agreement.proofs.CircuitStores.Storing.{nodes_store}
-use Rattle.circuit_flow.specs.NodeEnds.Ends.{KeepsVariables, HandsOn, HoldsComparisons}
-use Rattle.circuit_flow.proofs.NodeEnds.Staying.{variables_stay, variables_stay_in_blocks}
-use Rattle.circuit_flow.proofs.NodeEnds.Handing.{blocks_hand_on}
-use Rattle.circuit_flow.proofs.NodeEnds.Loops.{loops_hand_on}
-use Rattle.circuit_flow.proofs.NodeEnds.Comparing.{comparisons_stay}
-use Rattle.circuit_flow.proofs.NodeEnds.Entering.{blocks_enter}
+use Rattle.circuit_agreement.specs.CircuitFlow.NodeEnds.Ends.{KeepsVariables, HandsOn, HoldsComparisons}
+use Rattle.circuit_agreement.proofs.NodeEnds.Staying.{variables_stay, variables_stay_in_blocks}
+use Rattle.circuit_agreement.proofs.NodeEnds.Handing.{blocks_hand_on}
+use Rattle.circuit_agreement.proofs.NodeEnds.Loops.{loops_hand_on}
+use Rattle.circuit_agreement.proofs.NodeEnds.Comparing.{comparisons_stay}
+use Rattle.circuit_agreement.proofs.NodeEnds.Entering.{blocks_enter}
 use Rattle.circuit_agreement.specs.Standing.{FitsFrame, FollowsAs, StandsInside, StandsIn}
 use Rattle.circuit_agreement.specs.Laws.{RunsStep}
 use Rattle.circuit_agreement.proofs.Entering.{own_block, own_loop, nodes_are_entered, loading_steps}

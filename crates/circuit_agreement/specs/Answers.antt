@@ -8,7 +8,7 @@ use Rattle.ir_core.specs.Bodies.{Words}
 use Rattle.clock_ir.specs.ClockRuns.{Phase, inside, ended, clock_run}
 use Rattle.datapath.specs.Plans.{Plan, interface, initial_cycles}
 use Rattle.datapath.specs.Answers.{HoldsArrays, Begins, HasEnded, first_file_scope}
-use Rattle.circuit_flow.specs.Flows.{StoresAreApart}
+use Rattle.circuit_agreement.specs.CircuitFlow.Flows.{StoresAreApart}
 
 -- no two stores of this cycle change one word
 abbrev pub IsClear : Plan → Phase → Type 0

@@ -10,8 +10,8 @@ use Rattle.clock_ir.specs.ClockRuns.{inside, timed_program, clock_run}
 use Rattle.clock_ir.specs.WellTimed.{IsWellTimed}
 use Rattle.clock_runs.specs.Premises.{IsSoundProgram}
 use Rattle.datapath.specs.Plans.{Plan, body_if}
-use Rattle.circuit_flow.specs.Flows.{StoresAreApart}
-use Rattle.circuit_flow.specs.Compiled.{IsCompiled}
+use Rattle.circuit_agreement.specs.CircuitFlow.Flows.{StoresAreApart}
+use Rattle.circuit_agreement.specs.CircuitFlow.Compiled.{IsCompiled}
 use Rattle.circuit_agreement.specs.ApartStores.Apart.{HasMeaning, AreStoresApart}
 
 -- so it is in each cycle of a block or loop of a well timed program

@@ -12,7 +12,7 @@ use Rattle.datapath.specs.Cycles.{Contents}
 use Rattle.datapath.specs.Circuits.{Shows}
 use Rattle.datapath.specs.Standing.{IsWaiting, IsInSequence}
 use Rattle.datapath.specs.Answers.{HoldsArrays, first_file_scope}
-use Rattle.circuit_flow.specs.Compiled.{IsCompiled}
+use Rattle.circuit_agreement.specs.CircuitFlow.Compiled.{IsCompiled}
 use Rattle.circuit_agreement.specs.CircuitStores.HeldWords.{words_in}
 use Rattle.circuit_agreement.specs.CircuitStores.{IsFilled}
 use Rattle.circuit_agreement.specs.Answers.{EndsAfter, RunsOn}

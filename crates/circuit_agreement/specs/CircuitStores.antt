@@ -20,8 +20,8 @@ use Rattle.datapath.specs.Circuits.{Step, Shows}
 use Rattle.datapath.specs.Netlists.{Holds}
 use Rattle.datapath.specs.Standing.{IsWaiting, IsInSequence, IsLoading, IsInside}
 use Rattle.datapath.specs.Answers.{elements, HoldsArrays, first_file_scope}
-use Rattle.circuit_flow.specs.Flows.{Sees, StoresAsRun, HoldsMemories, StoresAreApart}
-use Rattle.circuit_flow.specs.Compiled.{IsCompiled}
+use Rattle.circuit_agreement.specs.CircuitFlow.Flows.{Sees, StoresAsRun, HoldsMemories, StoresAreApart}
+use Rattle.circuit_agreement.specs.CircuitFlow.Compiled.{IsCompiled}
 use Rattle.circuit_agreement.specs.CircuitStores.HeldWords.{words_in}
 
 -- ---- in a run

@@ -12,8 +12,8 @@ use Rattle.datapath.specs.Netlists.{IsCircuitOf}
 use Rattle.rtl_logic.specs.Reducing.{IsReducedBy}
 use Rattle.datapath.specs.Standing.{IsEntered}
 use Rattle.datapath.specs.Answers.{HasEnded}
-use Rattle.circuit_flow.specs.Compiled.{IsCompiled}
-use Rattle.circuit_flow.specs.Flows.{HoldsVariables, HoldsMemories}
+use Rattle.circuit_agreement.specs.CircuitFlow.Compiled.{IsCompiled}
+use Rattle.circuit_agreement.specs.CircuitFlow.Flows.{HoldsVariables, HoldsMemories}
 use Rattle.circuit_agreement.specs.UnitResults.{HasWidths}
 use Rattle.circuit_agreement.specs.Answers.{IsClear, AgreesWithRun}
 use Rattle.circuit_agreement.specs.Standing.{FitsFrame, StandsIn}

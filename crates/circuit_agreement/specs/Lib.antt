@@ -1,3 +1,4 @@
+pub mod CircuitFlow
 pub mod CircuitStores
 pub mod UnitResults
 pub mod ApartStores

@@ -9,12 +9,12 @@ use Rattle.datapath.specs.Plans.{Plan, Array, body_at, span}
 use Rattle.datapath.specs.Cycles.{Variable, Result, Contents}
 use Rattle.datapath.specs.Standing.{IsWaiting, IsLoading, IsInside, IsBusy, IsStill}
 use Rattle.datapath.specs.Savings.{StaysForNextRun}
-use Rattle.circuit_flow.specs.Compiled.{IsCompiled}
-use Rattle.circuit_flow.specs.Flows.{HoldsVariables, HoldsMemories}
-use Rattle.circuit_flow.specs.HeldResults.Holding.{HoldsResults}
+use Rattle.circuit_agreement.specs.CircuitFlow.Compiled.{IsCompiled}
+use Rattle.circuit_agreement.specs.CircuitFlow.Flows.{HoldsVariables, HoldsMemories}
+use Rattle.circuit_agreement.specs.CircuitFlow.HeldResults.Holding.{HoldsResults}
 use Rattle.circuit_agreement.specs.UnitResults.UnderWay.{HasUnderWay}
-use Rattle.circuit_flow.specs.LoopGates.Gates.{HoldsGates, RunsOnce}
-use Rattle.circuit_flow.specs.NodeEnds.Ends.{HoldsComparisons}
+use Rattle.circuit_agreement.specs.CircuitFlow.LoopGates.Gates.{HoldsGates, RunsOnce}
+use Rattle.circuit_agreement.specs.CircuitFlow.NodeEnds.Ends.{HoldsComparisons}
 
 -- A function that returns a word has a result, and the constants of a table have no more bits than its elements.
 pub record FitsFrame (p : Plan) : Type 0 where

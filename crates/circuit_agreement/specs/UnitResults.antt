@@ -9,8 +9,8 @@ use Rattle.datapath.specs.Plans.{Plan, body_at, span}
 use Rattle.datapath.specs.Cycles.{Register, Contents, Cycle, in_cycle}
 use Rattle.datapath.specs.Circuits.{width, Step}
 use Rattle.datapath.specs.Standing.{IsInside}
-use Rattle.circuit_flow.specs.Compiled.{IsCompiled}
-use Rattle.circuit_flow.specs.Flows.{Sees, Arrives, HoldsMemories}
+use Rattle.circuit_agreement.specs.CircuitFlow.Compiled.{IsCompiled}
+use Rattle.circuit_agreement.specs.CircuitFlow.Flows.{Sees, Arrives, HoldsMemories}
 use Rattle.circuit_agreement.specs.UnitResults.UnderWay.{IsWithin, HasUnderWay}
 
 -- each register has a number of its width

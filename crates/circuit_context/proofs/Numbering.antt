@@ -1,6 +1,6 @@
 -- The ports of a plan's accesses.
 use Rattle.std.proofs.Common.{◌≡◌, ◌<◌, ◌⊎◌, inl, inr, ℕ, zero, suc, ◌+◌, ◌%◌, Bool, true, false, ◌&&◌, ◌||◌, List, [], ◌∷◌, length, map, take, get_or, slice_get, cond, filter, Option, Some, None, is_some, refl, sym, ap, ap₂, ◌∙◌, subst, arith}
-use Rattle.std.specs.Prelude.{count_by, max, fold, if◌then◌else◌}
+use Rattle.std.specs.Prelude.{count_by, max, fold, unwrap_or, if◌then◌else◌}
 use Rattle.std.specs.List.{enumerate_from, flat_map, range_with_len}
 use Rattle.std.specs.Option.{option_map}
 use Rattle.std.proofs.Math.Bool.{and-true}
@@ -22,11 +22,11 @@ use Rattle.clock_ir.specs.Flows.{TimedOp, timed_op}
 use Rattle.clock_ir.specs.ClockRuns.{timed_node}
 use Rattle.reg_binding.specs.declared.registers.Registers.{Registers}
 use Rattle.datapath.specs.Plans.{Plan, Placed, array_of, array_at, no_array, body_at, body_of, node_units, placed_in, span, unit_of}
-use Rattle.datapath.specs.Ports.{is_load, is_store, is_array, is_beside, port_of, port_count}
+use Rattle.datapath.specs.Ports.{is_load, is_store, is_array, is_beside, store_unit, changed_with, memory_port, port_of, last_port, port_count}
 use Rattle.datapath.proofs.Programs.{node_body}
 use Rattle.circuit_context.specs.Bank.Banks.{IsPlanOf}
 use Rattle.circuit_context.specs.declared.ports.PortNumbers.{PortNumbers}
-use Rattle.circuit_context.specs.Counting.{loads_at, tables_in, array_if, accessed_by, port_for, port_if, reached, reached_in, reached_by, ops_in, span_of, row_in, AreNumbered}
+use Rattle.circuit_context.specs.Counting.{loads_at, is_store_at, first_store, tables_in, array_if, accessed_by, port_for, port_if, reached, reached_in, reached_by, ops_in, span_of, row_in, AreNumbered}
 use Rattle.circuit_context.specs.Numbers.{ArePorts, HasPlaces}
 use Rattle.circuit_context.proofs.Loading.{ports_get, ports_length, number_same}
 
@@ -69,20 +69,29 @@ units_are (node.Looped r) = refl
 ops_at : (p : Plan) (memories : List Memory) (nodes : List (Node Timed)) (i : ℕ) (n : Node Timed) → IsOf p memories nodes → slice_get nodes i ≡ Some n → (body_at p i).ops ≡ map timed_op (ops_in n)
 ops_at p memories nodes i n h at = ap (λ b. b.ops) (node_body p nodes i n h.program at) ∙ body_ops n
 
+abbrev bound_of : Op Timed → ℕ
+bound_of op = op.stamp.bound
+
+units_at : (p : Plan) (memories : List Memory) (nodes : List (Node Timed)) (i : ℕ) (n : Node Timed) → IsOf p memories nodes → slice_get nodes i ≡ Some n → get_or p.units i [] ≡ map bound_of (ops_in n)
+units_at p memories nodes i n h at =
+    get_or_from_slice_get p.units i (node_units n) [] (ap (λ l. slice_get l i) h.units ∙ (slice_get-map node_units nodes i ∙ ap (option_map node_units) at)) ∙ units_are n
+
+-- the first store of a time, in the plan and in the program
+stores_are : (width a time : ℕ) (ops : List (Op Timed)) → store_unit a width time (map timed_op ops) (map bound_of ops) ≡ first_store width a time ops
+stores_are width a time [] = refl
+stores_are width a time (op ∷ ops) = ap (λ (rest : Option ℕ). if is_store_at width a time op then Some op.stamp.bound else rest) (stores_are width a time ops)
+
 unit_is : (p : Plan) (memories : List Memory) (nodes : List (Node Timed)) (i k : ℕ) (n : Node Timed) (op : Op Timed) → IsOf p memories nodes → slice_get nodes i ≡ Some n → slice_get (ops_in n) k ≡ Some op
     → unit_of p (record { node = i; number = k; op = timed_op op }) ≡ op.stamp.bound
 unit_is p memories nodes i k n op h at there =
-    let own : get_or p.units i [] ≡ map (λ (o : Op Timed). o.stamp.bound) (ops_in n) =
-    get_or_from_slice_get p.units i (node_units n) [] (ap (λ l. slice_get l i) h.units ∙ (slice_get-map node_units nodes i ∙ ap (option_map node_units) at)) ∙ units_are n in
-    ap (λ l. get_or l k 0) own
-    ∙ get_or_from_slice_get (map (λ (o : Op Timed). o.stamp.bound) (ops_in n)) k op.stamp.bound 0
-    (slice_get-map (λ (o : Op Timed). o.stamp.bound) (ops_in n) k ∙ ap (option_map (λ (o : Op Timed). o.stamp.bound)) there)
+    ap (λ l. get_or l k 0) (units_at p memories nodes i n h at)
+    ∙ get_or_from_slice_get (map bound_of (ops_in n)) k op.stamp.bound 0 (slice_get-map bound_of (ops_in n) k ∙ ap (option_map bound_of) there)
 
 -- ---- the port of an access
 
 pub port_is : (p : Plan) (memories : List Memory) (nodes : List (Node Timed)) (i k : ℕ) (n : Node Timed) (op : Op Timed) (array : ArrayId) → IsOf p memories nodes → slice_get nodes i ≡ Some n
     → slice_get (ops_in n) k ≡ Some op → accessed_by op ≡ Some array
-    → port_of p array.0 (record { node = i; number = k; op = timed_op op }) ≡ port_if (tables_in memories) (span_of n) (take k (ops_in n)) op
+    → port_of p array.0 (record { node = i; number = k; op = timed_op op }) ≡ port_if (tables_in memories) (span_of n) (ops_in n) (take k (ops_in n)) op
 port_is p memories nodes i k n op array h at there by_ =
     let a = array.0 in
     let x : Placed = record { node = i; number = k; op = timed_op op } in
@@ -93,8 +102,13 @@ port_is p memories nodes i k n op array h at there by_ =
     let count : count_by (is_beside p x a) (take k (body_at p i).ops) ≡ count_by (loads_at (span_of n) a (op.stamp.start % span_of n)) (take k ops) =
     ap (count_by (is_beside p x a)) before
     ∙ (fold-map (λ (m : ℕ) (o : TimedOp). m + cond (is_beside p x a o) 1 0) timed_op 0 (take k ops) ∙ ap (λ (s : ℕ). count_by (loads_at s a (op.stamp.start % s)) (take k ops)) width) in
-    ap (λ (b : Bool). if b then count_by (is_beside p x a) (take k (body_at p i).ops) else unit_of p x) tables
-    ∙ (ap₂ (λ (m u : ℕ). if tables_in memories a then m else u) count (unit_is p memories nodes i k n op h at there) ∙ sym (ap (port_for (tables_in memories) (span_of n) (take k ops) op) by_))
+    let first : store_unit a (span p i) (op.stamp.start % span p i) (body_at p i).ops (get_or p.units i []) ≡ first_store (span_of n) a (op.stamp.start % span_of n) ops =
+    ap₂ (λ (l : List TimedOp) (us : List ℕ). store_unit a (span p i) (op.stamp.start % span p i) l us) (ops_at p memories nodes i n h at) (units_at p memories nodes i n h at)
+    ∙ (ap (λ (s : ℕ). store_unit a s (op.stamp.start % s) (map timed_op ops) (map bound_of ops)) width ∙ stores_are (span_of n) a (op.stamp.start % span_of n) ops) in
+    ap (λ (b : Bool). if b then count_by (is_beside p x a) (take k (body_at p i).ops) else memory_port p a x) tables
+    ∙ (ap₂ (λ (m u : ℕ). if tables_in memories a then m else u) count
+    (ap₂ (λ (f : Option ℕ) (u : ℕ). changed_with (unwrap_or f 0) u) first (unit_is p memories nodes i k n op h at there))
+    ∙ sym (ap (port_for (tables_in memories) (span_of n) ops (take k ops) op) by_))
 
 -- ---- how many ports
 
@@ -102,7 +116,7 @@ abbrev is_for : ℕ → Placed → Bool
 is_for a x = is_array a x.op.op.array && (is_load x.op.op.kind || is_store x.op.op.kind)
 
 abbrev rise : Plan → ℕ → ℕ → Placed → ℕ
-rise p a m x = max m (port_of p a x + 1)
+rise p a m x = max m (last_port p a x + 1)
 
 abbrev placing : ℕ → ℕ × TimedOp → Placed
 placing i o = record { node = i; number = o.0; op = o.1 }
@@ -157,13 +171,13 @@ op_rises : (p : Plan) (memories : List Memory) (nodes : List (Node Timed)) (a i 
     → (if is_for a (placing i (j, timed_op op)) then rise p a m (placing i (j, timed_op op)) else m) ≡ reached a m op (get_or (row_in (tables_in memories) n) j 0)
 op_rises p memories nodes a i j m n op h at there =
     ap (λ (b : Bool). if b then rise p a m (placing i (j, timed_op op)) else m) (with_access a (is_load op.kind || is_store op.kind) op.array) ∙ either (is_array a (accessed_by op)) refl where
-      either : (b : Bool) → is_array a (accessed_by op) ≡ b → (if b then rise p a m (placing i (j, timed_op op)) else m) ≡ (if b then max m (get_or (row_in (tables_in memories) n) j 0 + 1) else m)
+      either : (b : Bool) → is_array a (accessed_by op) ≡ b → (if b then rise p a m (placing i (j, timed_op op)) else m) ≡ (if b then max m (max (get_or (row_in (tables_in memories) n) j 0) op.stamp.bound + 1) else m)
       either false e = refl
       either true e =
           let found = some_array a (accessed_by op) e in
           let port = port_is p memories nodes i j n op found.0 h at there found.1 in
-          let row = get_or_from_slice_get (row_in (tables_in memories) n) j _ 0 (ports_get (tables_in memories) (span_of n) [] (ops_in n) j op there) in
-          ap (λ (k : ℕ). max m (k + 1)) (ap (λ (b : ℕ). port_of p b (placing i (j, timed_op op))) (sym found.2) ∙ (port ∙ sym row))
+          let row = get_or_from_slice_get (row_in (tables_in memories) n) j _ 0 (ports_get (tables_in memories) (span_of n) (ops_in n) [] (ops_in n) j op there) in
+          ap₂ (λ (k u : ℕ). max m (max k u + 1)) (ap (λ (b : ℕ). port_of p b (placing i (j, timed_op op))) (sym found.2) ∙ (port ∙ sym row)) (unit_is p memories nodes i j n op h at there)
 
 node_rises : (p : Plan) (memories : List Memory) (nodes : List (Node Timed)) (a i m : ℕ) (n : Node Timed) → IsOf p memories nodes → slice_get nodes i ≡ Some n
     → fold (rise p a) m (filter (is_for a) (placed_in (i, timed_node n))) ≡ reached_in a m (ops_in n) (row_in (tables_in memories) n)
@@ -203,8 +217,8 @@ ports_are p memories nodes ports h g = record {
       let op = of_op.0 in
       let loads : (is_load op.kind || is_store op.kind) ≡ true = subst (λ (t : TimedOp). (is_load t.op.kind || is_store t.op.kind) ≡ true) of_op.2 (is_access (is_load it.op.kind) (is_store it.op.kind) access) in
       let by_ : accessed_by op ≡ Some array = ap (λ (b : Bool). array_if b op.array) loads ∙ subst (λ (t : TimedOp). t.op.array ≡ Some array) of_op.2 own in
-      let listed : slice_get row k ≡ Some (port_if (tables_in memories) (span_of n) (take k (ops_in n)) op) =
-      ap (λ l. slice_get l k) of_node.2 ∙ ports_get (tables_in memories) (span_of n) [] (ops_in n) k op of_op.1 in
+      let listed : slice_get row k ≡ Some (port_if (tables_in memories) (span_of n) (ops_in n) (take k (ops_in n)) op) =
+      ap (λ l. slice_get l k) of_node.2 ∙ ports_get (tables_in memories) (span_of n) (ops_in n) [] (ops_in n) k op of_op.1 in
       same_Some port _ (sym number ∙ listed)
       ∙ (sym (port_is p memories nodes i k n op array h of_node.1 of_op.1 by_) ∙ ap (λ (t : TimedOp). port_of p array.0 (record { node = i; number = k; op = t })) (sym of_op.2));
 }
@@ -217,7 +231,7 @@ lengths_of f (x ∷ xs) = ap (λ l. length (f x) ∷ l) (lengths_of f xs)
 
 rows_long : (tables : ℕ → Bool) (nodes : List (Node Timed)) → map length (map (row_in tables) nodes) ≡ map (λ n. length (ops_in n)) nodes
 rows_long tables [] = refl
-rows_long tables (n ∷ nodes) = ap₂ (λ k l. k ∷ l) (ports_length tables (span_of n) [] (ops_in n)) (rows_long tables nodes)
+rows_long tables (n ∷ nodes) = ap₂ (λ k l. k ∷ l) (ports_length tables (span_of n) (ops_in n) [] (ops_in n)) (rows_long tables nodes)
 
 pub places_are : (memories : List Memory) (nodes : List (Node Timed)) (ports : PortNumbers) → AreNumbered memories nodes ports → HasPlaces nodes memories ports
 places_are memories nodes ports g = record {

@@ -42,8 +42,8 @@ nodes_longer : (nodes : List (Node Timed)) (k : ℕ) (n : Node Timed) → k < le
 nodes_longer nodes k n within is = take_more nodes k n within ∙ ap (λ o. take k nodes ++ o ∷ []) (sym is)
 
 -- the row of a node
-pub row_is : (tables : ℕ → Bool) (n : Node Timed) (span : ℕ) (ops : List (Op Timed)) (row : List ℕ) → span ≡ span_of n → ops ≡ ops_in n → row ≡ ports_from tables span [] ops → row ≡ row_in tables n
-row_is tables n span ops row wide own is = is ∙ ap₂ (λ s l. ports_from tables s [] l) wide own
+pub row_is : (tables : ℕ → Bool) (n : Node Timed) (span : ℕ) (ops : List (Op Timed)) (row : List ℕ) → span ≡ span_of n → ops ≡ ops_in n → row ≡ ports_from tables span ops [] ops → row ≡ row_in tables n
+row_is tables n span ops row wide own is = is ∙ ap₂ (λ s l. ports_from tables s l [] l) wide own
 
 pub rows_more : (tables : ℕ → Bool) (nodes : List (Node Timed)) (rows after : List (List ℕ)) (row : List ℕ) (k : ℕ) (n : Node Timed) → k < length nodes → n ≡ get_or nodes k n → row ≡ row_in tables n
     → rows ≡ map (row_in tables) (take k nodes) → after ≡ rows ++ row ∷ [] → after ≡ map (row_in tables) (take (k + 1) nodes)

@@ -10,6 +10,7 @@ mod loads;
 pub mod numbers;
 pub mod operands;
 pub mod ports;
+mod stores;
 pub mod tests;
 pub mod times;
 pub mod wanted;

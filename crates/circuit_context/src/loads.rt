@@ -1,10 +1,12 @@
 //! Loads that start together, counted by array.
-ghost use Rattle.std.specs.Prelude.{◌≡◌, ◌+◌, ◌%◌, ◌^◌, ◌<◌, ◌&&◌, ◌||◌, ◌∷◌, ◌++◌, [], if◌then◌else◌, length, List, IfOk, OnOk};
+ghost use Rattle.std.specs.Prelude.{◌≡◌, ◌+◌, ◌%◌, ◌^◌, ◌<◌, ◌&&◌, ◌||◌, ◌∷◌, ◌++◌, [], if◌then◌else◌, length, unwrap_or, List, IfOk, OnOk};
 ghost use Rattle.ir_core.specs.declared.body.Op.{Op};
 ghost use Rattle.ir_core.specs.declared.timed.Timed.{Timed};
-ghost use Rattle.datapath.specs.Ports.{is_load, is_store};
-ghost use Rattle.circuit_context.specs.Counting.{accessed_by, count_at, moment_eq, port_if, tables_in, Counts};
+ghost use Rattle.indexmap.specs.IndexMap.{get};
+ghost use Rattle.datapath.specs.Ports.{changed_with, is_load, is_store};
+ghost use Rattle.circuit_context.specs.Counting.{accessed_by, count_at, moment_eq, port_if, tables_in, AreStores, Counts};
 
+use crate::stores::{StoreUnits, first_unit};
 use hls_base::number::ArrayId;
 use indexmap::IndexMap;
 use ir_core::body::{Op, OpKind};
@@ -83,14 +85,33 @@ fn is_table(memories: &[Memory], array: ArrayId) -> bool
     number < memories.len() && memories[number].table.is_some()
 }
 
-/// The port of an access: tables have one for each load at this moment.
-fn port_at(memories: &[Memory], loads: &Loads, moment: Moment, bound: u32) -> u32
-    ensures { result ≡ (if tables_in memories.now moment.array.0 then count_at loads.now moment else bound) }
+/// Two numbers change places, of which one is 0.
+fn changed(number: u32, given: u32) -> u32
+    ensures { result ≡ changed_with number given }
+{
+    if given == number {
+        0
+    } else if given == 0 {
+        number
+    } else {
+        given
+    }
+}
+
+/// The port of an access: tables have one for each load at this moment, and the first store to a memory has port 0.
+fn port_at(
+    memories: &[Memory],
+    loads: &Loads,
+    stores: &StoreUnits,
+    moment: Moment,
+    bound: u32,
+) -> u32
+    ensures { result ≡ (if tables_in memories.now moment.array.0 then count_at loads.now moment else changed_with (unwrap_or (get moment_eq stores.now moment) 0) bound) }
 {
     if is_table(memories, moment.array) {
         counted(loads, moment)
     } else {
-        bound
+        changed(first_unit(stores, moment), bound)
     }
 }
 
@@ -98,12 +119,13 @@ fn port_at(memories: &[Memory], loads: &Loads, moment: Moment, bound: u32) -> u3
 pub fn port_of(
     memories: &[Memory],
     loads: &mut Loads,
+    stores: &StoreUnits,
     op: &Op<Timed>,
     span: u64,
 ) -> Result<u32, AllocError>
     requires span { 0 < span }
     requires few { (m : Moment) → count_at loads.old m + 1 < 2 ^ 32 }
-    ensures port { (before : List (Op Timed)) → Counts span before loads.old → IfOk result (λ n. n ≡ port_if (tables_in memories.now) span before op.now) }
+    ensures port { (all before : List (Op Timed)) → AreStores span all stores.now → Counts span before loads.old → IfOk result (λ n. n ≡ port_if (tables_in memories.now) span all before op.now) }
     ensures counts { (before : List (Op Timed)) → Counts span before loads.old → OnOk result (Counts span (before ++ op.now ∷ []) loads.new) }
 {
     let Some(array) = accessed(op) else {
@@ -111,7 +133,7 @@ pub fn port_of(
     };
     let time = op.stamp.start % span;
     let moment = Moment { array, time };
-    let port = port_at(memories, loads, moment, op.stamp.bound);
+    let port = port_at(memories, loads, stores, moment, op.stamp.bound);
     note_if(loads, moment, op.kind)?;
     Ok(port)
 }

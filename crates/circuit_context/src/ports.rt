@@ -1,4 +1,4 @@
-//! The ports of accesses. The loads of a table that start together have a port each.
+//! The ports of accesses. The loads of a table that start together have a port each, and the first store of a cycle to a memory has port 0.
 ghost use Rattle.std.specs.Prelude.{◌≡◌, ◌<◌, ◌^◌, [], map, length, ℕ, Some, IfOk, OnOk, slice_get};
 ghost use Rattle.std.specs.List.{All};
 ghost use Rattle.hls_base.specs.declared.number.ArrayId.{ArrayId};
@@ -11,6 +11,7 @@ ghost use Rattle.circuit_context.specs.Numbers.{ArePorts, HasPlaces, IsAccess, p
 ghost use Rattle.circuit_context.specs.Counting.{ops_in, ports_from, reached, reached_in, reached_by, row_in, span_of, tables_in, AreNumbered, Reaches};
 
 use crate::loads::{accessed, port_of};
+use crate::stores::stores_of;
 use datapath::plan_sizes::sizes::span;
 use hls_base::number::NodeId;
 use hls_base::refusal::impossible;
@@ -45,17 +46,18 @@ fn row_of(
 ) -> Result<Vec<u32>, AllocError>
     requires span { 0 < span }
     requires few { length ops.now < 2 ^ 32 }
-    ensures { IfOk result (λ row. row.items ≡ ports_from (tables_in memories.now) span [] ops.now) }
+    ensures { IfOk result (λ row. row.items ≡ ports_from (tables_in memories.now) span ops.now [] ops.now) }
 {
+    let stores = stores_of(alloc, ops, span)?;
     let mut loads = IndexMap::new(alloc);
     let mut row = Vec::with_capacity(alloc, ops.len())?;
     for op in ops {
-        row.push(port_of(memories, &mut loads, op, span)?)?;
+        row.push(port_of(memories, &mut loads, &stores, op, span)?)?;
     }
     Ok(row)
 }
 
-/// The array has at least as many ports as this one takes.
+/// The array has at least as many ports as this access and its unit ask for.
 fn reach(counts: &mut Vec<u32>, op: &Op<Timed>, port: u32) -> Result<(), AllocError>
     ensures { OnOk result (Reaches counts.old.items counts.new.items (λ a n. reached a n op.now port)) }
 {
@@ -63,7 +65,7 @@ fn reach(counts: &mut Vec<u32>, op: &Op<Timed>, port: u32) -> Result<(), AllocEr
         return Ok(());
     };
     let number = array.0 as usize;
-    let Some(least) = port.checked_add(1) else {
+    let Some(least) = port.max(op.stamp.bound).checked_add(1) else {
         return Err(impossible());
     };
     if number < counts.len() {

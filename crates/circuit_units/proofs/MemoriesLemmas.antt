@@ -5,6 +5,7 @@ pub mod Stores
 pub mod Signals
 pub mod Arrays
 pub mod Outer
+pub mod Only
 pub mod Steps
 pub mod Times
 pub mod Unstored

@@ -13,6 +13,7 @@ use Rattle.clock_ir.specs.Flows.{TimedOp}
 use Rattle.clock_ir.specs.ClockRuns.{block, overlapped}
 use Rattle.datapath.specs.Plans.{Plan, Savings}
 use Rattle.datapath.specs.Cycles.{Register, Ready, Done, Initial, Time, Active, Load, Gate, Passed, Waited, Variable, Value, Result, Left, Right, Product, Steps, Dividend, Remainder, Divisor, QuotientSign, RemainderSign, Word, Named, Contents}
+use Rattle.datapath.specs.Ports.{changed_with, store_unit}
 use Rattle.datapath.proofs.Evaluating.{first_after}
 
 -- ---- contents by lists
@@ -323,6 +324,24 @@ has_first_words = refl
 has_kept : (kept (quiet ∷ start 1 0 ∷ quiet ∷ quiet ∷ quiet ∷ quiet ∷ [])).words ≡ (7 ∷ 12 ∷ 9 ∷ 0 ∷ []) ∷ []
 has_kept = refl
 
--- the second start goes on with what the first one left
-goes_on : shown (kept (quiet ∷ start 1 0 ∷ quiet ∷ quiet ∷ quiet ∷ quiet ∷ start 1 0 ∷ quiet ∷ quiet ∷ quiet ∷ quiet ∷ [])) ≡ 1 ∷ 1 ∷ 24 ∷ 12 ∷ []
+-- the second start goes on with what the first one left; the word was read in the cycle before the store
+goes_on : shown (kept (quiet ∷ start 1 0 ∷ quiet ∷ quiet ∷ quiet ∷ quiet ∷ start 1 0 ∷ quiet ∷ quiet ∷ quiet ∷ quiet ∷ [])) ≡ 1 ∷ 1 ∷ 24 ∷ 9 ∷ []
 goes_on = refl
+
+-- ---- a load on unit 0 and a store on unit 1 that start together: the store is at port 0, and the load at port 1
+
+abbrev both : List TimedOp
+both = access o.Load 4 (variable 1 ∷ []) ∷ access o.Store 8 (variable 1 ∷ variable 0 ∷ []) ∷ []
+
+store_is_found : store_unit 0 4 0 both (0 ∷ 1 ∷ []) ≡ Some 1
+store_is_found = refl
+
+-- in no other cycle
+none_is_found : store_unit 0 4 1 both (0 ∷ 1 ∷ []) ≡ None
+none_is_found = refl
+
+store_is_first : changed_with 1 1 ≡ 0
+store_is_first = refl
+
+load_is_beside : changed_with 1 0 ≡ 1
+load_is_beside = refl

@@ -9,7 +9,7 @@ use Rattle.rtl_logic.specs.Choosing.{Write, where_, Takes}
 use Rattle.datapath.specs.Control.{next_ready, next_done, next_initial, next_time, time_bits, next_active, next_load, gate_writes, passed_write, waited_write, wait_bits}
 use Rattle.datapath.specs.Units.{argument_writes, signed_writes, product, steps_writes, dividend_writes, remainder_writes, divisor_writes, quotient_sign_writes, remainder_sign_writes}
 use Rattle.datapath.specs.Values.{value_writes, variable_writes, result_writes}
-use Rattle.datapath.specs.Ports.{address_writes, stored_writes, outside_address, outside_word, next_words, read_word}
+use Rattle.datapath.specs.Ports.{address_writes, stored_writes, outside_address, outside_word, next_words, is_reading, read_word}
 
 -- ---- signals
 
@@ -57,7 +57,7 @@ register_writes p cycle (c.Remainder bits n) = remainder_writes p cycle bits n
 register_writes p cycle (c.Divisor bits n) = divisor_writes p cycle bits n
 register_writes p cycle (c.QuotientSign bits n) = quotient_sign_writes p cycle bits n
 register_writes p cycle (c.RemainderSign bits n) = remainder_sign_writes p cycle bits n
-register_writes p cycle (c.Word a n) = always (read_word p cycle a n)
+register_writes p cycle (c.Word a n) = where_ (is_reading p cycle a n) (read_word p cycle a n) ∷ []
 register_writes p cycle c.Named = always (select_of cycle.pins % 2 ^ named_bits p)
 
 abbrev pub width : Plan → Register → ℕ

@@ -1,5 +1,5 @@
 -- The ports of the arrays: operations read and write there, and at port 0 the host, or the initial sequence.
-use Rattle.std.specs.Prelude.{ℕ, zero, suc, ◌+◌, ◌%◌, ◌^◌, ◌==◌, ◌&&◌, ◌||◌, nat_lt, max, Bool, true, false, not, List, map, take, filter, count_by, fold, Option, Some, None, is_some, if◌then◌else◌}
+use Rattle.std.specs.Prelude.{ℕ, zero, suc, ◌+◌, ◌%◌, ◌^◌, ◌==◌, ◌&&◌, ◌||◌, nat_lt, max, Bool, true, false, not, List, [], ◌∷◌, map, take, filter, get_or, count_by, fold, Option, Some, None, is_some, unwrap_or, if◌then◌else◌}
 use Rattle.std.specs.List.{list_any}
 use Rattle.hls_base.specs.ArrayAddress.{addresses}
 use Rattle.hls_base.specs.declared.number.ArrayId.{ArrayId}
@@ -33,9 +33,28 @@ is_array a (Some array) = array.0 == a
 abbrev pub is_beside : Plan → Placed → ℕ → TimedOp → Bool
 is_beside p x a o = is_load o.op.kind && (is_array a o.op.array && (o.start % span p x.node == x.op.start % span p x.node))
 
+-- a store to the array that starts at this time within the span
+abbrev pub stores_at : ℕ → ℕ → ℕ → TimedOp → Bool
+stores_at a span time o = is_store o.op.kind && (is_array a o.op.array && (o.start % span == time))
+
+-- the unit of the first such store among operations with these units
+abbrev pub store_unit : ℕ → ℕ → ℕ → List TimedOp → List ℕ → Option ℕ
+store_unit a span time [] units = None
+store_unit a span time (o ∷ ops) [] = None
+store_unit a span time (o ∷ ops) (unit ∷ units) = if stores_at a span time o then Some unit else store_unit a span time ops units
+
+-- two numbers change places, of which one is 0
+abbrev pub changed_with : ℕ → ℕ → ℕ
+changed_with n m = if m == n then 0 else (if m == 0 then n else m)
+
+-- The port of a memory is the unit, but the first store of a cycle is at port 0, and what had unit 0 there at the store's. So where no two stores start together, port 0 alone writes.
+abbrev pub memory_port : Plan → ℕ → Placed → ℕ
+memory_port p a x =
+    changed_with (unwrap_or (store_unit a (span p x.node) (x.op.start % span p x.node) (body_at p x.node).ops (get_or p.units x.node [])) 0) (unit_of p x)
+
 -- The loads of a table that start together have a port each.
 abbrev pub port_of : Plan → ℕ → Placed → ℕ
-port_of p a x = if is_some (array_at p a).table then count_by (is_beside p x a) (take x.number (body_at p x.node).ops) else unit_of p x
+port_of p a x = if is_some (array_at p a).table then count_by (is_beside p x a) (take x.number (body_at p x.node).ops) else memory_port p a x
 
 abbrev pub accesses : Plan → ℕ → List Placed
 accesses p a = filter (λ (x : Placed). is_array a x.op.op.array && (is_load x.op.op.kind || is_store x.op.op.kind)) (all_ops p)
@@ -49,9 +68,12 @@ loads p a n = filter (λ (x : Placed). is_load x.op.op.kind) (at_port p a n)
 abbrev pub stores : Plan → ℕ → ℕ → List Placed
 stores p a n = filter (λ (x : Placed). is_store x.op.op.kind) (at_port p a n)
 
--- an array has at least one port
+-- an array has at least one port, and one for each unit of its accesses
+abbrev pub last_port : Plan → ℕ → Placed → ℕ
+last_port p a x = max (port_of p a x) (unit_of p x)
+
 abbrev pub port_count : Plan → ℕ → ℕ
-port_count p a = fold (λ n (x : Placed). max n (port_of p a x + 1)) 1 (accesses p a)
+port_count p a = fold (λ n (x : Placed). max n (last_port p a x + 1)) 1 (accesses p a)
 
 -- ---- operations
 
@@ -115,6 +137,10 @@ word_of c a array address = if is_some array.table then given_at (addresses arra
 abbrev pub is_refused : Plan → Cycle → Placed → Bool
 is_refused p c x = is_starting p c x && not (is_allowed p c x)
 
--- the word at the address of a port is read in each cycle
+-- The word at a port's address is read in each cycle, but at the only port of a memory in none in which it writes.
+abbrev pub is_reading : Plan → Cycle → ℕ → ℕ → Bool
+is_reading p c a n = is_some (array_at p a).table || not ((port_count p a == 1) && is_enabled p c a n)
+
+-- the word that is read
 abbrev pub read_word : Plan → Cycle → ℕ → ℕ → ℕ
 read_word p c a n = if list_any (is_refused p c) (loads p a n) then 0 else word_of c a (array_at p a) (c.signals (AddressOf a n))

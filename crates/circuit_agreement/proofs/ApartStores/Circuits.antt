@@ -11,8 +11,8 @@ use Rattle.clock_ir.specs.ClockRuns.{TimedProgram, inside, timed_program, clock_
 use Rattle.clock_ir.specs.WellTimed.{IsWellTimed}
 use Rattle.clock_runs.specs.Premises.{IsSoundProgram}
 use Rattle.datapath.specs.Plans.{Plan, body_at, body_if}
-use Rattle.circuit_flow.specs.Flows.{Stores, StoresAreApart}
-use Rattle.circuit_flow.proofs.Nodes.{program}
+use Rattle.circuit_agreement.specs.CircuitFlow.Flows.{Stores, StoresAreApart}
+use Rattle.circuit_agreement.proofs.Nodes.{program}
 use Rattle.circuit_agreement.specs.ApartStores.Apart.{HasMeaning, StoresNow, AreStoresApart}
 use Rattle.circuit_agreement.specs.ApartStores.{CompiledStoresStayApart}
 use Rattle.circuit_agreement.proofs.ApartStores.Programs.{apart_at}

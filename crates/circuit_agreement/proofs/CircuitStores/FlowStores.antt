@@ -10,7 +10,7 @@ use Rattle.clock_ir.specs.Flows.{TimedOp, TimedBody, Flow, operand_at, holds_at,
 use Rattle.clock_runs.proofs.Effects.{Memories, Sort, computing, loading, storing, sort_of, stored_to, memories_by, effect_is}
 use Rattle.clock_runs.proofs.Lists.{some_same, no_some}
 use Rattle.datapath.specs.Plans.{Plan, body_at}
-use Rattle.circuit_flow.specs.Flows.{Stores, store_address}
+use Rattle.circuit_agreement.specs.CircuitFlow.Flows.{Stores, store_address}
 
 -- the operation stores a word of the array at this address
 pub record Alters (p : Plan) (i : ℕ) (f : Flow) (a address : ℕ) (it : TimedOp) : Type 0 where

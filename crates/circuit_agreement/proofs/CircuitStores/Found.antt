@@ -11,7 +11,7 @@ use Rattle.rtl_core.specs.Agreement.{held_arrays}
 use Rattle.clock_runs.proofs.Lists.{some_same, no_some}
 use Rattle.datapath.specs.Plans.{Plan, Array, array_at, depth, host_arrays, interface}
 use Rattle.datapath.specs.Netlists.{memory_of}
-use Rattle.circuit_flow.specs.Compiled.{IsCompiled}
+use Rattle.circuit_agreement.specs.CircuitFlow.Compiled.{IsCompiled}
 use Rattle.circuit_agreement.specs.CircuitStores.HeldWords.{words_in}
 use Rattle.circuit_agreement.specs.CircuitStores.{FoundContents}
 use Rattle.circuit_agreement.proofs.CircuitStores.Lists.{map_same}

@@ -9,7 +9,7 @@ use Rattle.ir_core.specs.declared.cfg.Memory.{Memory}
 use Rattle.clock_runs.specs.Premises.{Each}
 use Rattle.clock_runs.proofs.Lists.{no_some}
 use Rattle.datapath.specs.Plans.{Plan, Array, array_of, no_array, array_at, depth, host_arrays}
-use Rattle.circuit_flow.specs.Compiled.{IsCompiled}
+use Rattle.circuit_agreement.specs.CircuitFlow.Compiled.{IsCompiled}
 use Rattle.circuit_agreement.proofs.CircuitStores.Turns.{arrays_are}
 use Rattle.circuit_agreement.proofs.CircuitStores.Elements.{get_within}
 

@@ -10,7 +10,7 @@ use Rattle.clock_ir.specs.Flows.{TimedOp}
 use Rattle.clock_ir.specs.ClockRuns.{TimedNode}
 use Rattle.clock_runs.proofs.Lists.{no_some}
 use Rattle.datapath.specs.Plans.{Plan, Placed, body_of, body_if, body_at, numbered, placed_in, all_ops}
-use Rattle.datapath.specs.Ports.{is_load, is_store, is_array, port_of, accesses, at_port, stores, port_count}
+use Rattle.datapath.specs.Ports.{is_load, is_store, is_array, port_of, accesses, at_port, stores, last_port, port_count}
 use Rattle.circuit_agreement.proofs.CircuitStores.Lists.{Has, has_mapped, Mapped, from_mapped, has_flat, Flat, from_flat, has_numbered, Numbered, from_numbered, has_kept, from_kept, each_most}
 
 -- ---- all operations
@@ -84,7 +84,7 @@ pub from_store : (p : Plan) (a n : ℕ) (x : Placed) → Has (stores p a n) x �
 from_store p a n x h = from_kept (λ (z : Placed). is_store z.op.op.kind) (at_port p a n) x h
 
 pub port_counts : (p : Plan) (a : ℕ) (x : Placed) → Accesses p a x → port_of p a x + 1 ≤ port_count p a
-port_counts p a x h = each_most (λ (z : Placed). port_of p a z + 1) 1 (accesses p a) x (has_access p a x h)
+port_counts p a x h = let most = each_most (λ (z : Placed). last_port p a z + 1) 1 (accesses p a) x (has_access p a x h) in omega (arith, most)
 
 -- ---- kinds
 

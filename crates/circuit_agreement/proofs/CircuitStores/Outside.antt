@@ -11,7 +11,7 @@ use Rattle.rtl_logic.specs.Choosing.{Write, where_, is_any_wanted, IsElse}
 use Rattle.datapath.specs.Reading.{is_starting, is_allowed, arguments}
 use Rattle.datapath.specs.Control.{leaves_as}
 use Rattle.datapath.specs.Values.{out_value, out_writes}
-use Rattle.datapath.specs.Ports.{at_port, stores, accesses, port_of, port_count, element_address, is_storing, outside_address, outside_word, outside_writes, is_enabled, next_words, is_refused}
+use Rattle.datapath.specs.Ports.{at_port, stores, accesses, last_port, port_count, element_address, is_storing, outside_address, outside_word, outside_writes, is_enabled, next_words, is_refused}
 use Rattle.datapath.specs.Circuits.{IsCycle}
 use Rattle.ir_core.specs.Bodies.{stored, with_word}
 use Rattle.circuit_agreement.proofs.CircuitStores.Lists.{none_there, first_most, Flat, from_flat, Has, from_mapped, Mapped, has_none}
@@ -41,7 +41,7 @@ module _ (p : Plan) (c : Cycle) (is_cycle : IsCycle p c) (rest : IsResting c) wh
     other_ports : (m : ℕ) → is_enabled p c a (suc m) ≡ false
     other_ports m = and_left _ _ (or_from (list_any (is_storing p c) (stores p a (suc m))) false (none_stores (suc m)) refl)
 
-    port_off : outside_writes p c a 0 ≡ false → is_enabled p c a 0 ≡ false
+    pub port_off : outside_writes p c a 0 ≡ false → is_enabled p c a 0 ≡ false
     port_off e = and_left _ _ (or_from (list_any (is_storing p c) (stores p a 0)) _ (none_stores 0) e)
 
     port_on : outside_writes p c a 0 ≡ true → is_enabled p c a 0 ≡ true
@@ -78,7 +78,7 @@ module _ (p : Plan) (c : Cycle) (is_cycle : IsCycle p c) (rest : IsResting c) wh
         ]
       where
         some : 0 < 0 + port_count p a
-        some = let h = first_most (λ (x : Placed). port_of p a x + 1) 1 (accesses p a) in omega (arith, h)
+        some = let h = first_most (λ (x : Placed). last_port p a x + 1) 1 (accesses p a) in omega (arith, h)
 
         others : (l : ℕ) → l ≢ 0 → Writes p c a address l → ⊥
         others zero differ w = differ refl

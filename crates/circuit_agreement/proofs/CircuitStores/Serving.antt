@@ -5,7 +5,7 @@ use Rattle.std.specs.Option.{option_and_then, option_map}
 use Rattle.std.proofs.lemmas.Option.{slice_get_within, slice_get_past}
 use Rattle.std.proofs.lemmas.List.{length-map}
 use Rattle.std.proofs.Math.ListN.{get_or-eq_default}
-use Rattle.std.proofs.lemmas.Bool.{cases_Bool, cases_eq, cases_lt, and_from, and_right, and_parts, not_from_false, eq-eqb, eqb-true, ne_eqb, lt-ltb, ltb-true, cond-true, cond-false, false≢true}
+use Rattle.std.proofs.lemmas.Bool.{cases_Bool, cases_eq, cases_lt, and_from, and_left, and_right, and_parts, or_right, not_from_false, eq-eqb, eqb-true, ne_eqb, lt-ltb, ltb-true, cond-true, cond-false, false≢true}
 use Rattle.hls_base.specs.ArrayAddress.{addresses, element_at}
 use Rattle.hls_base.specs.FileScope.{FileScope}
 use Rattle.rtl_core.specs.Interface.{ArrayShape, reset_of, start_of, enable_of, write_of, select_of, address_of, data_of, read_data_of}
@@ -17,18 +17,19 @@ use Rattle.datapath.specs.Plans.{Plan, Array, array_at, depth, host_arrays, inte
 use Rattle.datapath.specs.Cycles.{Ready, Initial, Variable, Word, Named, AddressOf, Contents, Cycle, in_cycle, holds, starts}
 use Rattle.rtl_logic.specs.Choosing.{Takes}
 use Rattle.datapath.specs.Control.{is_taken}
-use Rattle.datapath.specs.Ports.{loads, host_writes, outside_writes, is_refused, read_word}
+use Rattle.datapath.specs.Ports.{loads, port_count, host_writes, outside_writes, is_enabled, is_refused, is_reading, read_word}
 use Rattle.datapath.specs.Circuits.{Step, Shows, named_bits, always}
 use Rattle.datapath.specs.Standing.{IsWaiting}
 use Rattle.datapath.specs.Answers.{elements, file_number, HoldsArrays}
-use Rattle.circuit_flow.specs.Compiled.{IsCompiled}
+use Rattle.circuit_agreement.specs.CircuitFlow.Compiled.{IsCompiled}
 use Rattle.circuit_agreement.specs.CircuitStores.HeldWords.{words_in}
 use Rattle.circuit_agreement.specs.CircuitStores.{Serves, HostsAreServed}
+use Rattle.circuit_agreement.proofs.UnitResults.Loading.{taken_where}
 use Rattle.circuit_agreement.proofs.CircuitStores.Lists.{none_there, same_map}
 use Rattle.circuit_agreement.proofs.CircuitStores.Quiet.{off, on, unreset}
 use Rattle.circuit_agreement.proofs.CircuitStores.Elements.{position_found, position_none, rising_within, rising_once, elements_without, elements_with, set_same, set_other, get_within, mapped_get}
 use Rattle.circuit_agreement.proofs.CircuitStores.Hosts.{rising, HostArray, host_array, file_array}
-use Rattle.circuit_agreement.proofs.CircuitStores.Outside.{IsResting, unchanged, changed, outside_address_is, not_refused}
+use Rattle.circuit_agreement.proofs.CircuitStores.Outside.{IsResting, unchanged, changed, outside_address_is, not_refused, port_off}
 use Rattle.circuit_agreement.proofs.CircuitStores.Shown.{shown_plain, words_kept}
 use Rattle.circuit_agreement.proofs.CircuitStores.Variables.{stays, none_kept, no_arguments}
 use Rattle.circuit_agreement.proofs.CircuitStores.Bits.{below_bits}
@@ -270,8 +271,8 @@ module _ (p : Plan) (k : IsCompiled p) (pins : List ℕ) where
         let fits : select_of pins < 2 ^ named_bits p = omega (arith, bits, low) in
         always_taken _ _ _ (step.is_after.regs Named) ∙ mod-eq_of_lt fits
 
-    read_now : (e : Element) → NamesElement e → y.regs (Word (select_of pins) 0) ≡ slice_index (elements_of b.arrays e.array) e.index
-    read_now e n =
+    read_now : (e : Element) → NamesElement e → (write_of pins == 1) ≡ false → y.regs (Word (select_of pins) 0) ≡ slice_index (elements_of b.arrays e.array) e.index
+    read_now e n read_only =
         let s : ℕ = select_of pins in
         let it : HostArray p k s = host_array p k s n.low in
         let places : List ℕ = addresses (array_at p s).dims in
@@ -285,16 +286,22 @@ module _ (p : Plan) (k : IsCompiled p) (pins : List ℕ) where
         ∙ (ap (λ (l : List ℕ). slice_index l e.index) (sym (h.host s n.low))
         ∙ (get_within (map ((words_in p x).memories s) places) e.index 0 ((words_in p x).memories s (address_of pins)) (mapped_get ((words_in p x).memories s) places e.index (address_of pins) n.stands)
         ∙ shown_plain p x s (address_of pins) it.plain)) in
-        always_taken _ _ _ (step.is_after.regs (Word s 0)) ∙ (read ∙ sym shown)
+        let unwritten_ : host_writes p c s ≡ false = and_right (holds c Ready && not (starts c)) _ (and_left _ _ (and_right (enable_of pins == 1) (write_of pins == 1) read_only)) in
+        let off_ : is_enabled p c s 0 ≡ false = port_off p c step.is_cycle rest s (cond-true _ _ _ it.host ∙ unwritten_) in
+        let reading : is_reading p c s 0 ≡ true =
+        or_right (is_some (array_at p s).table) (not ((port_count p s == 1) && is_enabled p c s 0))
+        (not_from_false ((port_count p s == 1) && is_enabled p c s 0) (and_right (port_count p s == 1) (is_enabled p c s 0) off_)) in
+        taken_where (is_reading p c s 0) (read_word p c s 0) (y.regs (Word s 0)) _ reading (step.is_after.regs (Word s 0)) ∙ (read ∙ sym shown)
 
-    shows_by : (outs : List ℕ) → Shows p y outs → (enabled writes : Bool) (o : Option Element) → named (interface p) pins ≡ o → ShowsValue (shown_by b enabled writes o) (read_data_of outs)
-    shows_by outs s true true o n = tt
-    shows_by outs s true false None n = tt
-    shows_by outs s false writes o n = tt
-    shows_by outs s true false (Some e) n =
+    shows_by : (outs : List ℕ) → Shows p y outs → (enabled writes : Bool) (o : Option Element) → named (interface p) pins ≡ o → (write_of pins == 1) ≡ writes
+        → ShowsValue (shown_by b enabled writes o) (read_data_of outs)
+    shows_by outs s true true o n w = tt
+    shows_by outs s true false None n w = tt
+    shows_by outs s false writes o n w = tt
+    shows_by outs s true false (Some e) n w =
         let r = names e n in
         let now = named_now r.low in
-        s.element (subst (λ q. q < length (host_arrays p)) (sym now) r.low) ∙ (ap (λ q. y.regs (Word q 0)) now ∙ read_now e r)
+        s.element (subst (λ q. q < length (host_arrays p)) (sym now) r.low) ∙ (ap (λ q. y.regs (Word q 0)) now ∙ read_now e r w)
 
     serves : Serves p b pins y
     serves = record {
@@ -304,7 +311,7 @@ module _ (p : Plan) (k : IsCompiled p) (pins : List ℕ) where
         file = λ a first e. elements_stay a (file_quiet a first e) ∙ (h.file a first e ∙ ap (λ (z : FileScope). get_or z.arrays (file_number p a) []) (sym is.file_scope));
       };
       element = λ outs s.
-          subst (λ (z : Option ℕ). ShowsValue z (read_data_of outs)) (sym is.shown) (shows_by outs s (enable_of pins == 1) (write_of pins == 1) (named (interface p) pins) refl);
+          subst (λ (z : Option ℕ). ShowsValue z (read_data_of outs)) (sym is.shown) (shows_by outs s (enable_of pins == 1) (write_of pins == 1) (named (interface p) pins) refl refl);
     }
 
 pub hosts_are_served : HostsAreServed

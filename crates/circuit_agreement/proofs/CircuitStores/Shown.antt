@@ -8,7 +8,7 @@ use Rattle.datapath.specs.Plans.{Plan, array_at, depth}
 use Rattle.datapath.specs.Cycles.{Ready, Initial, Contents, Cycle, in_cycle, holds, starts}
 use Rattle.datapath.specs.Ports.{host_writes, outside_writes}
 use Rattle.datapath.specs.Answers.{elements}
-use Rattle.circuit_flow.specs.Compiled.{IsCompiled}
+use Rattle.circuit_agreement.specs.CircuitFlow.Compiled.{IsCompiled}
 use Rattle.circuit_agreement.specs.CircuitStores.HeldWords.{words_in}
 use Rattle.circuit_agreement.specs.CircuitStores.{LoadingKeepsArrays, WordsAreHeld, ContentsAreShown}
 use Rattle.circuit_agreement.proofs.CircuitStores.Lists.{map_same}

@@ -13,7 +13,7 @@ use Rattle.datapath.specs.Cycles.{Ready, Initial, Time, Variable, Contents, Cycl
 use Rattle.datapath.specs.Control.{is_taken}
 use Rattle.datapath.specs.Ports.{first_word, outside_address, outside_word, outside_writes, port_count}
 use Rattle.datapath.specs.Answers.{HoldsArrays}
-use Rattle.circuit_flow.specs.Compiled.{IsCompiled}
+use Rattle.circuit_agreement.specs.CircuitFlow.Compiled.{IsCompiled}
 use Rattle.circuit_agreement.specs.CircuitStores.HeldWords.{words_in}
 use Rattle.circuit_agreement.specs.CircuitStores.{RunsBegin, FillingBegins, FillingGoesOn, FillingEnds}
 use Rattle.circuit_agreement.proofs.CircuitStores.Lists.{first_most, each_most, same_map}

@@ -18,10 +18,10 @@ use Rattle.datapath.specs.Reading.{at, at_iteration, operand, is_true, is_starti
 use Rattle.datapath.specs.Control.{may_store}
 use Rattle.datapath.specs.Ports.{is_load, is_store, is_array, port_of, at_port, stores, port_count, element_address, is_storing, host_writes, outside_writes, is_enabled, behind_ports}
 use Rattle.datapath.specs.Circuits.{IsCycle}
-use Rattle.circuit_flow.specs.Reads.{by_argument, by_guard}
-use Rattle.circuit_flow.specs.Flows.{Sees, StoresAsRun, Stores, store_address, StoresAreApart}
-use Rattle.circuit_flow.specs.Compiled.{IsCompiled}
-use Rattle.circuit_flow.proofs.Nodes.{shapes, positive}
+use Rattle.circuit_agreement.specs.CircuitFlow.Reads.{by_argument, by_guard}
+use Rattle.circuit_agreement.specs.CircuitFlow.Flows.{Sees, StoresAsRun, Stores, store_address, StoresAreApart}
+use Rattle.circuit_agreement.specs.CircuitFlow.Compiled.{IsCompiled}
+use Rattle.circuit_agreement.proofs.Nodes.{shapes, positive}
 use Rattle.circuit_agreement.specs.CircuitStores.{NodesStore}
 use Rattle.circuit_agreement.proofs.CircuitStores.Lists.{Has, some_tested, Tested, any_there, map_same}
 use Rattle.circuit_agreement.proofs.CircuitStores.Quiet.{Running, off, off_at, unreset}

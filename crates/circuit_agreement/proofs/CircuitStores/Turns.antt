@@ -26,9 +26,10 @@ use Rattle.clock_runs.proofs.Lists.{some_same, no_some}
 use Rattle.datapath.specs.Plans.{Plan, Placed, Array, array_of, no_array, array_at, body_of, body_at, span, node_units, unit_of}
 use Rattle.datapath.specs.Cycles.{Time, Active, Cycle, holds}
 use Rattle.datapath.specs.Reading.{at}
-use Rattle.datapath.specs.Ports.{is_load, is_store, is_array, port_of}
-use Rattle.circuit_flow.specs.Compiled.{IsCompiled}
-use Rattle.circuit_flow.proofs.Nodes.{node_of, body_found}
+use Rattle.datapath.specs.Ports.{is_load, is_store, is_array, memory_port, port_of}
+use Rattle.circuit_agreement.specs.CircuitFlow.Compiled.{IsCompiled}
+use Rattle.circuit_agreement.proofs.MemoryPorts.{unit_same}
+use Rattle.circuit_agreement.proofs.Nodes.{node_of, body_found, positive}
 use Rattle.circuit_agreement.proofs.CircuitStores.Operations.{Accesses, array_named}
 
 -- ---- remainders
@@ -242,8 +243,15 @@ module _ (p : Plan) (k : IsCompiled p) where
     class_of op one kind is e =
         (of_port op.kind op.bits kind).class op.array memories ∙ (ap (port memories) is ∙ cond-false _ _ _ (untabled one e))
 
-    port_is : (x : Placed) → port_of p a x ≡ unit_of p x
+    port_is : (x : Placed) → port_of p a x ≡ memory_port p a x
     port_is x = cond-false _ _ _ (ap is_some plain)
+
+    -- where both are at their times in one cycle
+    same_unit : (x z : Placed) → x.node ≡ i → z.node ≡ i → port_of p a x ≡ port_of p a z → x.op.start % (body_at p i).interval ≡ z.op.start % (body_at p i).interval → unit_of p x ≡ unit_of p z
+    same_unit x z e d same turn =
+        let wide : span p i ≡ (body_at p i).interval = (positive p i n k there).1 in
+        let turn_of : (y : Placed) → y.node ≡ i → y.op.start % span p y.node ≡ y.op.start % (body_at p i).interval = λ y l. ap (λ (q : ℕ). y.op.start % span p q) l ∙ ap (λ (w : ℕ). y.op.start % w) wide in
+        unit_same p a x z (e ∙ sym d) (turn_of x e ∙ (turn ∙ sym (turn_of z d))) (sym (port_is x) ∙ (same ∙ port_is z))
 
     -- an access in this node
     record InNode (j : ℕ) (it : TimedOp) : Type 0 where
@@ -287,9 +295,8 @@ module _ (p : Plan) (k : IsCompiled p) where
     pub one_user : (x z : Placed) → Accesses p a x → Accesses p a z → x.node ≡ i → z.node ≡ i → port_of p a x ≡ port_of p a z
         → x.op.start % (body_at p i).interval ≡ z.op.start % (body_at p i).interval → x.number ≡ z.number
     one_user x z h g e d same turn =
-        let unit : (y : Placed) → y.node ≡ i → port_of p a y ≡ get_or (get_or p.units i []) y.number 0 =
-        λ y l. port_is y ∙ ap (λ (q : ℕ). get_or (get_or p.units q []) y.number 0) l in
-        let units : get_or (get_or p.units i []) x.number 0 ≡ get_or (get_or p.units i []) z.number 0 = sym (unit x e) ∙ (same ∙ unit z d) in
+        let unit : (y : Placed) → y.node ≡ i → unit_of p y ≡ get_or (get_or p.units i []) y.number 0 = λ y l. ap (λ (q : ℕ). get_or (get_or p.units q []) y.number 0) l in
+        let units : get_or (get_or p.units i []) x.number 0 ≡ get_or (get_or p.units i []) z.number 0 = sym (unit x e) ∙ (same_unit x z e d same turn ∙ unit z d) in
         elim (cases_eq x.number z.number) [
           | inl is ↦ is
           | inr differ ↦ absurd (elim (cases_lt z.op.start x.op.start) [

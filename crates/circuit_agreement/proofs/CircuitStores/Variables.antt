@@ -13,7 +13,7 @@ use Rattle.datapath.specs.Control.{is_taken}
 use Rattle.datapath.specs.Values.{argument_writes, kept_writes, out_writes, variable_writes}
 use Rattle.datapath.specs.Circuits.{IsCycle, IsAfter}
 use Rattle.clock_runs.proofs.Lists.{some_same}
-use Rattle.circuit_flow.specs.Compiled.{IsCompiled}
+use Rattle.circuit_agreement.specs.CircuitFlow.Compiled.{IsCompiled}
 use Rattle.circuit_agreement.proofs.CircuitStores.Lists.{Has, has_kept, from_kept, has_numbered, from_numbered, Numbered}
 use Rattle.circuit_agreement.proofs.CircuitStores.Wanted.{some_wanted, all_wanted, none_wanted, none_all, all_both, any_both}
 use Rattle.circuit_agreement.proofs.CircuitStores.Outside.{IsResting, no_outs}

@@ -20,10 +20,10 @@ use Rattle.rtl_logic.specs.Choosing.{Write, where_, Takes}
 use Rattle.datapath.specs.Reading.{at as at_node, operand, is_true, is_starting, arguments, is_allowed}
 use Rattle.datapath.specs.Units.{is_of_class, users}
 use Rattle.datapath.specs.Standing.{IsInside}
-use Rattle.circuit_flow.specs.Compiled.{IsCompiled}
-use Rattle.circuit_flow.specs.Reads.{by_argument, by_guard}
-use Rattle.circuit_flow.specs.Flows.{Sees}
-use Rattle.circuit_flow.proofs.Nodes.{positive}
+use Rattle.circuit_agreement.specs.CircuitFlow.Compiled.{IsCompiled}
+use Rattle.circuit_agreement.specs.CircuitFlow.Reads.{by_argument, by_guard}
+use Rattle.circuit_agreement.specs.CircuitFlow.Flows.{Sees}
+use Rattle.circuit_agreement.proofs.Nodes.{positive}
 use Rattle.circuit_agreement.specs.UnitResults.UnderWay.{IsWithin, placed_at}
 use Rattle.circuit_agreement.proofs.UnitResults.Lists.{In, in_filter, from_filter, want_some, want_all}
 use Rattle.circuit_agreement.proofs.UnitResults.Times.{same_rest}

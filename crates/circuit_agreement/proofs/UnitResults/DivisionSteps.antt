@@ -16,7 +16,7 @@ use Rattle.rtl_logic.specs.Choosing.{where_, Takes}
 use Rattle.datapath.specs.Reading.{is_starting, arguments}
 use Rattle.datapath.specs.Units.{is_of_class, users, top_bit, negated_if, is_dividing, left_negative, right_negative, next_dividend, next_remainder, division_write}
 use Rattle.datapath.specs.Circuits.{IsCycle, IsAfter}
-use Rattle.circuit_flow.specs.Compiled.{IsDivision}
+use Rattle.circuit_agreement.specs.CircuitFlow.Compiled.{IsDivision}
 use Rattle.circuit_agreement.specs.UnitResults.Divisions.{IsDivided, is_negative, absolute, differ}
 use Rattle.circuit_agreement.specs.UnitResults.UnderWay.{placed_at, HasStarted, Divides}
 use Rattle.circuit_agreement.specs.UnitResults.{HasWidths}

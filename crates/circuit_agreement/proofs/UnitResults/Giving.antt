@@ -18,8 +18,8 @@ use Rattle.datapath.specs.Units.{users, is_of_class, negated_if, has_signs, quot
 use Rattle.datapath.specs.Ports.{port_of}
 use Rattle.datapath.specs.Values.{word_read, computed, arriving_as, arriving_of, arriving}
 use Rattle.datapath.specs.Blocks.{IsSimple}
-use Rattle.circuit_flow.specs.Compiled.{IsCompiled, IsDivision}
-use Rattle.circuit_flow.specs.Flows.{Sees}
+use Rattle.circuit_agreement.specs.CircuitFlow.Compiled.{IsCompiled, IsDivision}
+use Rattle.circuit_agreement.specs.CircuitFlow.Flows.{Sees}
 use Rattle.circuit_agreement.specs.UnitResults.Divisions.{is_negative, absolute, differ}
 use Rattle.circuit_agreement.specs.UnitResults.UnderWay.{placed_at, HasStarted, HasUnderWay}
 use Rattle.circuit_agreement.specs.UnitResults.{UnitsGive}

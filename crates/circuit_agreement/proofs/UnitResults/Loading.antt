@@ -2,7 +2,7 @@
 use Rattle.std.proofs.Common.{◌≡◌, ℕ, zero, suc, ◌+◌, ◌*◌, ◌%◌, ◌^◌, ◌<◌, Bool, true, false, not, ◌&&◌, List, [], ◌∷◌, map, take, Option, Some, None, refl, sym, ap, ap₂, ◌∙◌, subst, inl, inr, true≢false, pow_pos, pow-add, arith}
 use Rattle.std.specs.Prelude.{slice_get, get_or, ◌==◌, ◌||◌, if◌then◌else◌, count_by, is_some}
 use Rattle.std.specs.List.{list_any}
-use Rattle.std.proofs.lemmas.Bool.{cases_Bool, cases_lt, and_parts, and_from, and_left, and_right, cond-true, cond-false, eqb-true, eq-eqb, or_left}
+use Rattle.std.proofs.lemmas.Bool.{cases_Bool, cases_lt, and_parts, and_from, and_left, and_right, cond-true, cond-false, eqb-true, eq-eqb, or_left, or_right, or_from, not_from_false}
 use Rattle.std.proofs.lemmas.Nat.{mul-add-lt, mod_below}
 use Rattle.std.proofs.Math.Nat.{mul_comm}
 use Rattle.hls_base.specs.ArrayAddress.{address_bits, subscript_bits, addresses}
@@ -17,14 +17,16 @@ use Rattle.ir_core.specs.FirstContents.{given_at, elements_or_none}
 use Rattle.clock_ir.specs.Flows.{TimedOp, Flow, is_at, operand_at, holds_at, given}
 use Rattle.clock_runs.proofs.Lists.{some_same}
 use Rattle.datapath.specs.Plans.{Plan, Placed, Array, array_of, no_array, array_at, depth, body_at, span, all_ops, unit_of}
-use Rattle.datapath.specs.Cycles.{Word, AddressOf, Contents, Signal, Cycle, in_cycle}
-use Rattle.rtl_logic.specs.Choosing.{Write, where_}
+use Rattle.datapath.specs.Cycles.{Initial, Word, AddressOf, Contents, Signal, Cycle, in_cycle, holds, resets}
+use Rattle.rtl_logic.specs.Choosing.{Write, where_, Takes}
 use Rattle.datapath.specs.Reading.{is_starting, arguments, is_allowed}
-use Rattle.datapath.specs.Ports.{is_load, is_store, is_array, port_of, accesses, at_port, loads, element_address, word_of, is_refused, read_word}
+use Rattle.datapath.specs.Control.{may_store}
+use Rattle.datapath.specs.Ports.{is_load, is_store, is_array, memory_port, port_of, port_count, accesses, at_port, loads, stores, element_address, is_storing, host_writes, outside_writes, is_enabled, word_of, is_refused, is_reading, read_word}
 use Rattle.datapath.specs.Circuits.{IsCycle, IsAfter}
-use Rattle.circuit_flow.specs.Compiled.{IsCompiled}
-use Rattle.circuit_flow.specs.Flows.{HoldsMemories}
-use Rattle.circuit_flow.proofs.Nodes.{shapes}
+use Rattle.circuit_agreement.specs.CircuitFlow.Compiled.{IsCompiled}
+use Rattle.circuit_agreement.specs.CircuitFlow.Flows.{HoldsMemories}
+use Rattle.circuit_agreement.proofs.MemoryPorts.{unit_same}
+use Rattle.circuit_agreement.proofs.Nodes.{shapes}
 use Rattle.circuit_agreement.specs.UnitResults.UnderWay.{placed_at}
 use Rattle.circuit_agreement.proofs.UnitResults.Lists.{In, Passes, in_filter, from_filter, any_true, any_false, want_some, want_all, counts_more, get_both}
 use Rattle.circuit_agreement.proofs.UnitResults.Times.{same_rest}
@@ -81,6 +83,10 @@ port_class : (p : Plan) (c : IsCompiled p) (array : ArrayId) (kind : OpKind) (bi
 port_class p c array o.Load bits of access is none = ap (port c.untimed.frame.memories.items) is ∙ cond-false _ _ _ (table_is p c array ∙ none)
 port_class p c array o.Store bits of access is none = ap (port c.untimed.frame.memories.items) is ∙ cond-false _ _ _ (table_is p c array ∙ none)
 port_class p c array kind bits of access is none = absurd (true≢false (sym access))
+
+pub taken_where : (b : Bool) (v w : ℕ) (other : Option ℕ) → b ≡ true → Takes (where_ b v ∷ []) other w → w ≡ v
+taken_where true v w other e t = t.wanted v refl ((λ e. refl), _)
+taken_where false v w other e t = absurd (true≢false (sym e))
 
 -- ---- who is at the port
 
@@ -196,9 +202,14 @@ module _ (p : Plan) (i : ℕ) (f : Flow) (x : Contents) (signals : Signal → �
             port_class p g.compiled array it.op.kind it.op.bits it.op.array (or_left (is_load it.op.kind) (is_store it.op.kind) is_load_) of none in
             let its : q.op.op.array ≡ Some array = name.is ∙ ap (λ (z : ArrayId). Some z) (same_array name.array_ array name.number) in
             let second : class_of memories q.op ≡ Some (u.Port array) = port_class p g.compiled array q.op.op.kind q.op.op.bits q.op.op.array h.access its none in
-            let its_port : unit_of p q ≡ n = sym (cond-false _ _ _ none) ∙ h.port_ in
-            let mine_port : n ≡ unit_of p mine = cond-false _ _ _ none in
-            (only p i f x signals pins g k 0 h.place it q (u.Port array) is started early first h.stands start second (its_port ∙ mine_port)).1
+            let its_port : memory_port p a q ≡ n = sym (cond-false _ _ _ none) ∙ h.port_ in
+            let mine_port : n ≡ memory_port p a mine = cond-false _ _ _ none in
+            let wide : span p i ≡ (body_at p i).interval = span_is p i f x signals pins g in
+            let its_turn : q.op.start % span p q.node ≡ f.time % span p i =
+            ap (λ (j : ℕ). q.op.start % span p j) s.here ∙ subst (λ (v : ℕ). q.op.start % v ≡ f.time % v) (sym wide) s.now in
+            let mine_turn : it.start % span p i ≡ f.time % span p i = subst (λ (v : ℕ). it.start % v ≡ f.time % v) (sym wide) (same_rest (body_at p i).interval it.start f.time now) in
+            let unit_ : unit_of p q ≡ unit_of p mine = unit_same p a q mine s.here (its_turn ∙ sym mine_turn) (its_port ∙ mine_port) in
+            (only p i f x signals pins g k 0 h.place it q (u.Port array) is started early first h.stands start second unit_).1
       ]
 
   -- ---- the word
@@ -256,9 +267,46 @@ module _ (p : Plan) (i : ℕ) (f : Flow) (x : Contents) (signals : Signal → �
   refused_so : allowed ≡ false → list_any (is_refused p c) (loads p a n) ≡ true
   refused_so e = any_true (is_refused p c) (loads p a n) load_in.place mine load_in.stands (and_from _ _ starts_mine (ap not (reads_guard p i f c k it g.sees is now ∙ e)))
 
+  -- nor does the host write, nor the initial sequence
+  outside_quiet : (m : ℕ) → outside_writes p c a m ≡ false
+  outside_quiet zero = by_host (array_at p a).host
+    where
+      by_host : (b : Bool) → (if b then host_writes p c a else is_some (array_at p a).first && holds c Initial) ≡ false
+      by_host true = and_left _ _ (and_left _ _ (ap (λ (v : ℕ). v == 1) g.inside.busy.ready))
+      by_host false = and_right (is_some (array_at p a).first) (holds c Initial) (ap (λ (v : ℕ). v == 1) g.inside.busy.initial)
+  outside_quiet (suc m) = refl
+
+  -- nothing is stored at the port
+  enabled_not : is_some (array_at p a).table ≡ false → is_enabled p c a n ≡ false
+  enabled_not none = and_left (list_any (is_storing p c) (stores p a n) || outside_writes p c a n) (not (resets c)) (or_from (list_any (is_storing p c) (stores p a n)) (outside_writes p c a n) none_stores none_outside)
+    where
+      none_stores : list_any (is_storing p c) (stores p a n) ≡ false
+      none_stores =
+          any_false (is_storing p c) (stores p a n) (λ m q at_.
+          let h = from_filter (λ (z : Placed). is_store z.op.op.kind) (at_port p a n) m q at_ in
+          elim (cases_Bool (is_starting p c q)) [
+            | inl start ↦
+                let same : q ≡ mine = one_access h.place q h.stands start in
+                let stores_ : is_store o.Load ≡ true = ap is_store (sym load) ∙ (ap (λ (z : Placed). is_store z.op.op.kind) (sym same) ∙ h.passes) in
+                absurd (true≢false (sym stores_))
+            | inr quiet ↦ and_left (may_store p c q) (is_allowed p c q) (and_left _ _ (and_left _ _ quiet))
+          ])
+
+      none_outside : outside_writes p c a n ≡ false
+      none_outside = outside_quiet n
+
+  reading : is_reading p c a n ≡ true
+  reading =
+      elim (cases_Bool (is_some (array_at p a).table)) [
+        | inl table ↦ or_left (is_some (array_at p a).table) (not ((port_count p a == 1) && is_enabled p c a n)) table
+        | inr none ↦
+            or_right (is_some (array_at p a).table) (not ((port_count p a == 1) && is_enabled p c a n))
+            (not_from_false ((port_count p a == 1) && is_enabled p c a n) (and_right (port_count p a == 1) (is_enabled p c a n) (enabled_not none)))
+      ]
+
   pub word_read : (y : Contents) → IsCycle p c → IsAfter p c y → HoldsMemories p f.memories x → y.regs (Word a n) ≡ given p.program.shapes (body_at p i) f it
   word_read y is_cycle after holds =
-      (after.regs (Word a n)).wanted (read_word p c a n) refl ((λ e. refl), _)
+      taken_where (is_reading p c a n) (read_word p c a n) (y.regs (Word a n)) (Some (x.regs (Word a n))) reading (after.regs (Word a n))
       ∙ elim (cases_Bool allowed) [
         | inl yes_ ↦
             cond-false _ _ _ (refused_not yes_)

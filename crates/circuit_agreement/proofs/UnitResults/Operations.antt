@@ -17,8 +17,8 @@ use Rattle.datapath.specs.Plans.{Plan, Placed, body_of, body_at, span, numbered,
 use Rattle.datapath.specs.Cycles.{Register, Time, Active, Contents, Cycle, holds}
 use Rattle.datapath.specs.Reading.{at, is_starting}
 use Rattle.datapath.specs.Standing.{IsInside}
-use Rattle.circuit_flow.specs.Compiled.{IsCompiled}
-use Rattle.circuit_flow.proofs.Nodes.{body_found}
+use Rattle.circuit_agreement.specs.CircuitFlow.Compiled.{IsCompiled}
+use Rattle.circuit_agreement.proofs.Nodes.{body_found}
 use Rattle.circuit_agreement.specs.UnitResults.UnderWay.{placed_at}
 use Rattle.circuit_agreement.proofs.UnitResults.Lists.{In, Mapped, from_map, in_map, in_numbered, from_numbered, in_flat, from_flat, get_map}
 use Rattle.circuit_agreement.proofs.UnitResults.Times.{shows, shown}

@@ -4,8 +4,8 @@ use Rattle.std.specs.Prelude.{slice_get}
 use Rattle.clock_ir.specs.Flows.{TimedOp, TimedBody, Flow, is_at, first_flow, tick}
 use Rattle.clock_ir.specs.ClockRuns.{block}
 use Rattle.datapath.specs.Plans.{Plan, body_at}
-use Rattle.circuit_flow.specs.Compiled.{IsDivision}
-use Rattle.circuit_flow.proofs.Nodes.{body_found, positive}
+use Rattle.circuit_agreement.specs.CircuitFlow.Compiled.{IsDivision}
+use Rattle.circuit_agreement.proofs.Nodes.{body_found, positive}
 use Rattle.circuit_agreement.specs.UnitResults.UnderWay.{IsWithin, HasStarted, Divides}
 use Rattle.circuit_agreement.specs.UnitResults.{UnitsBegin, UnitsStep}
 use Rattle.circuit_agreement.proofs.UnitResults.Times.{at_parts, at_before}

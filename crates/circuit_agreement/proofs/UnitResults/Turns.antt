@@ -22,8 +22,8 @@ use Rattle.clock_ir.specs.ClockRuns.{TimedNode, block, timed_node}
 use Rattle.clock_ir.specs.WellTimed.{class_in, occupancy_in, ShareUnit, IsWellTimedNode}
 use Rattle.clock_runs.proofs.Lists.{some_same}
 use Rattle.datapath.specs.Plans.{Plan, body_of, body_at, node_units, unit_of}
-use Rattle.circuit_flow.specs.Compiled.{IsCompiled}
-use Rattle.circuit_flow.proofs.Nodes.{node_of, body_found}
+use Rattle.circuit_agreement.specs.CircuitFlow.Compiled.{IsCompiled}
+use Rattle.circuit_agreement.proofs.Nodes.{node_of, body_found}
 use Rattle.circuit_agreement.specs.UnitResults.UnderWay.{IsWithin, placed_at}
 use Rattle.circuit_agreement.proofs.UnitResults.Times.{near, at_parts, same_rest}
 use Rattle.circuit_agreement.proofs.UnitResults.Operations.{OpOf, op_of, units_found}

@@ -30,8 +30,8 @@ use Rattle.clock_runs.proofs.Lists.{no_some, some_same}
 use Rattle.datapath.specs.Plans.{Plan, body_of, body_at}
 use Rattle.datapath.specs.Cycles.{Variable, Value, Contents, Signal, Cycle, in_cycle}
 use Rattle.datapath.specs.Reading.{is_place, held_by, read_from, read_by, operand}
-use Rattle.circuit_flow.specs.Compiled.{SourceFits, OperandFits, IsCompiled}
-use Rattle.circuit_flow.proofs.Nodes.{node_of, body_found}
+use Rattle.circuit_agreement.specs.CircuitFlow.Compiled.{SourceFits, OperandFits, IsCompiled}
+use Rattle.circuit_agreement.proofs.Nodes.{node_of, body_found}
 use Rattle.circuit_agreement.specs.UnitResults.{HasWidths}
 use Rattle.circuit_agreement.proofs.UnitResults.Lists.{Passes, in_filter, Mapped, from_map, from_both}
 

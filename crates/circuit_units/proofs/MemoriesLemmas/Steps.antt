@@ -73,6 +73,16 @@ sets_behind p names d e f a n address first h = record {
   outputs = h.outputs ∙ ap (λ (x : Netlist). x.outputs) first.is;
 }
 
+pub sets_all_behind : (p : Plan) (names : List Register) (d e f : Netlist) (a : ℕ) (addresses : List Atom) → Appends d e → SetsWords p names e f a addresses → SetsWords p names d f a addresses
+sets_all_behind p names d e f a addresses first h = record {
+  extends = goes_on d e f (appended d e first) h.extends;
+  begun = h.begun;
+  others = λ k r here apart. h.others k r here apart ∙ ap (λ (x : Netlist). slice_get x.regs k) first.is;
+  driven = h.driven;
+  mems = h.mems ∙ ap (λ (x : Netlist). x.mems) first.is;
+  outputs = h.outputs ∙ ap (λ (x : Netlist). x.outputs) first.is;
+}
+
 pub no_table_ports : (p : Plan) (names : List Register) (d : Netlist) (a : ℕ) → IsBegun p names d → MakesTablePorts p names d d a []
 no_table_ports p names d a begun = record { sets = no_words p names d a begun; shown = λ n w at. absurd (none-some w at) }
 

@@ -17,7 +17,7 @@ use Rattle.datapath.specs.Plans.{Plan, array_at, depth}
 use Rattle.datapath.specs.Cycles.{Register, Word, Contents, Signal, AddressOf, StoredOf, Cycle, in_cycle}
 use Rattle.datapath.specs.Circuits.{signal_writes, signal_else}
 use Rattle.datapath.specs.Netlists.{memory_of}
-use Rattle.datapath.specs.Ports.{port_count, loads, is_enabled, is_refused, word_of, outside_address, outside_word, outside_writes}
+use Rattle.datapath.specs.Ports.{port_count, loads, is_enabled, is_refused, is_reading, word_of, outside_address, outside_word, outside_writes}
 use Rattle.datapath.specs.CircuitWires.Carrying.{IsMoment, IsBegun, Tells, CarriesWanted}
 use Rattle.circuit_context.specs.declared.wanted.log.Groups.{Groups}
 use Rattle.circuit_context.specs.declared.wanted.log.Push.{Push}
@@ -31,6 +31,7 @@ use Rattle.circuit_context.specs.Contexts.{IsContext}
 use Rattle.circuit_units.specs.declared.memories.memories.PortWires.{PortWires}
 use Rattle.circuit_units.specs.declared.memories.places.Place.{Place}
 use Rattle.circuit_units.specs.declared.memories.places.Outside.{Outside}
+use Rattle.circuit_units.specs.declared.memories.words.Reading.{Reading}
 use Rattle.circuit_units.specs.Memories.{array_signals}
 
 -- ---- what is known
@@ -150,6 +151,28 @@ pub record ReadsWord (p : Plan) (names : List Register) (d : Netlist) (a : ℕ) 
 -- the words of an array at these addresses
 abbrev pub ReadWords : Plan → List Register → Netlist → ℕ → List Atom → List Atom → Type 0
 ReadWords p names d a addresses words = (n : ℕ) (word : Atom) → slice_get words n ≡ Some word → (address : Atom) × (slice_get addresses n ≡ Some address) × ReadsWord p names d a address word
+
+-- a word, and the bit that tells whether it is read
+abbrev pub reading_at : Atom → Atom → Reading
+reading_at when word = record { word = word; when = when }
+
+-- the words of an array at these addresses, each with the bit that tells whether it is read at its port
+pub record IsReading (p : Plan) (names : List Register) (d : Netlist) (a n : ℕ) (address : Atom) (read : Reading) : Type 0 where
+  pub word : ReadsWord p names d a address read.word
+  pub when : Tells p names d read.when (λ c. is_reading p c a n)
+
+abbrev pub AreReadings : Plan → List Register → Netlist → ℕ → List Atom → List Reading → Type 0
+AreReadings p names d a addresses reads = (n : ℕ) (read : Reading) → slice_get reads n ≡ Some read → (address : Atom) × (slice_get addresses n ≡ Some address) × IsReading p names d a n address read
+
+-- the bit that tells whether the only port writes
+abbrev pub enable_of_only : List Port → Option Atom
+enable_of_only (port ∷ []) = Some port.enable
+enable_of_only ports = None
+
+-- this atom tells whether the only port of a memory writes; there is none where it has more than one
+abbrev pub TellsOnly : Plan → List Register → Netlist → ℕ → Option Atom → Type 0
+TellsOnly p names d a None = port_count p a ≢ 1
+TellsOnly p names d a (Some enable) = (port_count p a ≡ 1) × ((array_at p a).table ≡ None) × Tells p names d enable (λ c. is_enabled p c a 0)
 
 -- the word of each address, of these elements of an array
 pub record AreWordsOf (p : Plan) (a : ℕ) (elements words : List ℕ) : Type 0 where

@@ -1,12 +1,13 @@
 //! The memories and tables.
-ghost use Rattle.std.specs.Prelude.{◌≡◌, ◌<◌, ◌∷◌, [], List, IfOk, OnOk, None, Some, true, length, map, slice_get};
+ghost use Rattle.std.specs.Prelude.{◌≡◌, ◌<◌, ◌∷◌, [], ℕ, List, IfOk, OnOk, None, Some, true, length, map, slice_get};
 ghost use Rattle.program_validity.specs.Frames.{is_memory};
 ghost use Rattle.rtl_units.specs.Fragments.{grown, memory_with, port_wires, wires_from};
 ghost use Rattle.rtl_logic.specs.Making.{circuit};
 ghost use Rattle.datapath.specs.Plans.{Plan, array_at, array_of};
 ghost use Rattle.datapath.specs.Cycles.{Register};
 ghost use Rattle.datapath.specs.Netlists.{memory_of};
-ghost use Rattle.datapath.specs.CircuitWires.Carrying.{IsBegun};
+ghost use Rattle.datapath.specs.Ports.{is_reading};
+ghost use Rattle.datapath.specs.CircuitWires.Carrying.{IsBegun, MakesTelling};
 ghost use Rattle.circuit_context.specs.declared.wanted.log.Push.{Push};
 ghost use Rattle.circuit_context.specs.declared.wanted.role.Target.{Target};
 ghost use Rattle.circuit_context.specs.Wanted.Roles.{given, choices_of};
@@ -15,19 +16,20 @@ ghost use Rattle.circuit_context.specs.Wanted.Logs.{ArePushes};
 ghost use Rattle.circuit_context.specs.Wanted.Driving.{AreDistinct};
 ghost use Rattle.circuit_context.specs.Contexts.{IsContext};
 ghost use Rattle.circuit_units.specs.Memories.{AddsMemories};
-ghost use Rattle.circuit_units.specs.Memories.Places.{IsReady, IsPlace, AddsArray, wires_at};
+ghost use Rattle.circuit_units.specs.Memories.Places.{IsReady, IsPlace, AddsArray, TellsOnly, enable_of_only, wires_at};
 
 use crate::memories::outside::outside_access;
 use crate::memories::places::{Place, number_of, place_of};
 use crate::memories::ports::make_ports;
 use crate::memories::tables::{table_ports, words_of};
-use crate::memories::words::set_words;
+use crate::memories::words::{readings, set_words};
 use circuit_context::context::Context;
 use circuit_context::wanted::log::Groups;
 use hls_base::number::ArrayId;
 use ir_core::cfg::Memory;
 use rtl_core::design::{Atom, Port};
 use rtl_logic::logic::Logic;
+use rtl_logic::select::constant;
 use rtl_units::builder::{Fragment, Pins};
 use std::alloc::{AllocError, Global};
 
@@ -76,6 +78,28 @@ fn append_memory(
     logic.builder.add(alloc, fragment)
 }
 
+/// The bit that tells whether a port writes, of a memory with no other one.
+fn only_enable(ports: &[Port]) -> Option<Atom>
+    ensures { result ≡ enable_of_only ports.now }
+{
+    if ports.len() == 1 {
+        Some(ports[0].enable)
+    } else {
+        None
+    }
+}
+
+/// The bit that tells whether the words of a memory are read: not where its only port writes.
+fn read_bit(logic: &mut Logic, enable: Option<Atom>) -> Result<Atom, AllocError>
+    ensures { (p : Plan) (names : List Register) (a : ℕ) → IsBegun p names (circuit logic.old) → TellsOnly p names (circuit logic.old) a enable
+        → IfOk result (λ when. MakesTelling p names (circuit logic.old) (circuit logic.new) when (λ c. is_reading p c a 0)) }
+{
+    match enable {
+        Some(enable) => logic.not(enable),
+        None => Ok(constant(1, 1)),
+    }
+}
+
 /// Adds a memory.
 fn add_memory(
     of: &Context<'_>,
@@ -93,8 +117,11 @@ fn add_memory(
     let outside = outside_access(of, logic, memory, first)?;
     let ports = make_ports(of, logic, groups, first, outside)?;
     let wires = wires_of(of.alloc, &ports)?;
+    let enable = only_enable(&ports);
     let pins = append_memory(of.alloc, logic, first, ports)?;
-    set_words(of, logic, groups, first, &pins.atoms)?;
+    let when = read_bit(logic, enable)?;
+    let reads = readings(of.alloc, &pins.atoms, when)?;
+    set_words(of, logic, groups, first, &reads)?;
     Ok(wires)
 }
 

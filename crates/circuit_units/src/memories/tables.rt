@@ -11,7 +11,7 @@ ghost use Rattle.circuit_units.specs.Memories.Places.{IsReady, IsPlace, IsInside
 use crate::memories::memories::PortWires;
 use crate::memories::places::{Place, ports_of};
 use crate::memories::ports::chosen;
-use crate::memories::words::set_word;
+use crate::memories::words::{Reading, set_word};
 use circuit_context::context::Context;
 use circuit_context::wanted::log::Groups;
 use circuit_context::wanted::role::Target;
@@ -52,7 +52,8 @@ fn table_port(
     let addresses = groups.choices(Target::Address { array, port });
     let address = chosen(of.alloc, logic, place.depth, addresses, None)?;
     let word = table_word(of.alloc, logic, place.bits, words, address)?;
-    set_word(of, logic, groups, place, word)?;
+    let when = constant(1, 1);
+    set_word(of, logic, groups, place, Reading { word, when })?;
     let stored = constant(place.bits, 0);
     Ok(PortWires { address, stored })
 }

@@ -131,20 +131,6 @@ pub fn at_least_one(number: u64) -> u64
     if number == 0 { 1 } else { number }
 }
 
-/// The name of the node with this number; there are fewer than 2^32.
-pub fn node_id(number: usize) -> NodeId
-    ensures { result.0 ≡ min number (2 ^ 32 - 1) }
-{
-    NodeId(u32::try_from(number).unwrap_or(u32::MAX))
-}
-
-/// The name of the array with this number; there are fewer than 2^32.
-pub fn array_id(number: usize) -> ArrayId
-    ensures { result.0 ≡ min number (2 ^ 32 - 1) }
-{
-    ArrayId(u32::try_from(number).unwrap_or(u32::MAX))
-}
-
 /// The bits of a number: the powers of two that are not above it.
 pub fn bits_of(number: u64) -> u8
     ensures value { result ≡ plans.bits_of number }

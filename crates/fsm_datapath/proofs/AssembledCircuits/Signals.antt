@@ -13,7 +13,7 @@ use Rattle.datapath.specs.Cycles as c
 use Rattle.datapath.specs.Cycles.{Signal, Cycle}
 use Rattle.datapath.specs.Circuits.{signal_writes, signal_else}
 use Rattle.datapath.specs.Units.{is_of_class, users}
-use Rattle.datapath.specs.Ports.{port_of, port_count, accesses, at_port, is_store, outside_address, outside_word}
+use Rattle.datapath.specs.Ports.{port_of, last_port, port_count, accesses, at_port, is_store, outside_address, outside_word}
 use Rattle.circuit_context.specs.declared.wanted.role.UnitKind.{UnitKind}
 use Rattle.circuit_context.specs.declared.wanted.role.UnitKind.TheVariants as kind
 use Rattle.circuit_context.specs.declared.wanted.role.SharedUnit.{SharedUnit}
@@ -179,12 +179,12 @@ max_over f low (y ∷ xs) (suc k) x at_ = max_over f (max low (f y + 1)) xs k x 
 
 -- the first port is always there
 some_port : (p : Plan) (a : ℕ) → 1 ≤ port_count p a
-some_port p a = max_from (port_of p a) 1 (accesses p a)
+some_port p a = max_from (last_port p a) 1 (accesses p a)
 
 -- behind the last port nothing is read or written
 no_access : (p : Plan) (a n : ℕ) → port_count p a ≤ n → at_port p a n ≡ []
 no_access p a n past =
-    filter_none _ (accesses p a) (λ x has e. let low : port_of p a x < port_count p a = max_over (port_of p a) 1 (accesses p a) has.0 x has.1 in
+    filter_none _ (accesses p a) (λ x has e. let low : last_port p a x < port_count p a = max_over (last_port p a) 1 (accesses p a) has.0 x has.1 in
     let same : port_of p a x ≡ n = eqb-true (port_of p a x) n e in omega (arith, low, same, past))
 
 no_address : (p : Plan) (cycle : Cycle) (a n : ℕ) → 1 ≤ n → outside_address p cycle a n ≡ None

@@ -102,7 +102,7 @@ module _ (p : Plan) (gates stages : ℕ) (units : UnitTable) (ports : PortTable)
   fits (reg.QuotientSign bits n) out = fitting_one 1 _ (mod-lt _ (omega arith))
   fits (reg.RemainderSign bits n) out = fitting_one 1 _ (bit_fits (left_negative cycle bits n))
   fits (reg.Word a n) out =
-      fitting_one _ _ (read_fits p gates stages units ports d s pins x signals parts moment else_ a n (λ within inside. not_there p gates stages (registers_of p units) (reg.Word a n) out (within, inside)))
+      ((λ e. read_fits p gates stages units ports d s pins x signals parts moment else_ a n (λ within inside. not_there p gates stages (registers_of p units) (reg.Word a n) out (within, inside))), tt)
   fits reg.Named out = fitting_one (named_bits p) _ (mod-lt (select_of pins) (pow_pos (named_bits p)))
 
   pub may_take : (r : Register) → IsLeftOut r → MayTake p r cycle

@@ -7,7 +7,7 @@ use Rattle.circuit_context.proofs.ports.ports_in.Goals as goal
 
 pub reach_all-requires : goal.reach_all-requires
 reach_all-requires c =
-    ap length c.deref.ensures.value ∙ (ap length c.in_ok-row.ensures ∙ ports_length (tables_in c.args.memories.now) c.span.result [] c.ops_of.result.now)
+    ap length c.deref.ensures.value ∙ (ap length c.in_ok-row.ensures ∙ ports_length (tables_in c.args.memories.now) c.span.result c.ops_of.result.now [] c.ops_of.result.now)
     ∙ ap length (c.ops_of.ensures ∙ sym c.ops_of-in-loop-node.ensures)
 
 pub loop-node-preserved : goal.loop-node-preserved

@@ -1,12 +1,15 @@
 use Rattle.std.proofs.Common.{◌≡◌, ◌∙◌, ◌<◌, ◌^◌, length, ap, sym, subst, arith}
+use Rattle.std.specs.Prelude.{is_some}
 use Rattle.std.specs.List.{All}
+use Rattle.std.proofs.lemmas.Bool.{or_left}
 use Rattle.std.proofs.lemmas.Nat.{pow_pos}
 use Rattle.rtl_core.specs.Valid.{IsBetween}
 use Rattle.rtl_logic.specs.Making.{circuit}
 use Rattle.rtl_logic.proofs.Making.{appended, appends_both, goes_on}
 use Rattle.datapath.specs.Plans.{array_at}
-use Rattle.datapath.specs.Ports.{address_writes, outside_address}
-use Rattle.datapath.specs.CircuitWires.Carrying.{CarriesWanted}
+use Rattle.datapath.specs.Cycles.{bit}
+use Rattle.datapath.specs.Ports.{address_writes, outside_address, is_reading}
+use Rattle.datapath.specs.CircuitWires.Carrying.{CarriesWanted, Tells}
 use Rattle.datapath.proofs.Combining.{begun_after}
 use Rattle.circuit_context.specs.declared.wanted.role.Target.TheVariants as t
 use Rattle.circuit_units.specs.Memories.Places.{AreChoices}
@@ -44,7 +47,12 @@ returns c = λ p names elements ready place inside table words.
     let to_f = appended e f word.appends in
     let begun_f = begun_after p names e f made.begun word.appends word.sound in
     let reads = table_read p names e f a bits elements c.args.words.now c.in_ok-address.address c.in_ok-word.word place.bits table words word in
-    let sets = c.in_ok-set_word.ensures p names c.in_ok-address.address (ready_later p names c.args.of.now c.args.groups.now d f (goes_on d e f to_e to_f) begun_f ready) place reads in
+    let one = number_carries p names f 1 1 c.constant-when.result (omega arith, omega arith) (omega arith) c.constant-when.ensures in
+    let when : Tells p names f c.constant-when.result (λ x. is_reading p x a n) = record {
+      fits = one.fits;
+      value_ = λ h s pins x signals m. one.value_ h s pins x signals m ∙ sym (ap bit (or_left (is_some (array_at p a).table) _ (ap is_some table)));
+    } in
+    let sets = c.in_ok-set_word.ensures p names c.in_ok-address.address (ready_later p names c.args.of.now c.args.groups.now d f (goes_on d e f to_e to_f) begun_f ready) place reads when in
     let none = number_carries p names d bits 0 c.constant-stored.result small (pow_pos bits) c.constant-stored.ensures in
     record {
       sets = sets_behind p names d f g a n c.in_ok-address.address (appends_both d e f made.appends word.appends) sets;

@@ -13,7 +13,7 @@ use Rattle.circuit_units.proofs.MemoriesLemmas.Registers.{word_set}
 use Rattle.circuit_units.proofs.memories.words.set_word.Goals as goal
 
 pub returns : goal.returns
-returns c = λ p names address ready place reads.
+returns c = λ p names address ready place reads tells.
     let d = circuit c.args.logic.now in
     let e = circuit c.any.new.self in
     let f = circuit c.pick.new.self in
@@ -29,7 +29,7 @@ returns c = λ p names address ready place reads.
     let refused = refused_tells p names d e id.0 n choices atoms c.in_ok-refused.refused ready.begun refusals are (c.in_ok-refused.ensures ready.begun.sound (bits_fit d 1 choices atoms refusals.fit are)) in
     let longer = appended d e refused.appends in
     let none = number_carries p names e bits 0 c.constant.result small (pow_pos bits) c.constant.ensures in
-    let word : HasBits (widths e) bits c.args.word = fits_later d e longer bits c.args.word (subst (λ k. HasBits (widths d) k c.args.word) (sym place.bits) reads.fits) in
-    word_set p names d e f g id.0 n bits address c.args.word c.in_ok-register.register c.in_ok-refused.refused c.constant.result c.constant-2.result c.in_ok-next.next ready.begun ready.distinct place.wide place.bits
-    (bank_register p names c.args.of.now c.in_ok-register.register (Word id.0 n) ready.context c.in_ok-register.ensures) reads refused c.constant.ensures c.constant-2.ensures
+    let word : HasBits (widths e) bits c.args.read.word = fits_later d e longer bits c.args.read.word (subst (λ k. HasBits (widths d) k c.args.read.word) (sym place.bits) reads.fits) in
+    word_set p names d e f g id.0 n bits address c.args.read.word c.args.read.when c.in_ok-register.register c.in_ok-refused.refused c.constant.result c.in_ok-next.next ready.begun ready.distinct place.wide place.bits
+    (bank_register p names c.args.of.now c.in_ok-register.register (Word id.0 n) ready.context c.in_ok-register.ensures) reads tells refused c.constant.ensures
     (c.in_ok-next.ensures bits refused.begun.sound small refused.carries.fits none.fits word) c.set.ensures

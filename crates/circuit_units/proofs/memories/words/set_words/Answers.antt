@@ -4,7 +4,7 @@ use Rattle.std.proofs.lemmas.Option.{slice_get-get_or}
 use Rattle.rtl_logic.specs.Making.{circuit}
 use Rattle.circuit_units.specs.Memories.Places.{SetsWords}
 use Rattle.circuit_units.proofs.MemoriesLemmas.Arrays.{ready_later}
-use Rattle.circuit_units.proofs.MemoriesLemmas.Registers.{no_words, read_later}
+use Rattle.circuit_units.proofs.MemoriesLemmas.Registers.{no_words, reading_later}
 use Rattle.circuit_units.proofs.MemoriesLemmas.Steps.{place_at, words_taken}
 use Rattle.circuit_units.proofs.memories.words.set_words.Goals as goal
 
@@ -18,11 +18,12 @@ loop-port-preserved c = λ p names addresses ready place reads counts.
     let f = circuit c.set_word.new.logic in
     let a = c.args.first.array.0 in
     let n = c.loop-port.port in
-    let within : n < length c.args.words.now = omega (arith, c.counted-port-end.ensures) in
-    let there = reads n _ (slice_get-get_or c.args.words.now n _ within) in
+    let within : n < length c.args.reads.now = omega (arith, c.counted-port-end.ensures) in
+    let there = reads n _ (slice_get-get_or c.args.reads.now n _ within) in
     let h : SetsWords p names d e a (take n addresses) = c.loop-port.invariant p names addresses ready place reads counts in
+    let later = reading_later p names d e a n there.0 _ h.extends in
     words_taken p names d e f a n addresses there.0 there.1 h
-    (c.in_ok-set_word.ensures p names there.0 (ready_later p names c.args.of.now c.args.groups.now d e h.extends h.begun ready) (place_at p c.args.first n place) (read_later p names d e a there.0 _ h.extends there.2))
+    (c.in_ok-set_word.ensures p names there.0 (ready_later p names c.args.of.now c.args.groups.now d e h.extends h.begun ready) (place_at p c.args.first n place) (later there.2).word (later there.2).when)
 
 pub returns : goal.returns
 returns c = λ p names addresses ready place reads counts.

@@ -1,0 +1,5 @@
+use Rattle.circuit_agreement.proofs.NodeEnds.Staying.{variables_stay_in_blocks}
+use Rattle.circuit_agreement.proofs.circuit_flow.node_ends.variables_stay_in_blocks.Goals as goal
+
+pub returns : goal.returns
+returns c = variables_stay_in_blocks
