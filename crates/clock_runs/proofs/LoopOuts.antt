@@ -73,6 +73,6 @@ maker_again k [] v j h e = absurd (no_some e)
 maker_again k (x ∷ xs) v j h e = elim (cases_Bool (x.variable.0 == v)) [
   | inl on ↦
       let same : h.0.0 ≡ j = some_same (sym (made_here x xs v h.0.0 h.0.1.0 on) ∙ e) in
-      cond-true _ _ _ on ∙ ap (λ z. rules.result_or (rules.result_of z) (rules.maker v xs)) h.0.1.0 ∙ ap (λ z. Some z) same
+      cond-true _ _ _ on ∙ ap (λ z. rules.result_or (result_of z) (rules.maker v xs)) h.0.1.0 ∙ ap (λ z. Some z) same
   | inr off ↦ cond-false _ _ _ off ∙ maker_again k xs v j h.1 (sym (cond-false _ _ _ off) ∙ e)
 ]

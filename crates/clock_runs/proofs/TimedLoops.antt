@@ -185,7 +185,7 @@ module _ (shapes : Shapes) (memories : List Memory) (region : Loop Untimed) (tim
   exit_as x (source.Constant c) distance e is h = (let at : known s.body ≡ 0 = untimed_test (Some x) e ∙ ap (λ y. ready_if s.body (result_of y)) is in omega arith)
   exit_as x (source.Variable v) distance e is h = (let at : known s.body ≡ 0 = untimed_test (Some x) e ∙ ap (λ y. ready_if s.body (result_of y)) is in omega arith)
   exit_as x (source.Result j) distance e is h =
-      let known_then : lowest.known_at region.body.ops.items times (rules.test_maker region.body.test) ≡ lowest.ready region.body.ops.items times j = ap (λ p. lowest.known_at region.body.ops.items times (rules.test_maker p)) e ∙ ap (λ y. lowest.known_at region.body.ops.items times (rules.result_of y)) is in
+      let known_then : lowest.known_at region.body.ops.items times (test_maker region.body.test) ≡ lowest.ready region.body.ops.items times j = ap (λ p. lowest.known_at region.body.ops.items times (test_maker p)) e ∙ ap (λ y. lowest.known_at region.body.ops.items times (result_of y)) is in
       let there = ready_then j h.1 in
       let leave = well.can_leave.test in
       let at : known s.body ≡ available s j.0 = untimed_test (Some x) e ∙ ap (λ y. ready_if s.body (result_of y)) is ∙ ready_is s j h.1 in
@@ -195,11 +195,11 @@ module _ (shapes : Shapes) (memories : List Memory) (region : Loop Untimed) (tim
   exit_known None e h = (let at = untimed_test None e in omega arith)
   exit_known (Some x) e h = exit_as x x.value x.distance e refl h
 
-  taken_then : (x : Out) → IsMade region.body.outs.items x → lowest.IsReadyBy (timed.exit + timed.ii) region.body.ops.items times (rules.result_of x.value.value) → IsTaken s timed.exit x
+  taken_then : (x : Out) → IsMade region.body.outs.items x → lowest.IsReadyBy (timed.exit + timed.ii) region.body.ops.items times (result_of x.value.value) → IsTaken s timed.exit x
   taken_then x m h =
       let j = m.0 in
       let l = links x.variable.0 j m.1.1 in
-      let by : lowest.ready region.body.ops.items times j ≤ timed.exit + timed.ii = subst (λ y. lowest.IsReadyBy (timed.exit + timed.ii) region.body.ops.items times (rules.result_of y)) m.1.0 h in
+      let by : lowest.ready region.body.ops.items times j ≤ timed.exit + timed.ii = subst (λ y. lowest.IsReadyBy (timed.exit + timed.ii) region.body.ops.items times (result_of y)) m.1.0 h in
       let there = ready_then j l.within in
       (j, (m.1.0, carried_at s region.body copy times (suc timed.ii) (kept (suc timed.ii)) links timed.exit x.variable.0 j m.1.1 (omega arith)))
 
@@ -209,11 +209,11 @@ module _ (shapes : Shapes) (memories : List Memory) (region : Loop Untimed) (tim
     known = exit_known region.body.test refl test_operand;
     stored = λ k lt store.
         (let f = copy.found k lt in
-        let stores : rules.is_store f.0.kind ≡ true = ap (λ (op : OpTree). rules.is_store op.kind) (copy.ops k f.0 f.1).1 ∙ ap rules.is_store (store_kind (op_at s k).op.kind store) in
+        let stores : is_store f.0.kind ≡ true = ap (λ (op : OpTree). is_store op.kind) (copy.ops k f.0 f.1).1 ∙ ap is_store (store_kind (op_at s k).op.kind store) in
         let done = well.can_leave.stores k f.0 (nth_get region.body.ops.items k f.0 f.1) stores in
         let start = (kept 0).starts k lt in
         omega arith);
-    outs = subst (Each (IsTaken s timed.exit)) (sym same_outs) (each_both (IsMade region.body.outs.items) (λ (x : Out). lowest.IsReadyBy (timed.exit + timed.ii) region.body.ops.items times (rules.result_of x.value.value)) (IsTaken s timed.exit) region.body.outs.items taken_then
-        (all_made (count_of s) region.body.outs.items names sound.apart) (each_all (λ (x : Out). lowest.IsReadyBy (timed.exit + timed.ii) region.body.ops.items times (rules.result_of x.value.value)) region.body.outs.items well.can_leave.outs));
+    outs = subst (Each (IsTaken s timed.exit)) (sym same_outs) (each_both (IsMade region.body.outs.items) (λ (x : Out). lowest.IsReadyBy (timed.exit + timed.ii) region.body.ops.items times (result_of x.value.value)) (IsTaken s timed.exit) region.body.outs.items taken_then
+        (all_made (count_of s) region.body.outs.items names sound.apart) (each_all (λ (x : Out). lowest.IsReadyBy (timed.exit + timed.ii) region.body.ops.items times (result_of x.value.value)) region.body.outs.items well.can_leave.outs));
     direct = subst (Each (λ (x : Out). x.value.distance ≡ 0)) (sym same_outs) (each_map (NamesResult (count_of s)) (λ (x : Out). x.value.distance ≡ 0) region.body.outs.items (λ x h. h.1.1) names);
   }

@@ -10,4 +10,3 @@ pub mod VerdictCases
 pub mod SoakMade
 mod Forms
 pub mod AgreedComparisons
-pub mod ToldClocks

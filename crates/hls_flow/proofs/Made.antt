@@ -15,7 +15,7 @@ use Rattle.c_elaborate.specs.Programs.{program_elaborated}
 use Rattle.pieces.specs.Program.{ExpandedTree}
 use Rattle.c_expand.specs.Expansion.{expansion, expanded_weight}
 use Rattle.compile_steps.specs.Reports.{allowed_units}
-use Rattle.source_runs.specs.Laws.{IsFaultless}
+use Rattle.source_answers.specs.SourceRuns.{IsFaultless}
 use Rattle.source_answers.specs.CompiledAnswers.{AnswersAlways}
 use Rattle.source_answers.proofs.CompiledAnswers.Whole.{answer}
 use Rattle.compile_steps.specs.LongRuns.{RunsAreLong}

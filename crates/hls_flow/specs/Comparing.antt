@@ -27,8 +27,8 @@ pub record AreCompared (given : CosimInputs) (f : FunctionTree) (files : Files) 
   pub counted : count ≡ cycles files.report.base files.report.rows final.tally
   pub difference_is : difference ≡ first_difference f final.ret final.arrays count shown
 
--- The verdict where no number differs: it tells how many edges the clocked run takes of the program that this one is compiled to with these settings.
+-- The verdict where no number differs: it tells after how many edges the clocked run of the program that this one is compiled to with these settings ends, with the result and the elements of the run in C.
 pub record IsAgreement (e : ExpandedTree) (settings : Settings) (inputs : Inputs) (f : FunctionTree) (final : Final) (count : ℕ) (verdict : PlainVerdict) : Type 0 where
   pub clock : ℕ
-  pub clock_is : IsClockOf e settings inputs clock
+  pub clock_is : IsClockOf e settings inputs final.ret final.arrays clock
   pub is : verdict ≡ agree (result_number f.result final.ret) (shown_arrays (array_parameters f) final.arrays) count clock

@@ -15,7 +15,7 @@ use Rattle.ir_core.specs.declared.timed.Timed.{Timed}
 use Rattle.compile_steps.specs.Flat.{IsFlatOf}
 use Rattle.compile_steps.specs.Resets.{expanded_frame}
 use Rattle.compile_steps.specs.Reports.{allowed_units, IsTimed}
-use Rattle.source_runs.specs.Laws.{IsFaultless}
+use Rattle.source_answers.specs.SourceRuns.{IsFaultless}
 use Rattle.promises.specs.EndedMachines.{EndsInC, EndsInEdges}
 
 -- The expanded program is compiled with these settings to this one, with these times.

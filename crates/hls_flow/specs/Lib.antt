@@ -9,4 +9,3 @@ pub mod Agreeing
 pub mod Comparing
 pub mod SoakRun
 pub mod AgreedComparisons
-pub mod ToldClocks

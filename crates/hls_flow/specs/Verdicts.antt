@@ -104,12 +104,12 @@ run_of_module given f files = module_run files.circuit (interface_of f) files.sc
 abbrev pub inputs_of : Files → Inputs
 inputs_of files = record { scalars = files.scalars; arrays = files.arrays }
 
--- The verdict on two runs that ended: they are compared, with the cycles that the report's formula gives for the points that the run in C passed. Where they agree, it is told how many edges the clocked run takes of the program that the source is compiled to with the settings of the report.
+-- The verdict on two runs that ended: they are compared, with the cycles that the report's formula gives for the points that the run in C passed. Where they agree, it is told after how many edges the clocked run of the program that the source is compiled to with the settings of the report ends, with the result and the elements of the run in C.
 pub record IsCompared (given : CosimInputs) (program : ProgramTree) (index : ℕ) (f : FunctionTree) (files : Files) (final : Final) (verdict : PlainVerdict) : Type 0 where
   pub shown : Shown
   pub run : run_of_module given f files ≡ Some shown
   pub clock : ℕ
-  pub clock_is : first_difference f final.ret final.arrays (cycles files.report.base files.report.rows final.tally) shown ≡ None → IsClockOf (expansion (program_elaborated program index)) files.report.settings (inputs_of files) clock
+  pub clock_is : first_difference f final.ret final.arrays (cycles files.report.base files.report.rows final.tally) shown ≡ None → IsClockOf (expansion (program_elaborated program index)) files.report.settings (inputs_of files) final.ret final.arrays clock
   pub is : verdict ≡ compared_with f final.ret final.arrays (cycles files.report.base files.report.rows final.tally) shown clock
 
 -- ---- the verdict

@@ -10,7 +10,7 @@ ghost use Rattle.cycle_report.specs.FormulaValue.{cycles};
 ghost use Rattle.cosim_levels.specs.Pins.FunctionPins.{interface_of, plain};
 ghost use Rattle.cosim_levels.specs.Verdicts.{verdict_of, IfStopped};
 ghost use Rattle.cosim_levels.specs.Levels.{IsWaiting};
-ghost use Rattle.source_runs.specs.Laws.{IsFaultless};
+ghost use Rattle.source_answers.specs.SourceRuns.{IsFaultless};
 ghost use Rattle.hls_flow.specs.FirstFault.{IsFirstFault};
 ghost use Rattle.hls_flow.specs.Ending.{HasEnded};
 ghost use Rattle.hls_flow.specs.Verdicts.{greatest_points, AreFiles, IsVerdictOn, IsVerdict, inputs_of};
@@ -101,7 +101,7 @@ fn agreement(
 {
     let compiled = compile_expanded(alloc, expanded, &counted.settings)?;
     clocked_runs_end_in_time();
-    let clock = clocked_steps(alloc, &compiled.untimed, &compiled.timed, &counted.inputs)?;
+    let clock = clocked_steps(alloc, &compiled.timed, &counted.inputs)?;
     agreeing(alloc, function, ended, counted.cycles, u128::from(clock))
 }
 

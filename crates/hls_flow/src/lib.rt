@@ -12,6 +12,5 @@ pub mod report_text;
 mod scheduled;
 pub mod soak;
 pub mod synth;
-pub mod told_clocks;
 mod top;
 pub mod verdict;

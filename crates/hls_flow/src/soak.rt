@@ -93,10 +93,10 @@ fn run_levels(
     ensures { IfOk result (λ o. IfSome o (λ run. IsAgreedRun (program_of checked.now.program) checked.now.top (function_of function.now) inputs.now.scalars inputs.now.arrays (plain_of compiled.report) (netlist_of compiled.design) run.0 run.1)) }
 {
     let Compiled {
-        untimed,
         timed,
         design,
         report,
+        ..
     } = compiled;
     let interface = interface_of(alloc, function)?;
     let ended = c_level(alloc, checked, inputs, LIMIT)?;
@@ -106,7 +106,7 @@ fn run_levels(
     if difference.is_some() {
         return Ok(None);
     }
-    let clock = clocked_steps(alloc, &untimed, &timed, inputs)?;
+    let clock = clocked_steps(alloc, &timed, inputs)?;
     Ok(counted(ended, cycles, clock))
 }
 

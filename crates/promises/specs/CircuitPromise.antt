@@ -27,10 +27,10 @@ use Rattle.clock_ir.specs.WellTimed.{IsWellTimed}
 use Rattle.compile_steps.specs.BegunPrograms.{HasEnds}
 use Rattle.datapath.specs.Plans.{Savings, plan_of}
 use Rattle.datapath.specs.Netlists.{IsCircuitOf}
-use Rattle.circuit_flow.specs.Compiled.{IsCompiled}
+use Rattle.circuit_agreement.specs.CircuitFlow.Compiled.{IsCompiled}
 use Rattle.circuit_agreement.specs.Standing.{FitsFrame}
 use Rattle.circuit_agreement.specs.Boxes.{HasMemories}
-use Rattle.source_runs.specs.Laws.{IsFaultless, expanded}
+use Rattle.source_answers.specs.SourceRuns.{IsFaultless, expanded}
 
 -- Where a program is laid out from an expanded program, and has times, its plan has a result where it returns a word, and constants within the widths of their tables.
 abbrev pub PlansFitFrames : Type 0

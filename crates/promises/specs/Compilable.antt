@@ -9,8 +9,8 @@ use Rattle.program_validity.specs.Programs.{is_valid}
 use Rattle.report_rows.specs.ForwardNodes.{HasForwardBody}
 use Rattle.program_sizes.specs.CompiledSizes.{IsSmallProgram}
 use Rattle.compile_steps.specs.Flat.{IsFlatOf}
-use Rattle.compile_steps.specs.Resets.{expanded_frame}
-use Rattle.source_machines.specs.SmallTimes.NearOuts.{OutsAreNear}
+use Rattle.compile_steps.specs.Resets.{expanded_frame, AreAddressable}
+use Rattle.source_validity.specs.SourceMachines.SmallTimes.NearOuts.{OutsAreNear}
 
 -- a valid program of few nodes and operations, each of which comes behind those that it waits for, with outs and tests of few iterations before
 pub record IsCompilable (cfg : Cfg Untimed) : Type 0 where
@@ -19,6 +19,7 @@ pub record IsCompilable (cfg : Cfg Untimed) : Type 0 where
   pub forward : All HasForwardBody cfg.nodes.items
   pub near : OutsAreNear cfg
 
--- Each flat program that the expanded program becomes, with or without loops that are overlapped, is so.
-abbrev pub BecomesCompilable : ExpandedTree → Type 0
-BecomesCompilable e = (plain : Bool) (cfg : Cfg Untimed) → IsFlatOf e plain cfg → frame_view cfg.frame ≡ expanded_frame e → IsCompilable cfg
+-- Each flat program that the expanded program becomes, with or without loops that are overlapped, is so, and its memories can be addressed.
+pub record BecomesCompilable (e : ExpandedTree) : Type 0 where
+  pub programs : (plain : Bool) (cfg : Cfg Untimed) → IsFlatOf e plain cfg → frame_view cfg.frame ≡ expanded_frame e → IsCompilable cfg
+  pub addressable : AreAddressable (expanded_frame e)

@@ -15,7 +15,7 @@ use Rattle.compile_steps.specs.Flat.{IsFlatOf}
 use Rattle.compile_steps.specs.Resets.{expanded_frame}
 use Rattle.compile_steps.specs.Reports.{IsTimed, IsReportOf}
 use Rattle.promises.specs.Circuits.{HasCircuit}
-use Rattle.source_runs.specs.Laws.{IsFaultless, expanded}
+use Rattle.source_answers.specs.SourceRuns.{IsFaultless, expanded}
 use Rattle.promises.specs.DesignPromise.Promise.{KeepsPromise}
 
 -- Of a source without faults, with this top function: what its program with times is built as keeps the promise with the report of this program.

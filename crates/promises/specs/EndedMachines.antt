@@ -26,9 +26,9 @@ use Rattle.compile_steps.specs.Flat.{IsFlatOf}
 use Rattle.compile_steps.specs.Resets.{expanded_frame}
 use Rattle.compile_steps.specs.Reports.{IsTimed}
 use Rattle.timed_pieces.specs.StartedWords.Contents.{host_words}
-use Rattle.source_runs.specs.Laws.{IsFaultless, expanded}
+use Rattle.source_answers.specs.SourceRuns.{IsFaultless, expanded}
 use Rattle.source_answers.specs.Laws.{EndsWith}
-use Rattle.source_machines.specs.WholePrograms.{IsReady}
+use Rattle.source_validity.specs.SourceMachines.WholePrograms.{IsReady}
 
 -- the most points of a run whose machines are known to end in time
 abbrev pub most_points : ℕ

@@ -23,11 +23,11 @@ use Rattle.compile_steps.specs.Resets.{expanded_frame}
 use Rattle.compile_steps.specs.Reports.{IsTimed}
 use Rattle.datapath.specs.Plans.{Plan, plan_of}
 use Rattle.datapath.specs.Netlists.{IsCircuitOf}
-use Rattle.circuit_flow.specs.Compiled.{IsCompiled}
+use Rattle.circuit_agreement.specs.CircuitFlow.Compiled.{IsCompiled}
 use Rattle.circuit_agreement.specs.Boxes.{HasMemories}
 use Rattle.ir_core.specs.Small.{HasSmallNumbers}
 use Rattle.datapath.specs.LeftOut.{savings_of}
-use Rattle.source_runs.specs.Laws.{IsFaultless, expanded}
+use Rattle.source_answers.specs.SourceRuns.{IsFaultless, expanded}
 
 -- Of a source without faults: the plan of its program with times is compiled, where the numbers of the program are small and its values have registers.
 abbrev pub SourcePlansAreCompiled : Type 0

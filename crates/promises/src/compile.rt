@@ -7,7 +7,7 @@ ghost use Rattle.cycle_report.specs.PlainReport.{plain_of};
 ghost use Rattle.report_rows.specs.Resources.{IsReportable};
 ghost use Rattle.circuit_context.specs.Programs.{IsBuildable};
 ghost use Rattle.compile_steps.specs.Flat.{IsFlatOf};
-ghost use Rattle.compile_steps.specs.Resets.{expanded_frame, AreAddressable, reset_cycles};
+ghost use Rattle.compile_steps.specs.Resets.{expanded_frame, reset_cycles};
 ghost use Rattle.compile_steps.specs.Reports.{allowed_units, IsTimed, EachNodeCounts, IsReportOf, KeepsSettings};
 ghost use Rattle.promises.specs.Circuits.{HasCircuit};
 ghost use Rattle.promises.specs.Compilable.{BecomesCompilable};
@@ -125,7 +125,7 @@ pub fn compile_expanded(
     ensures longer { IfOk result (λ c. EachNodeCounts c.timed.nodes.items (plain_of c.report)) }
     ensures flat { IfOk result (λ c. IsFlatOf (expanded_of expanded.now) settings.now.plain c.untimed) }
     ensures frame { IfOk result (λ c. frame_view c.timed.frame ≡ expanded_frame (expanded_of expanded.now)) }
-    ensures init { IfOk result (λ c. AreAddressable (expanded_frame (expanded_of expanded.now)) → (plain_of c.report).init ≡ reset_cycles (expanded_frame (expanded_of expanded.now))) }
+    ensures init { IfOk result (λ c. (plain_of c.report).init ≡ reset_cycles (expanded_frame (expanded_of expanded.now))) }
 {
     let units = units_of(settings);
     let untimed = flat_program(alloc, expanded, settings)?;

@@ -2,7 +2,7 @@
 ghost use Rattle.promises.specs.EndedMachines.{FlatRunsEndInTime, ClockedRunsEndInTime};
 
 use flat_programs::layout_runs::layout_is_whole;
-use source_machines::laws::source_programs_are_ready;
+use source_validity::source_machines::laws::source_programs_are_ready;
 
 /// Where the run in C ends within a billion points, so does the run of the flat program, block by block, and a machine that counts its steps in 64 bits comes to its end.
 pub fn flat_runs_end_in_time()

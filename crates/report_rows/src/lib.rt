@@ -2,7 +2,6 @@
 #![tactic(auto)]
 
 pub mod costs;
-pub mod forward;
 pub mod initial;
 pub mod nodes;
 pub mod points;

@@ -21,13 +21,13 @@ use Rattle.passes.specs.Numbering as n
 use Rattle.passes.specs.Numbering.{numbered_sequence}
 use Rattle.passes.specs.Conversion as c
 use Rattle.passes.specs.Conversion.{converted_sequence}
-use Rattle.convert_runs.specs.Typed.{Fits}
-use Rattle.convert_runs.specs.ConvertedTrees.Points.{live_points, AreApart, stays_in}
-use Rattle.convert_runs.specs.LoweredConversions.Suiting as typing
-use Rattle.lower_runs.specs.LoweredTrees.Fitting.{PiecesFit}
-use Rattle.lower_runs.specs.Suits.{shapes_of, scope_of}
-use Rattle.lower_runs.specs.Holding.{Holds, none_hidden, ArraysAreShort}
-use Rattle.lower_runs.specs.Suiting.{shut, BeginSuits}
+use Rattle.pass_runs.specs.ConvertRuns.Typed.{Fits}
+use Rattle.pass_runs.specs.ConvertRuns.ConvertedTrees.Points.{live_points, AreApart, stays_in}
+use Rattle.pass_runs.specs.ConvertRuns.LoweredConversions.Suiting as typing
+use Rattle.pass_runs.specs.LowerRuns.LoweredTrees.Fitting.{PiecesFit}
+use Rattle.pass_runs.specs.LowerRuns.Suits.{shapes_of, scope_of}
+use Rattle.pass_runs.specs.LowerRuns.Holding.{Holds, none_hidden, ArraysAreShort}
+use Rattle.pass_runs.specs.LowerRuns.Suiting.{shut, BeginSuits}
 use Rattle.ir_layout.specs.Nodes.{node_of}
 use Rattle.ir_layout.specs.Layout.{laid_out}
 use Rattle.timed_pieces.specs.FlatRuns.Runs.{IsRunOf}

@@ -16,10 +16,10 @@ use Rattle.c_meaning.specs.PieceRuns.Values.{Store}
 use Rattle.c_meaning.specs.PieceRuns.Pieces as p
 use Rattle.c_meaning.specs.PieceRuns.Pieces.{Frame, pieces_run}
 use Rattle.ir_core.specs.Bodies.{Words}
-use Rattle.convert_runs.specs.Typed.{Fits}
-use Rattle.convert_runs.specs.LoweredConversions.Suiting as typing
-use Rattle.lower_runs.specs.Suits.{scope_of}
-use Rattle.lower_runs.specs.Holding.{Holds, none_hidden}
+use Rattle.pass_runs.specs.ConvertRuns.Typed.{Fits}
+use Rattle.pass_runs.specs.ConvertRuns.LoweredConversions.Suiting as typing
+use Rattle.pass_runs.specs.LowerRuns.Suits.{scope_of}
+use Rattle.pass_runs.specs.LowerRuns.Holding.{Holds, none_hidden}
 use Rattle.timed_pieces.specs.FlatRuns.{Choice, IsFine, IsLaidOut, has_node, AreDone}
 use Rattle.clock_ir.specs.ClockRuns.{ended, timed_program, clock_run}
 use Rattle.clock_runs.specs.Premises.{IsSoundProgram}

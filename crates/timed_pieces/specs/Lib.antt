@@ -4,3 +4,4 @@ pub mod Laws
 pub mod SoundPrograms
 pub mod TimedValidity
 pub mod StartedWords
+pub mod FormulaCycles

@@ -11,10 +11,10 @@ use Rattle.pieces.specs.Trees.{PieceTrees}
 use Rattle.c_meaning.specs.PieceRuns.Values.{Store}
 use Rattle.c_meaning.specs.PieceRuns.Pieces.{Frame}
 use Rattle.ir_core.specs.Bodies.{Words}
-use Rattle.convert_runs.specs.Typed.{Fits}
-use Rattle.convert_runs.specs.LoweredConversions.Suiting as typing
-use Rattle.lower_runs.specs.Suits.{scope_of}
-use Rattle.lower_runs.specs.Holding.{Holds, none_hidden}
+use Rattle.pass_runs.specs.ConvertRuns.Typed.{Fits}
+use Rattle.pass_runs.specs.ConvertRuns.LoweredConversions.Suiting as typing
+use Rattle.pass_runs.specs.LowerRuns.Suits.{scope_of}
+use Rattle.pass_runs.specs.LowerRuns.Holding.{Holds, none_hidden}
 use Rattle.timed_pieces.specs.FlatRuns.{Choice, IsFine, IsLaidOut}
 use Rattle.clock_runs.specs.Premises.{IsSoundProgram}
 use Rattle.timed_pieces.specs.Laws.{HasTimes, ClockKeepsRun}

@@ -17,10 +17,10 @@ use Rattle.ir_lower.specs.Frames as frames
 use Rattle.ir_lower.specs.Frames.{frame_view}
 use Rattle.ir_core.specs.Bodies.{Words}
 use Rattle.ir_core.specs.FirstContents.{first_words}
-use Rattle.convert_runs.specs.Typed.{Fits}
-use Rattle.convert_runs.specs.LoweredConversions.Suiting.{widths_of, words_of}
-use Rattle.lower_runs.specs.Suits.{scope_of}
-use Rattle.lower_runs.specs.Holding.{Holds, none_hidden, ArraysAreShort}
+use Rattle.pass_runs.specs.ConvertRuns.Typed.{Fits}
+use Rattle.pass_runs.specs.ConvertRuns.LoweredConversions.Suiting.{widths_of, words_of}
+use Rattle.pass_runs.specs.LowerRuns.Suits.{scope_of}
+use Rattle.pass_runs.specs.LowerRuns.Holding.{Holds, none_hidden, ArraysAreShort}
 use Rattle.timed_pieces.specs.FlatRuns.{AreDone}
 use Rattle.expand_runs.specs.Reading.{IsTyped}
 use Rattle.timed_pieces.specs.StartedWords.Contents.{Begins, HostsAreApart, ResultIsThere, KeptAreThere, host_words, file_words}

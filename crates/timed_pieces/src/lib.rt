@@ -1,7 +1,8 @@
-//! What the pieces of a program come to, in order and cycle by cycle: flat programs and timed ones have their runs.
+//! Times keep runs, and the report's formula gives their cycles.
 #![tactic(auto)]
 
 pub mod flat_runs;
+pub mod formula_cycles;
 pub mod laws;
 pub mod schedule_runs;
 pub mod sound_programs;

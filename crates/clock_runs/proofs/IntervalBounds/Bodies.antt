@@ -7,7 +7,9 @@ use Rattle.ir_core.specs.declared.body.Op.{Op}
 use Rattle.ir_core.specs.declared.body.OpKind.TheVariants as o
 use Rattle.ir_core.specs.declared.body.Operand.{Operand}
 use Rattle.ir_core.specs.declared.stamp.Untimed.{Untimed}
-use Rattle.modulo_loop.specs.Rules.{result_of, test_maker, known_first}
+use Rattle.modulo_loop.specs.Rules.{known_first}
+use Rattle.dep_graph.specs.Offsets.{result_of}
+use Rattle.dep_graph.specs.Dependences.{test_maker}
 
 -- the operation of this number, if there is one, is among the first k
 abbrev pub IsEarlier : ℕ → Option OpId → Type 0

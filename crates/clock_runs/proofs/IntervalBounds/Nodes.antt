@@ -27,13 +27,15 @@ use Rattle.unit_binding.specs.declared.bind.Request.{Request}
 use Rattle.unit_binding.specs.declared.binding.Binding.{Binding}
 use Rattle.unit_binding.specs.declared.binding.UnitOrder.{UnitOrder}
 use Rattle.unit_binding.specs.Binding.{Dealt, order_view, IsBoundBy}
-use Rattle.modulo_loop.specs.Rules.{is_store, latency_of, serves_next, next_rules, again_rules, unit_rules, known_first, known_rules, store_rules_from, store_rules, loop_rules, test_maker}
+use Rattle.modulo_loop.specs.Rules.{latency_of, serves_next, next_rules, again_rules, unit_rules, known_first, known_rules, store_rules_from, store_rules, loop_rules}
+use Rattle.dep_graph.specs.Meetings.{is_store}
+use Rattle.dep_graph.specs.Dependences.{test_maker}
 use Rattle.clock_runs.specs.IntervalBounds.Forward.{NameNodesBelow}
 use Rattle.clock_runs.proofs.IntervalBounds.Bodies.{IsEarlier, IsForwardBody}
-use Rattle.clock_runs.proofs.IntervalBounds.Numbers.{no_some}
+use Rattle.clock_runs.proofs.IntervalBounds.Numbers.{no_some, store_is}
 use Rattle.unit_binding.proofs.Dealing.{KeysBelow, AreInside, orders_inside}
 use Rattle.unit_binding.proofs.Requests.{requests_inside}
-use Rattle.clock_runs.proofs.IntervalBounds.Rules.{store_is, get_within}
+use Rattle.clock_runs.proofs.IntervalBounds.Rules.{get_within}
 
 -- an edge names nodes below this number
 abbrev IsInside : ℕ → Edge → Type 0

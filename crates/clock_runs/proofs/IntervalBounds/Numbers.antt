@@ -45,16 +45,6 @@ pub store_is : (kind : OpKind) → is_store kind ≡ true → kind ≡ o.Store
 store_is o.Store e = refl
 store_is kind e = (cc)
 
-result_same : (value : Source) → loop.result_of value ≡ result_of value
-result_same (s.Constant c) = refl
-result_same (s.Variable v) = refl
-result_same (s.Result j) = refl
-
--- both say which operation makes the test
-pub test_same : (test : Option Operand) → loop.test_maker test ≡ graph.test_maker test
-test_same None = refl
-test_same (Some test) = result_same test.value
-
 module _ (body : Body Untimed) where
   -- ---- from the operations whose results are read, and from the test
 
@@ -66,7 +56,7 @@ module _ (body : Body Untimed) where
   edges_rise None k distance why h = All-nil Rises
   edges_rise (Some op) k distance why h = behind_rises op.0 (k + 1) (nth body.ops.items op.0) distance why (λ within. (let z = h within in omega arith))
 
-  maker_earlier : (k : ℕ) (value : Source) (distance : ℕ) → (distance ≡ 0 → IsEarlier k (loop.result_of value)) → distance ≡ 0 → IsEarlier k (graph.maker_by body.outs.items distance value)
+  maker_earlier : (k : ℕ) (value : Source) (distance : ℕ) → (distance ≡ 0 → IsEarlier k (result_of value)) → distance ≡ 0 → IsEarlier k (graph.maker_by body.outs.items distance value)
   maker_earlier k (s.Constant c) distance named within = tt
   maker_earlier k (s.Variable v) distance named within = subst (λ d. IsEarlier k (graph.maker_by body.outs.items d (s.Variable v))) (sym within) tt
   maker_earlier k (s.Result j) distance named within = named within
@@ -86,7 +76,7 @@ module _ (body : Body Untimed) where
     op_rises k op e = (
       All-append Rises (graph.gather (graph.data_edge body (k + 1)) op.args.items) (graph.gather (graph.data_edge body (k + 1)) (option_to_list op.guard))
           (all_rise k op.args.items (forward.args k op e)) (all_rise k (option_to_list op.guard) (forward.guards k op e)),
-      control_rises k (is_store op.kind) (λ store. subst (IsEarlier k) (test_same body.test) (forward.stores k op e (store_is op.kind store))),
+      control_rises k (is_store op.kind) (λ store. forward.stores k op e (store_is op.kind store)),
     )
 
     ops_rise : (k : ℕ) (ops : List (Op Untimed)) → ((i : ℕ) (op : Op Untimed) → slice_get ops i ≡ Some op → slice_get body.ops.items (k + i) ≡ Some op) → All Rises (graph.op_edges body k ops)

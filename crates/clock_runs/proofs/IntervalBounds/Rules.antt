@@ -25,11 +25,13 @@ use Rattle.unit_binding.specs.declared.binding.Binding.{Binding}
 use Rattle.unit_binding.specs.declared.binding.UnitOrder.{UnitOrder}
 use Rattle.unit_binding.specs.Binding.{Dealt, order_view, IsBoundBy}
 use Rattle.unit_binding.specs.Times.{edge_constraint, edge_constraints}
-use Rattle.modulo_loop.specs.Rules.{is_store, latency_of, serves_next, next_rules, again_rules, unit_rules, known_first, known_rules, store_rules_from, store_rules, loop_rules, test_maker}
+use Rattle.modulo_loop.specs.Rules.{latency_of, serves_next, next_rules, again_rules, unit_rules, known_first, known_rules, store_rules_from, store_rules, loop_rules}
+use Rattle.dep_graph.specs.Meetings.{is_store}
+use Rattle.dep_graph.specs.Dependences.{test_maker}
 use Rattle.clock_runs.specs.IntervalBounds.Forward.{LeadsForward, GoForward}
 use Rattle.unit_binding.proofs.Serving.{ServesByTime}
 use Rattle.clock_runs.proofs.IntervalBounds.Bodies.{IsEarlier, IsForwardBody}
-use Rattle.clock_runs.proofs.IntervalBounds.Numbers.{some_same, no_some, test_same, numbers_rise}
+use Rattle.clock_runs.proofs.IntervalBounds.Numbers.{some_same, no_some, store_is, numbers_rise}
 use Rattle.unit_binding.proofs.Dealing.{KeysRise, AllRise, orders_rise}
 use Rattle.unit_binding.proofs.Requests.{rank_of, number_ranks, requests_climb}
 
@@ -71,10 +73,6 @@ all_back : (P : Edge → Type 0) (xs ys : List Edge) → All P (xs ++ ys) → Al
 all_back P [] ys h = h
 all_back P (x ∷ xs) ys h = all_back P xs ys (All-tail P x (xs ++ ys) h)
 
-pub store_is : (kind : OpKind) → is_store kind ≡ true → kind ≡ o.Store
-store_is o.Store e = refl
-store_is kind e = (cc)
-
 module _ (rank : ℕ → ℕ) where
   abbrev Forward : Edge → Type 0
   Forward = LeadsForward rank
@@ -114,7 +112,7 @@ module _ (rank : ℕ → ℕ) where
         let early : test.0 < k = subst (IsEarlier k) is (forward.stores k op e store) in
         let inside = get_within body.ops.items k op e in
         let waits : All Forward (graph.control_edges body (k + 1) op) = subst (λ n. All Forward (graph.control_edges body n op)) (let z : 0 + k + 1 ≡ k + 1 = omega arith in z) (control_at 0 body.ops.items k op e all) in
-        waits_forward (graph.test_maker body.test) test (k + 1) (sym (test_same body.test) ∙ is) (omega arith) (stored k op.kind op store waits)
+        waits_forward (graph.test_maker body.test) test (k + 1) is (omega arith) (stored k op.kind op store waits)
 
   -- ---- rules of each kind
 

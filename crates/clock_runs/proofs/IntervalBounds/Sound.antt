@@ -15,7 +15,9 @@ use Rattle.ir_core.specs.Bodies.{Shapes, op_of}
 use Rattle.ir_core.specs.FlatRuns.{body_of}
 use Rattle.ir_core.specs.TreeRuns.{tested}
 use Rattle.clock_runs.specs.Premises.{Each, IsOperandAs, IsOperand, IsOperandIf, NamesResult, IsSoundLoop}
-use Rattle.modulo_loop.specs.Rules.{result_of, result_or, maker, test_maker, known_first, known_source}
+use Rattle.modulo_loop.specs.Rules.{result_or, maker, known_first, known_source}
+use Rattle.dep_graph.specs.Offsets.{result_of}
+use Rattle.dep_graph.specs.Dependences.{test_maker}
 use Rattle.clock_runs.proofs.IntervalBounds.Bodies.{IsEarlier, NamesEarlier, IsForwardBody}
 use Rattle.clock_runs.proofs.IntervalBounds.Numbers.{some_same, no_some}
 

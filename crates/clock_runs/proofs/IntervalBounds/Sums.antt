@@ -24,7 +24,8 @@ use Rattle.unit_binding.specs.declared.bind.Turn.{Turn}
 use Rattle.unit_binding.specs.declared.binding.Binding.{Binding}
 use Rattle.unit_binding.specs.declared.binding.UnitOrder.{UnitOrder}
 use Rattle.unit_binding.specs.Binding.{Order, Dealt, order_view, is_class, next_unit, opened, longer, given, dealt, first_turn, none_dealt, request_of, requests_from, IsBoundBy}
-use Rattle.modulo_loop.specs.Rules.{serves_next, next_rules, again_rules, unit_rules, known_first, known_rules, store_rules, loop_rules, test_maker}
+use Rattle.modulo_loop.specs.Rules.{serves_next, next_rules, again_rules, unit_rules, known_first, known_rules, store_rules, loop_rules}
+use Rattle.dep_graph.specs.Dependences.{test_maker}
 use Rattle.modulo_loop.specs.Lowest.{total_latency}
 use Rattle.clock_runs.specs.IntervalBounds.Bounds.{if_shared, holds, all_latencies}
 use Rattle.clock_runs.proofs.IntervalBounds.Numbers.{some_same, no_some}

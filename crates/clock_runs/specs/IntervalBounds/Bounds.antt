@@ -8,7 +8,8 @@ use Rattle.ir_core.specs.declared.stamp.Untimed.{Untimed}
 use Rattle.ir_core.specs.declared.timing.UnitClass.{UnitClass}
 use Rattle.ir_core.specs.Timing.{unit_class, occupancy}
 use Rattle.dep_graph.specs.Dependences.{edges_of}
-use Rattle.modulo_loop.specs.Rules.{known_first, known_rules, store_rules, test_maker}
+use Rattle.modulo_loop.specs.Rules.{known_first, known_rules, store_rules}
+use Rattle.dep_graph.specs.Dependences.{test_maker}
 use Rattle.modulo_loop.specs.Lowest.{total_latency}
 
 -- a time, where there is a class of units to be shared

@@ -30,8 +30,8 @@ use Rattle.clock_ir.specs.ClockRuns as clock
 use Rattle.clock_ir.specs.WellTimed.{IsWellTimed}
 use Rattle.clock_runs.specs.Premises.{Each}
 use Rattle.datapath.specs.Plans.{Plan, Array, Savings, plan_of}
-use Rattle.source_designs.proofs.PlanWords.Frames.{array_in}
-use Rattle.source_designs.proofs.PlanWords.Whole.{arrays_same}
+use Rattle.source_answers.proofs.SourceDesigns.PlanWords.Frames.{array_in}
+use Rattle.source_answers.proofs.SourceDesigns.PlanWords.Whole.{arrays_same}
 use Rattle.circuit_agreement.specs.Standing.{FitsFrame}
 use Rattle.promises.specs.CircuitPromise.{PlansFitFrames}
 use Rattle.promises.proofs.CircuitPromise.Returning.{HasNone, laid_none, none_returned}

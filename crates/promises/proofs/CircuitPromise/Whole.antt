@@ -4,7 +4,7 @@ use Rattle.hls_base.specs.declared.point.Point.{Point}
 use Rattle.c_tree.specs.Terminals.{terminals}
 use Rattle.pieces.specs.Program.{ExpandedTree}
 use Rattle.c_meaning.specs.PieceRuns.Runs.{frame_of}
-use Rattle.elaborated_programs.proofs.Tokens.{numbers_fit}
+use Rattle.expanded_programs.proofs.ElaboratedPrograms.Tokens.{numbers_fit}
 use Rattle.timed_pieces.specs.FlatRuns.{IsLaidOut}
 use Rattle.timed_pieces.specs.Laws.{HasTimes}
 use Rattle.timed_pieces.proofs.ScheduleRuns.Programs.{scheduled_well}
@@ -13,9 +13,9 @@ use Rattle.datapath.specs.Plans.{Plan, plan_of}
 use Rattle.circuit_agreement.specs.Standing.{FitsFrame}
 use Rattle.circuit_agreement.specs.Answers.{AgreesWithRun}
 use Rattle.circuit_agreement.proofs.Agreeing.{circuits_agree}
-use Rattle.source_runs.specs.Laws.{expanded}
+use Rattle.source_answers.specs.SourceRuns.{expanded}
 use Rattle.source_answers.proofs.CompiledAnswers.Whole.{choice_of, laid_from, counted}
-use Rattle.source_designs.proofs.Whole.{designs_agree}
+use Rattle.source_answers.proofs.SourceDesigns.Whole.{designs_agree}
 use Rattle.promises.specs.CircuitPromise.{SourceCircuitsKeepPromise}
 use Rattle.promises.proofs.CircuitPromise.Frames.{frames_fit}
 

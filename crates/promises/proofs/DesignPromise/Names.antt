@@ -13,7 +13,7 @@ use Rattle.c_expand.specs.Expansion as ex
 use Rattle.c_elaborate.proofs.ElaborateRuns.FaultlessPrograms.{faultless_resolved}
 use Rattle.c_elaborate.proofs.ElaborateRuns.Grammar.{grammar_blocks}
 use Rattle.c_elaborate.proofs.ElaborateRuns.Runs.{topped}
-use Rattle.source_runs.specs.Laws.{IsFaultless, expanded}
+use Rattle.source_answers.specs.SourceRuns.{IsFaultless, expanded}
 
 body_named : (item : Option ItemTree) (f : FunctionTree) (body : StmtTrees) (name : List ℕ) → function_at item ≡ Some f → f.body ≡ Some body → body_name_of item ≡ Some name → f.name ≡ name
 body_named None f body name at is named = absurd (none-some f at)

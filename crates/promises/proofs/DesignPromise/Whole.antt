@@ -5,7 +5,7 @@ use Rattle.ir_lower.specs.Frames.{FrameView}
 use Rattle.rtl_core.specs.FramePins.{module_name}
 use Rattle.datapath.specs.Plans.{Plan, plan_of}
 use Rattle.datapath.specs.LeftOut.{savings_of}
-use Rattle.circuit_flow.specs.Compiled.{IsCompiled}
+use Rattle.circuit_agreement.specs.CircuitFlow.Compiled.{IsCompiled}
 use Rattle.fsm_datapath.specs.CircuitParts.{HasSoundArrays}
 use Rattle.source_validity.proofs.AddressedFrames.Frames.{frames_addressed}
 use Rattle.promises.proofs.SourcePromise.Whole.{plans_compiled, sources_kept}

@@ -19,9 +19,9 @@ use Rattle.c_meaning.specs.PieceRuns.Runs.{if_kept}
 use Rattle.c_elaborate.specs.Homes.{Each}
 use Rattle.c_elaborate.specs.Resolved.{HasLengths}
 use Rattle.expand_runs.specs.Laws.{AreWords, FillsObject}
-use Rattle.elaborated_programs.specs.Inputs.{given_objects}
-use Rattle.elaborated_programs.proofs.Naming.{no_lengths}
-use Rattle.elaborated_programs.proofs.StoredNumbers.Starting.{GivenFit, FitsFirst, is_scalar, first_fits_back}
+use Rattle.expanded_programs.specs.ElaboratedPrograms.Inputs.{given_objects}
+use Rattle.expanded_programs.proofs.ElaboratedPrograms.Naming.{no_lengths}
+use Rattle.expanded_programs.proofs.ElaboratedPrograms.StoredNumbers.Starting.{GivenFit, FitsFirst, is_scalar, first_fits_back}
 use Rattle.expanded_programs.specs.Calls.Programs.{IsProgramSound}
 use Rattle.expanded_programs.specs.Outlines.{files_of, hosts_of}
 use Rattle.expanded_programs.proofs.TopStores.{params, outlined, made, all_arrays}
@@ -29,9 +29,9 @@ use Rattle.ir_core.specs.FirstContents.{elements_or_none}
 use Rattle.timed_pieces.specs.StartedWords.FirstWords.{initial_rows, first_file}
 use Rattle.compile_steps.specs.BegunPrograms.{FilesFill}
 use Rattle.datapath.specs.Plans.{Array}
-use Rattle.source_designs.proofs.PlanWords.Frames.{array_in}
-use Rattle.source_designs.proofs.SourceCircuits.Left.{first_rows}
-use Rattle.source_designs.proofs.Contents.{values_are, rows_are}
+use Rattle.source_answers.proofs.SourceDesigns.PlanWords.Frames.{array_in}
+use Rattle.source_answers.proofs.SourceDesigns.SourceCircuits.Left.{first_rows}
+use Rattle.source_answers.proofs.SourceDesigns.Contents.{values_are, rows_are}
 
 both : (a b : Bool) → a ≡ true → b ≡ true → (a && b) ≡ true
 both a b x y = ap (λ z. z && b) x ∙ y

@@ -22,17 +22,17 @@ use Rattle.c_elaborate.specs.Resolved.{HasLengths}
 use Rattle.c_elaborate.proofs.ElaborateRuns.Grammar.{grammar_blocks}
 use Rattle.c_elaborate.proofs.ElaborateRuns.Sizes.{left_nil}
 use Rattle.expanded_programs.specs.Calls.Programs.{IsProgramSound}
-use Rattle.elaborated_programs.specs.Inputs.{ProgramInputsFit, params_at}
-use Rattle.elaborated_programs.specs.Written.{NumbersFit}
-use Rattle.elaborated_programs.proofs.Files.{constants_filled}
-use Rattle.elaborated_programs.proofs.Tokens.{numbers_fit}
-use Rattle.elaborated_programs.proofs.Whole.{elaborated_sound}
-use Rattle.elaborated_programs.proofs.StoredNumbers.Starting.{file_has_lengths}
+use Rattle.expanded_programs.specs.ElaboratedPrograms.Inputs.{ProgramInputsFit, params_at}
+use Rattle.expanded_programs.specs.ElaboratedPrograms.Written.{NumbersFit}
+use Rattle.expanded_programs.proofs.ElaboratedPrograms.Files.{constants_filled}
+use Rattle.expanded_programs.proofs.ElaboratedPrograms.Tokens.{numbers_fit}
+use Rattle.expanded_programs.proofs.ElaboratedPrograms.Whole.{elaborated_sound}
+use Rattle.expanded_programs.proofs.ElaboratedPrograms.StoredNumbers.Starting.{file_has_lengths}
 use Rattle.ir_core.specs.declared.cfg.Frame.{Frame}
 use Rattle.ir_lower.specs.Frames as frames
 use Rattle.ir_lower.specs.Frames.{frame_view}
 use Rattle.ir_core.specs.FirstContents.{first_words}
-use Rattle.lower_runs.specs.Holding.{ArraysAreShort}
+use Rattle.pass_runs.specs.LowerRuns.Holding.{ArraysAreShort}
 use Rattle.compile_steps.specs.Resets.{expanded_frame}
 use Rattle.compile_steps.proofs.Resets.{frame_is}
 use Rattle.timed_pieces.specs.StartedWords.Contents.{Begins}
@@ -41,7 +41,7 @@ use Rattle.timed_pieces.proofs.StartedWords.FirstWords.{first_words_begin}
 use Rattle.timed_pieces.proofs.StartedWords.FirstWidths.{first_words_fit}
 use Rattle.compile_steps.specs.BegunPrograms.{HasEnds, FilesFill, InputsFill}
 use Rattle.compile_steps.proofs.BegunPrograms.Programs.{checked_begins, checked_inputs}
-use Rattle.source_runs.specs.Laws.{IsFaultless, expanded}
+use Rattle.source_answers.specs.SourceRuns.{IsFaultless, expanded}
 use Rattle.source_answers.specs.Laws.{HaveWidths}
 use Rattle.promises.specs.EndedMachines.{most_points, EndsInC}
 use Rattle.promises.proofs.EndedMachines.Contents.{first_fit, first_is}

@@ -36,7 +36,7 @@ use Rattle.modulo_loop.proofs.ForwardRules.{tight_is_low}
 use Rattle.report_rows.specs.ForwardNodes.{HasForwardBody}
 use Rattle.report_rows.specs.Timing.{request_order, IsTimedBlock, IsTimedLoop, IsTimedNode, AreTimed}
 use Rattle.reg_binding.specs.SmallTimes.{IsEarlyLoop, IsEarlyNode}
-use Rattle.source_machines.proofs.SmallTimes.Serving.{by_time}
+use Rattle.source_validity.proofs.SourceMachines.SmallTimes.Serving.{by_time}
 use Rattle.promises.proofs.EndedMachines.Cycles.{most, IsShort}
 
 -- ---- when results are there

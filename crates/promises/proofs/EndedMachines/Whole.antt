@@ -36,9 +36,9 @@ use Rattle.program_validity.specs.Programs.{body_in}
 use Rattle.report_rows.specs.ForwardNodes.{HasForwardBody}
 use Rattle.reg_binding.specs.SmallTimes.{HasSmallTimes}
 use Rattle.program_sizes.specs.CompiledSizes.{IsSmallProgram}
-use Rattle.source_machines.proofs.SmallTimes.Whole.{times_small}
+use Rattle.source_validity.proofs.SourceMachines.SmallTimes.Whole.{times_small}
 use Rattle.source_validity.proofs.NearOuts.Whole.{sources_near}
-use Rattle.lower_runs.specs.Suits.{scope_of}
+use Rattle.pass_runs.specs.LowerRuns.Suits.{scope_of}
 use Rattle.passes.specs.Lowering.Blocks.{Scope}
 use Rattle.timed_pieces.specs.FlatRuns.{Choice, IsFine, IsLaidOut, has_node}
 use Rattle.timed_pieces.proofs.FlatRuns.Whole.{flat_runs}
@@ -60,12 +60,12 @@ use Rattle.compile_steps.specs.Resets.{expanded_frame}
 use Rattle.compile_steps.specs.Reports.{IsTimed}
 use Rattle.source_answers.proofs.CompiledAnswers.Whole.{choice_of, laid_from, fine_from}
 use Rattle.source_validity.proofs.AcceptedPrograms.Whole.{accepted_valid}
-use Rattle.source_runs.specs.Laws.{IsFaultless, expanded}
-use Rattle.source_runs.proofs.Whole.{ends_as, ended_defined, same_answer}
+use Rattle.source_answers.specs.SourceRuns.{IsFaultless, expanded}
+use Rattle.source_answers.proofs.SourceRuns.Whole.{ends_as, ended_defined, same_answer}
 use Rattle.source_answers.specs.Laws.{AnswersAs}
 use Rattle.source_answers.proofs.Whole.{source_answers}
-use Rattle.source_machines.specs.Laws.{IsFrameOf, SourceProgramsAreReady}
-use Rattle.source_machines.proofs.Whole.{frames_named}
+use Rattle.source_validity.specs.SourceMachines.{IsFrameOf, SourceProgramsAreReady}
+use Rattle.source_validity.proofs.SourceMachines.Whole.{frames_named}
 use Rattle.promises.specs.EndedMachines.{EndsInC, EndsInSteps, FlatRunsEndInTime, EndsInEdges, ClockedRunsEndInTime}
 use Rattle.promises.proofs.EndedMachines.Cycles.{run_low}
 use Rattle.promises.proofs.EndedMachines.Times.{nodes_short}

@@ -3,22 +3,22 @@ use Rattle.std.proofs.Common.{◌≡◌, ◌∙◌, List, [], ◌∷◌, map, re
 use Rattle.c_tree.specs.Terminals.{terminals}
 use Rattle.c_elaborate.specs.Programs.{program_elaborated}
 use Rattle.pieces.specs.Program.{ArrayTree, ExpandedTree}
-use Rattle.elaborated_programs.proofs.Tokens.{numbers_fit}
-use Rattle.elaborated_programs.proofs.Whole.{elaborated_sound}
-use Rattle.source_runs.proofs.ElaboratedSubscripts.Programs.{checked_fit}
+use Rattle.expanded_programs.proofs.ElaboratedPrograms.Tokens.{numbers_fit}
+use Rattle.expanded_programs.proofs.ElaboratedPrograms.Whole.{elaborated_sound}
+use Rattle.source_answers.proofs.SourceRuns.ElaboratedSubscripts.Programs.{checked_fit}
 use Rattle.compile_steps.specs.Resets.{array_memory, expanded_frame}
 use Rattle.expanded_pieces.specs.BegunPieces.Points.{begins_at}
 use Rattle.compile_steps.proofs.BegunPrograms.Programs.{checked_begins}
 use Rattle.timed_pieces.specs.Laws.{HasTimes}
 use Rattle.datapath.specs.Plans.{plan_of}
-use Rattle.source_runs.specs.Laws.{expanded}
+use Rattle.source_answers.specs.SourceRuns.{expanded}
 use Rattle.source_answers.proofs.CompiledAnswers.Whole.{choice_of, laid_from, fine_from}
 use Rattle.compiled_plans.specs.Frames.{plan_array, HasFrame}
 use Rattle.datapath.specs.LeftOut.{savings_of}
 use Rattle.compiled_plans.proofs.Whole.{from_view, has_frame, compiled}
 use Rattle.source_validity.proofs.LeadingHosts.Whole.{hosts_first}
 use Rattle.source_validity.proofs.AddressedFrames.Frames.{frames_addressed}
-use Rattle.kept_tables.proofs.CheckedPrograms.{checked_kept}
+use Rattle.source_validity.proofs.KeptTables.CheckedPrograms.{checked_kept}
 use Rattle.promises.proofs.CircuitPromise.Whole.{promise_kept}
 use Rattle.promises.specs.SourcePromise.{SourcePlansAreCompiled, SourcesKeepPromise}
 

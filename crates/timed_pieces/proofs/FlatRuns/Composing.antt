@@ -6,8 +6,8 @@ use Rattle.hls_base.specs.declared.place.Place.{Place}
 use Rattle.hls_base.specs.declared.point.Point.{Point}
 use Rattle.hls_base.specs.declared.refusal.UbRule.{UbRule}
 use Rattle.hls_base.specs.Steps.{Outcome, went, undefined, waiting, Ran, ran, goes, then_}
-use Rattle.convert_runs.specs.Kept.{Begins, Matches, IsKept, IsKeptOf, IsSameRun}
-use Rattle.lower_runs.specs.Following.{IsKeptRun, IsUndefined, beyond}
+use Rattle.pass_runs.specs.ConvertRuns.Kept.{Begins, Matches, IsKept, IsKeptOf, IsSameRun}
+use Rattle.pass_runs.specs.LowerRuns.Following.{IsKeptRun, IsUndefined, beyond}
 use Rattle.timed_pieces.specs.FlatRuns.Runs.{IsRunOf}
 
 pub filter_twice : {X : Type 0} (p q : X → Bool) (xs : List X) → filter q (filter p xs) ≡ filter (λ x. p x && q x) xs

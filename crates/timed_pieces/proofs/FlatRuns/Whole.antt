@@ -9,25 +9,25 @@ use Rattle.ir_core.specs.TreeRuns as trees
 use Rattle.ir_core.specs.TreeRuns.{sequence_run}
 use Rattle.ir_core.specs.FlatRuns.{flat_run}
 use Rattle.passes.specs.Conversion.{converted_sequence}
-use Rattle.convert_runs.specs.Kept.{Begins, Matches, IsKept, IsKeptOf, IsSameRun}
-use Rattle.convert_runs.specs.Typed.{Fits}
-use Rattle.convert_runs.specs.ConvertedTrees.Points.{AreApart, stays_in}
-use Rattle.convert_runs.specs.LoweredConversions.Suiting as typing
-use Rattle.lower_runs.specs.Suits.{shapes_of, scope_of}
-use Rattle.lower_runs.specs.LoweredRuns as control
-use Rattle.lower_runs.specs.Following.{IsUndefined}
+use Rattle.pass_runs.specs.ConvertRuns.Kept.{Begins, Matches, IsKept, IsKeptOf, IsSameRun}
+use Rattle.pass_runs.specs.ConvertRuns.Typed.{Fits}
+use Rattle.pass_runs.specs.ConvertRuns.ConvertedTrees.Points.{AreApart, stays_in}
+use Rattle.pass_runs.specs.ConvertRuns.LoweredConversions.Suiting as typing
+use Rattle.pass_runs.specs.LowerRuns.Suits.{shapes_of, scope_of}
+use Rattle.pass_runs.specs.LowerRuns.LoweredRuns as control
+use Rattle.pass_runs.specs.LowerRuns.Following.{IsUndefined}
 use Rattle.flat_programs.specs.Laws.{tree_run}
 use Rattle.passes.proofs.NumberRuns.Blocks.{block_same}
 use Rattle.passes.proofs.NumberRuns.Trees.{sequence_same}
-use Rattle.lower_runs.proofs.LoweredTrees.Trees.{lowered_ordered}
-use Rattle.lower_runs.proofs.LoweredTrees.Fitting.{lowered_fits}
-use Rattle.convert_runs.proofs.LoweredConversions.Whole.{numbered_typed}
-use Rattle.convert_runs.proofs.ConvertedTrees.Points as points
-use Rattle.convert_runs.proofs.ConvertedTrees.Numbered as numbered
-use Rattle.convert_runs.proofs.ConvertedTrees.Converted as converted
-use Rattle.convert_runs.proofs.MergedBlocks.Whole as merged
+use Rattle.pass_runs.proofs.LowerRuns.LoweredTrees.Trees.{lowered_ordered}
+use Rattle.pass_runs.proofs.LowerRuns.LoweredTrees.Fitting.{lowered_fits}
+use Rattle.pass_runs.proofs.ConvertRuns.LoweredConversions.Whole.{numbered_typed}
+use Rattle.pass_runs.proofs.ConvertRuns.ConvertedTrees.Points as points
+use Rattle.pass_runs.proofs.ConvertRuns.ConvertedTrees.Numbered as numbered
+use Rattle.pass_runs.proofs.ConvertRuns.ConvertedTrees.Converted as converted
+use Rattle.pass_runs.proofs.ConvertRuns.MergedBlocks.Whole as merged
 use Rattle.flat_programs.proofs.Whole.{layout_kept}
-use Rattle.lower_runs.proofs.LoweredRuns.Whole.{lowered_runs}
+use Rattle.pass_runs.proofs.LowerRuns.LoweredRuns.Whole.{lowered_runs}
 use Rattle.timed_pieces.specs.FlatRuns.Runs.{IsRunOf}
 use Rattle.timed_pieces.specs.FlatRuns.{numbering_of, conversion_of, tree_of, numbered_of, has_node, AreDone, FlatProgramsKeepRuns}
 use Rattle.timed_pieces.proofs.FlatRuns.Composing.{with_end, Shown, composed}

@@ -21,7 +21,8 @@ use Rattle.unit_binding.specs.Binding.{IsBoundBy}
 use Rattle.block_schedule.specs.Constraints.{unit_constraints}
 use Rattle.block_schedule.specs.Schedules.{IsSchedule}
 use Rattle.modulo_loop.specs.declared.pipeline.Pipelined.{Pipelined}
-use Rattle.modulo_loop.specs.Rules.{loop_rules, unit_rules, known_rules, known_first, store_rules, test_maker, constraints_at}
+use Rattle.modulo_loop.specs.Rules.{loop_rules, unit_rules, known_rules, known_first, store_rules, constraints_at}
+use Rattle.dep_graph.specs.Dependences.{test_maker}
 use Rattle.modulo_loop.specs.Lowest.{IsPipelined}
 use Rattle.cycle_report.specs.PlainReport.{PlainLoop}
 use Rattle.report_rows.specs.Timing.{edges_within, request_order, IsTimedNode, AreTimed}

@@ -4,8 +4,8 @@ use Rattle.std.proofs.Common.{ℕ, zero, suc, sym, subst, List, [], ◌∷◌, m
 use Rattle.pieces.specs.Program.{ArrayTree}
 use Rattle.ir_core.specs.Bodies.{Shapes}
 use Rattle.c_meaning.specs.PieceRuns.Values.{lengths_in}
-use Rattle.lower_runs.specs.Suits.{scope_of}
-use Rattle.lower_runs.specs.Showing.{AreShort}
+use Rattle.pass_runs.specs.LowerRuns.Suits.{scope_of}
+use Rattle.pass_runs.specs.LowerRuns.Showing.{AreShort}
 use Rattle.clock_runs.specs.Premises.{Each, IsSoundNode}
 use Rattle.timed_pieces.proofs.Whole.{clocked}
 use Rattle.sound_trees.proofs.Whole as trees

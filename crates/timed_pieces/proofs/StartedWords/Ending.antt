@@ -15,8 +15,8 @@ use Rattle.c_meaning.specs.PieceRuns.Values.{Store, lengths_in, element_number}
 use Rattle.c_meaning.specs.PieceRuns.Pieces.{kind_in, type_of}
 use Rattle.c_meaning.specs.PieceRuns.Runs.{frame_of, type_in, words_from, words_of, host_arrays, kept_arrays, kept_of, if_kept, result_word, variables_of}
 use Rattle.ir_core.specs.Bodies.{Words, address_of}
-use Rattle.lower_runs.specs.Showing.{AreShort}
-use Rattle.lower_runs.specs.Holding.{Holds, none_hidden, ArraysAreShort, IsThere}
+use Rattle.pass_runs.specs.LowerRuns.Showing.{AreShort}
+use Rattle.pass_runs.specs.LowerRuns.Holding.{Holds, none_hidden, ArraysAreShort, IsThere}
 use Rattle.timed_pieces.specs.StartedWords.Contents.{elements_at, host_words, kept_words, words_in, file_words, ResultIsThere, KeptAreThere}
 use Rattle.timed_pieces.specs.StartedWords.{EndedWordsShow}
 use Rattle.timed_pieces.proofs.StartedWords.Places.{address_count, is_placed, subscripts_of, has_place}

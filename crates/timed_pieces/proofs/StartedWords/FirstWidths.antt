@@ -16,7 +16,7 @@ use Rattle.c_meaning.specs.PieceRuns.Pieces.{type_of}
 use Rattle.c_meaning.specs.PieceRuns.Runs.{type_in, variables_of}
 use Rattle.ir_core.specs.Bodies.{with_word}
 use Rattle.ir_core.specs.FirstContents.{given_at, elements_or_none, first_memories, first_variables, with_kept, with_arguments}
-use Rattle.lower_runs.proofs.OperatorWords.Resizing.{count_is}
+use Rattle.pass_runs.proofs.LowerRuns.OperatorWords.Resizing.{count_is}
 use Rattle.expand_runs.specs.Laws.{AreWords}
 use Rattle.timed_pieces.specs.StartedWords.FirstWords.{FillVariables, FillsArray, FillsIfAny, FillHosts, HasContents}
 use Rattle.timed_pieces.specs.StartedWords.{FirstWordsFit}

@@ -21,8 +21,8 @@ use Rattle.c_meaning.specs.PieceRuns.Values.{lengths_in}
 use Rattle.c_meaning.specs.PieceRuns.Runs.{frame_of, variables_of, if_kept}
 use Rattle.ir_core.specs.Bodies.{Words, with_word}
 use Rattle.ir_core.specs.FirstContents.{given_at, elements_or_none, first_word, first_word_in, first_memories, with_kept, with_arguments, first_variables, first_words}
-use Rattle.lower_runs.specs.Showing.{AreShort}
-use Rattle.lower_runs.specs.Holding.{ArraysAreShort}
+use Rattle.pass_runs.specs.LowerRuns.Showing.{AreShort}
+use Rattle.pass_runs.specs.LowerRuns.Holding.{ArraysAreShort}
 use Rattle.timed_pieces.specs.StartedWords.Contents.{elements_at, host_words, kept_words, words_in, file_words, Begins}
 use Rattle.timed_pieces.specs.StartedWords.FirstWords.{initial_rows, first_file, FillVariables, FillsArray, FillsIfAny, FillHosts, HasOneSource, HasContents, IsNotIn, Differ, AreApart, HasFirstContents}
 use Rattle.timed_pieces.specs.StartedWords.{FirstWordsBegin}

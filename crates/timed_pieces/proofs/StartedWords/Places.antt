@@ -9,8 +9,8 @@ use Rattle.hls_base.specs.ArrayAddress.{subscript_bits, address_bits, element_co
 use Rattle.ir_core.proofs.Rising.{short-fits}
 use Rattle.c_meaning.specs.Store.{element_place, place_in_rows, subscript_in}
 use Rattle.ir_core.specs.Bodies.{address_of}
-use Rattle.lower_runs.proofs.Showing.{placed}
-use Rattle.lower_runs.specs.Showing.{AreShort}
+use Rattle.pass_runs.proofs.LowerRuns.Showing.{placed}
+use Rattle.pass_runs.specs.LowerRuns.Showing.{AreShort}
 
 -- ---- rows
 

@@ -15,14 +15,14 @@ use Rattle.c_meaning.specs.PieceRuns.Values.{Store, lengths_in, element_number, 
 use Rattle.c_meaning.specs.PieceRuns.Pieces.{Frame, type_of, kind_in, kind_at}
 use Rattle.c_meaning.specs.PieceRuns.Runs.{frame_of, type_in, variables_of, with_words, with_array, with_kept, rest_kept, with_table, with_arrays, started, row_of, if_kept}
 use Rattle.ir_core.specs.Bodies.{Words, address_of}
-use Rattle.lower_runs.specs.OperatorWords.Words.{IsWord}
-use Rattle.lower_runs.proofs.OperatorWords.Results as words
-use Rattle.lower_runs.proofs.OperatorWords.Resizing.{count_is}
-use Rattle.convert_runs.specs.Typed.{Fits}
-use Rattle.convert_runs.specs.LoweredConversions.Suiting.{widths_of, words_of}
-use Rattle.convert_runs.proofs.LoweredConversions.Expressions.{mapped}
-use Rattle.lower_runs.specs.Suits.{scope_of}
-use Rattle.lower_runs.specs.Holding.{Holds, none_hidden, ArraysAreShort}
+use Rattle.pass_runs.specs.LowerRuns.OperatorWords.Words.{IsWord}
+use Rattle.pass_runs.proofs.LowerRuns.OperatorWords.Results as words
+use Rattle.pass_runs.proofs.LowerRuns.OperatorWords.Resizing.{count_is}
+use Rattle.pass_runs.specs.ConvertRuns.Typed.{Fits}
+use Rattle.pass_runs.specs.ConvertRuns.LoweredConversions.Suiting.{widths_of, words_of}
+use Rattle.pass_runs.proofs.ConvertRuns.LoweredConversions.Expressions.{mapped}
+use Rattle.pass_runs.specs.LowerRuns.Suits.{scope_of}
+use Rattle.pass_runs.specs.LowerRuns.Holding.{Holds, none_hidden, ArraysAreShort}
 use Rattle.expand_runs.specs.Reading.{IsTyped, variable_type}
 use Rattle.expand_runs.proofs.Typing.{converted_number}
 use Rattle.timed_pieces.specs.StartedWords.Contents.{elements_at, host_words, kept_words, words_in, file_words, HostsAreApart}

@@ -3,8 +3,8 @@ use Rattle.std.specs.Prelude.{◌≡◌, ℕ, ◌+◌, Bool, List, length}
 use Rattle.std.specs.List.{filter}
 use Rattle.hls_base.specs.declared.point.Point.{Point}
 use Rattle.hls_base.specs.Steps.{Ran, ran, went, waiting}
-use Rattle.convert_runs.specs.Kept.{Begins}
-use Rattle.lower_runs.specs.Following.{IsUndefined}
+use Rattle.pass_runs.specs.ConvertRuns.Kept.{Begins}
+use Rattle.pass_runs.specs.LowerRuns.Following.{IsUndefined}
 
 -- Two runs, each by the number of points that it may pass, of which the second passes those points of the first that are kept.
 pub record IsRunOf {S T A B : Type 0} (kept : Point → Bool) (shows : A → S → B → T → Type 0) (first : ℕ → Ran S A) (second : ℕ → Ran T B) : Type 0 where

@@ -8,7 +8,7 @@ use Rattle.c_token.specs.declared.ctype.CType.{CType}
 use Rattle.pieces.specs.Program.{ArrayTree, ExpandedTree}
 use Rattle.c_meaning.specs.PieceRuns.Runs.{frame_of, variables_of, if_kept}
 use Rattle.ir_core.specs.Bodies.{Words}
-use Rattle.lower_runs.specs.Holding.{IsThere}
+use Rattle.pass_runs.specs.LowerRuns.Holding.{IsThere}
 
 -- the elements of an array of these lengths, row by row, in its memory
 abbrev pub elements_at : List ℕ → (ℕ → ℕ) → List ℕ

@@ -11,12 +11,12 @@ use Rattle.promises.proofs.compile.compile_expanded.Goals as goal
 
 pub timed_program-requires : goal.timed_program-requires
 timed_program-requires c =
-    (c.requires c.args.settings.now.plain c.in_ok-untimed.untimed c.in_ok-untimed.ensures.flat (c.in_ok-untimed.ensures.frame ∙ frame_is c.args.expanded.now)).forward
+    (c.requires.programs c.args.settings.now.plain c.in_ok-untimed.untimed c.in_ok-untimed.ensures.flat (c.in_ok-untimed.ensures.frame ∙ frame_is c.args.expanded.now)).forward
 
 pub circuit_of-requires : goal.circuit_of-requires
 circuit_of-requires c =
     timed_buildable c.units_of-units.result c.in_ok-untimed.untimed c.in_ok-timed.field-0.timed (map loop_of c.in_ok-timed.field-0.loops.items) c.in_ok-timed.ensures
-    (c.requires c.args.settings.now.plain c.in_ok-untimed.untimed c.in_ok-untimed.ensures.flat (c.in_ok-untimed.ensures.frame ∙ frame_is c.args.expanded.now))
+    (c.requires.programs c.args.settings.now.plain c.in_ok-untimed.untimed c.in_ok-untimed.ensures.flat (c.in_ok-untimed.ensures.frame ∙ frame_is c.args.expanded.now))
 
 pub returns-clause-longer : goal.returns-clause-longer
 returns-clause-longer c =
@@ -30,4 +30,4 @@ pub returns-clause-init : goal.returns-clause-init
 returns-clause-init c =
     let same : frame_view c.in_ok-timed.field-0.timed.frame ≡ expanded_frame (expanded_of c.args.expanded.now) =
     c.in_ok-timed.ensures.frame ∙ (c.in_ok-untimed.ensures.frame ∙ frame_is c.args.expanded.now) in
-    reset_is c.in_ok-timed.field-0.timed.frame (expanded_frame (expanded_of c.args.expanded.now)) (plain_of c.in_ok-report.report).init same c.in_ok-report.ensures.report.init
+    reset_is c.in_ok-timed.field-0.timed.frame (expanded_frame (expanded_of c.args.expanded.now)) (plain_of c.in_ok-report.report).init same c.in_ok-report.ensures.report.init c.requires.addressable

@@ -14,9 +14,9 @@ use Rattle.passes.specs.Lowering.Blocks.{Scope, begun, with_exit, ends_by_test, 
 use Rattle.passes.specs.Lowering.Copies.{fixed_behind, fixed_behind_shape, copied, copied_parts}
 use Rattle.passes.specs.Lowering.{Rest, last, followed, parts_of, land_of, side_from, with_copies, own_step, stepped, is_named, piece_count, targets, other, lowered, lowered_piece, before_arm, arms}
 use Rattle.passes.specs.Conversion.Merging.{first_of}
-use Rattle.lower_runs.proofs.LowerControl.Rests.{set_step, put_step, exit_step, test_step, fork_step, cases_step}
+use Rattle.pass_runs.proofs.LowerRuns.LowerControl.Rests.{set_step, put_step, exit_step, test_step, fork_step, cases_step}
 use Rattle.report_rows.specs.Costs.{end_of}
-use Rattle.formula_cycles.specs.Loops.{EndsAt, LoopsEnd, PartsEnd, ShapeEnds, SideEnds, ArmsEnd, PiecesLoopsEnd, PieceLoopsEnd}
+use Rattle.timed_pieces.specs.FormulaCycles.Loops.{EndsAt, LoopsEnd, PartsEnd, ShapeEnds, SideEnds, ArmsEnd, PiecesLoopsEnd, PieceLoopsEnd}
 
 abbrev none_shaped : Shapes
 none_shaped = record { widths = []; dims = [] }

@@ -7,9 +7,9 @@ use Rattle.ir_layout.specs.Nodes.{EndTree, NodeTree, plain, looped}
 use Rattle.ir_layout.specs.Sizes.{sequence_size, parts_size, shape_size, side_size, arms_size}
 use Rattle.ir_layout.specs.Layout.{Ahead, onto, tested, Around, laid, laid_parts, laid_shape, laid_side, laid_arms, laid_block, before_parts, ahead_of_parts, behind_shape, in_loop, in_switch, step_start, body_start}
 use Rattle.ir_layout.proofs.Lengths.{length-laid, length-parts, length-shape, length-side}
-use Rattle.formula_cycles.proofs.Places.{Has, has_parts}
+use Rattle.timed_pieces.proofs.FormulaCycles.Places.{Has, has_parts}
 use Rattle.report_rows.specs.Costs.{end_of}
-use Rattle.formula_cycles.specs.Loops.{EndsAt, LoopsEnd, PartsEnd, ShapeEnds, SideEnds, ArmsEnd}
+use Rattle.timed_pieces.specs.FormulaCycles.Loops.{EndsAt, LoopsEnd, PartsEnd, ShapeEnds, SideEnds, ArmsEnd}
 
 module _ (nodes : List NodeTree) where
   -- no loop node stands just before this place

@@ -12,7 +12,7 @@ use Rattle.ir_core.specs.Bodies.{Shapes, Words, Ranged, operations, with_outs}
 use Rattle.ir_core.specs.Trees.{BodyTree}
 use Rattle.ir_core.specs.TreeRuns.{Turn, again, over, out, if_again, repeat, tested, goes_round, iterated, iteration, overlapped_run, way_behind}
 use Rattle.ir_core.specs.FlatRuns.{to, body_of, block_left, node_run}
-use Rattle.formula_cycles.proofs.Sums.{Stays, stays_on}
+use Rattle.timed_pieces.proofs.FormulaCycles.Sums.{Stays, stays_on}
 
 module _ (p : Point) where
   abbrev StaysIn : {S A : Type 0} → Ran S A → Type 0

@@ -1,4 +1,6 @@
 -- The formula of a report gives the cycles of a run.
+pub mod Ends
+pub mod Loops
 use Rattle.std.specs.Prelude.{◌≡◌, ◌+◌, ◌<◌, ◌⊎◌, ℕ, Bool, true, List, Option, Some, slice_get}
 use Rattle.hls_base.specs.declared.number.VarId.{VarId}
 use Rattle.hls_base.specs.declared.point.Point.{Point}
@@ -21,18 +23,18 @@ use Rattle.c_meaning.specs.PieceRuns.Pieces as p
 use Rattle.c_meaning.specs.PieceRuns.Pieces.{Frame, pieces_run}
 use Rattle.ir_core.specs.Bodies.{Words}
 use Rattle.ir_core.specs.FlatRuns.{flat_run}
-use Rattle.convert_runs.specs.Typed.{Fits}
-use Rattle.convert_runs.specs.LoweredConversions.Suiting as typing
-use Rattle.lower_runs.specs.Suits.{scope_of}
-use Rattle.lower_runs.specs.Holding.{Holds, none_hidden}
+use Rattle.pass_runs.specs.ConvertRuns.Typed.{Fits}
+use Rattle.pass_runs.specs.ConvertRuns.LoweredConversions.Suiting as typing
+use Rattle.pass_runs.specs.LowerRuns.Suits.{scope_of}
+use Rattle.pass_runs.specs.LowerRuns.Holding.{Holds, none_hidden}
 use Rattle.timed_pieces.specs.FlatRuns.{Choice, IsFine, IsLaidOut, has_node, AreDone}
 use Rattle.clock_ir.specs.ClockRuns.{ended, timed_program, clock_run}
 use Rattle.clock_ir.specs.WellTimed.{IsWellTimed}
 use Rattle.clock_runs.specs.Premises.{IsSoundProgram}
 use Rattle.clock_runs.specs.Laws.{IsEnded, run_cycles}
 use Rattle.timed_pieces.specs.Laws.{HasTimes}
-use Rattle.formula_cycles.specs.Ends.{LoopsLeadToTheirEnds}
-use Rattle.formula_cycles.specs.Loops.{PiecesLoopsEnd}
+use Rattle.timed_pieces.specs.FormulaCycles.Ends.{LoopsLeadToTheirEnds}
+use Rattle.timed_pieces.specs.FormulaCycles.Loops.{PiecesLoopsEnd}
 
 -- ---- flat runs
 

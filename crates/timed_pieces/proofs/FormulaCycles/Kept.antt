@@ -11,7 +11,7 @@ use Rattle.passes.specs.Conversion.Overlapping.{chosen_test, loop_by}
 use Rattle.passes.specs.Conversion as c
 use Rattle.passes.specs.Conversion.{going_on, part_before, behind, converted_sequence, converted_behind, converted_parts, converted_shape, converted_side, converted_arms}
 use Rattle.report_rows.specs.Costs.{end_of}
-use Rattle.formula_cycles.specs.Loops.{EndsAt, LoopsEnd, PartsEnd, ShapeEnds, SideEnds, ArmsEnd}
+use Rattle.timed_pieces.specs.FormulaCycles.Loops.{EndsAt, LoopsEnd, PartsEnd, ShapeEnds, SideEnds, ArmsEnd}
 
 -- ---- numbering
 

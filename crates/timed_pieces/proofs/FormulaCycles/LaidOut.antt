@@ -16,21 +16,21 @@ use Rattle.ir_core.specs.Trees.{BodyTree, SequenceTree, body_of}
 use Rattle.ir_layout.specs.Nodes.{EndTree, NodeTree, plain, looped, node_of, case_of, node_point}
 use Rattle.ir_layout.specs.Nodes as flat
 use Rattle.ir_layout.specs.Layout.{Around, finish, laid_out}
-use Rattle.formula_cycles.proofs.Places.{has_itself}
+use Rattle.timed_pieces.proofs.FormulaCycles.Places.{has_itself}
 use Rattle.report_rows.specs.Costs.{end_of}
-use Rattle.formula_cycles.specs.Ends.{targets, followers, Among, LoopsLeadToTheirEnds}
+use Rattle.timed_pieces.specs.FormulaCycles.Ends.{targets, followers, Among, LoopsLeadToTheirEnds}
 use Rattle.hls_base.specs.declared.number.VarId.{VarId}
 use Rattle.passes.specs.Conversion.{converted_sequence}
 use Rattle.timed_pieces.specs.FlatRuns.{numbering_of, conversion_of, tree_of, numbered_of}
-use Rattle.formula_cycles.specs.Loops.{LoopsEnd}
+use Rattle.timed_pieces.specs.FormulaCycles.Loops.{LoopsEnd}
 use Rattle.passes.specs.Lowering.Blocks.{begun}
 use Rattle.passes.specs.Lowering.{last}
-use Rattle.lower_runs.specs.Suits.{scope_of}
-use Rattle.formula_cycles.proofs.Lowered.{last_ends, lowered_ends}
-use Rattle.formula_cycles.proofs.Kept.{numbered_ends, converted_ends}
-use Rattle.formula_cycles.specs.Laws.{PointsDiffer, LaidOutLoopsLeadToTheirEnds}
-use Rattle.formula_cycles.proofs.Safe.{Safe, safe_first, sequence_safe}
-use Rattle.formula_cycles.proofs.Fitting.{CasesSafe, EndSafe, NodeFits, NodesFit, sequence_fits}
+use Rattle.pass_runs.specs.LowerRuns.Suits.{scope_of}
+use Rattle.timed_pieces.proofs.FormulaCycles.Lowered.{last_ends, lowered_ends}
+use Rattle.timed_pieces.proofs.FormulaCycles.Kept.{numbered_ends, converted_ends}
+use Rattle.timed_pieces.specs.FormulaCycles.{PointsDiffer, LaidOutLoopsLeadToTheirEnds}
+use Rattle.timed_pieces.proofs.FormulaCycles.Safe.{Safe, safe_first, sequence_safe}
+use Rattle.timed_pieces.proofs.FormulaCycles.Fitting.{CasesSafe, EndSafe, NodeFits, NodesFit, sequence_fits}
 
 -- ---- lists
 

@@ -21,8 +21,8 @@ use Rattle.clock_ir.specs.WellTimed.{IsWellTimedNode, AreWellTimed}
 use Rattle.report_rows.specs.Costs as costs
 use Rattle.report_rows.specs.Costs.{node_costs, costs_of, own_cost, weighed, end_of}
 use Rattle.cycle_report.specs.declared.report.Cost.{Cost}
-use Rattle.formula_cycles.specs.Ends.{targets, Among}
-use Rattle.formula_cycles.proofs.Sums.{once, once_same, once_other, cost_at}
+use Rattle.timed_pieces.specs.FormulaCycles.Ends.{targets, Among}
+use Rattle.timed_pieces.proofs.FormulaCycles.Sums.{once, once_same, once_other, cost_at}
 
 -- ---- what a point costs, node by node
 

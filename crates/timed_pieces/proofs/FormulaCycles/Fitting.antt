@@ -9,7 +9,7 @@ use Rattle.ir_layout.specs.Nodes.{EndTree, jumps, branches, chooses, returns, No
 use Rattle.ir_layout.specs.Sizes.{sequence_size, parts_size, side_size, arms_size}
 use Rattle.ir_layout.specs.Layout.{Ahead, finish, onto, tested, by_case, Landing, Around, land_place, place_or_first, end_for, laid, laid_parts, laid_shape, laid_side, laid_arms, laid_block, before_parts, lands_in, with_land, ahead_of, ahead_of_parts, behind_shape, in_loop, in_switch, side_start, arm_start, other_start, step_start, body_start}
 use Rattle.ir_layout.proofs.Lengths.{length-laid, length-parts, length-shape, length-side}
-use Rattle.formula_cycles.proofs.Safe.{Safe, EndHere, AfterSafe, SequenceSafe, PartsSafe, ShapeSafe, SideSafe, ArmsSafe, safe_first}
+use Rattle.timed_pieces.proofs.FormulaCycles.Safe.{Safe, EndHere, AfterSafe, SequenceSafe, PartsSafe, ShapeSafe, SideSafe, ArmsSafe, safe_first}
 
 module _ (nodes : List NodeTree) where
   abbrev Fine : ℕ → Type 0

@@ -1,5 +1,5 @@
 //! Laws of the formula of a report.
-ghost use Rattle.formula_cycles.specs.Laws.{CostsCountRuns, FormulaCountsRuns, FormulaCountsPieces, LaidOutLoopsLeadToTheirEnds};
+ghost use Rattle.timed_pieces.specs.FormulaCycles.{CostsCountRuns, FormulaCountsRuns, FormulaCountsPieces, LaidOutLoopsLeadToTheirEnds};
 
 /// What the nodes of a flat program cost, point by point, comes to the cycles of its run.
 pub fn costs_count_runs()

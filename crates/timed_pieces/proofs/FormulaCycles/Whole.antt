@@ -21,11 +21,11 @@ use Rattle.clock_runs.specs.Laws.{node_cycles, cycles_behind, cycles_at, cycles_
 use Rattle.clock_runs.proofs.BlockRuns.{not_waiting, not_undefined, went_parts, block_went}
 use Rattle.report_rows.specs.Costs as costs
 use Rattle.report_rows.specs.Costs.{costs_of, own_cost, end_of}
-use Rattle.formula_cycles.specs.Ends.{targets, Among, LoopsLeadToTheirEnds}
-use Rattle.formula_cycles.specs.Laws.{CostsCountRuns}
-use Rattle.formula_cycles.proofs.Sums.{all_zero, only_one, stays_sum, cost_at, by_points}
-use Rattle.formula_cycles.proofs.Traces.{node_stays}
-use Rattle.formula_cycles.proofs.Counting.{own_at, end_at, by_node, at_same, at_other, goes_among, timed_there, untimed_there, same_points}
+use Rattle.timed_pieces.specs.FormulaCycles.Ends.{targets, Among, LoopsLeadToTheirEnds}
+use Rattle.timed_pieces.specs.FormulaCycles.{CostsCountRuns}
+use Rattle.timed_pieces.proofs.FormulaCycles.Sums.{all_zero, only_one, stays_sum, cost_at, by_points}
+use Rattle.timed_pieces.proofs.FormulaCycles.Traces.{node_stays}
+use Rattle.timed_pieces.proofs.FormulaCycles.Counting.{own_at, end_at, by_node, at_same, at_other, goes_among, timed_there, untimed_there, same_points}
 
 to_same : {i j : ℕ} → to i ≡ to j → i ≡ j
 to_same e = (cc)

@@ -27,11 +27,11 @@ use Rattle.report_rows.specs.Costs.{node_costs, costs_of, weighed, end_of}
 use Rattle.timed_pieces.specs.FlatRuns.{has_node}
 use Rattle.timed_pieces.proofs.FlatRuns.Whole.{flat_runs}
 use Rattle.timed_pieces.specs.Laws.{node_count}
-use Rattle.formula_cycles.specs.Ends.{LoopsLeadToTheirEnds}
-use Rattle.formula_cycles.specs.Laws.{IsTallyOf, AreKept, FormulaCountsRuns, FormulaCountsPieces}
-use Rattle.formula_cycles.proofs.Sums.{sum_same}
-use Rattle.formula_cycles.proofs.Counting.{untimed_there}
-use Rattle.formula_cycles.proofs.Whole.{costs_count}
+use Rattle.timed_pieces.specs.FormulaCycles.Ends.{LoopsLeadToTheirEnds}
+use Rattle.timed_pieces.specs.FormulaCycles.{IsTallyOf, AreKept, FormulaCountsRuns, FormulaCountsPieces}
+use Rattle.timed_pieces.proofs.FormulaCycles.Sums.{sum_same}
+use Rattle.timed_pieces.proofs.FormulaCycles.Counting.{untimed_there}
+use Rattle.timed_pieces.proofs.FormulaCycles.Whole.{costs_count}
 
 -- ---- flat runs
 
