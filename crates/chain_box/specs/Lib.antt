@@ -3,3 +3,4 @@ pub mod Chains
 pub mod Laws
 pub mod Agreement
 pub mod Examples
+pub mod StageEmbedding

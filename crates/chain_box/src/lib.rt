@@ -1,5 +1,7 @@
-//! The chain box: stages joined by queues, as a user sees them, and its law of lists. `chain_link` makes circuits that agree with it.
+//! The box that a chain of stages is, what it answers item by item, and a stage as a part of a larger circuit. Laws for `chain_link`.
 #![tactic(auto)]
+
+pub mod stage_embedding;
 
 ghost use Rattle.chain_box.specs.Laws.{ChainsCompose};
 ghost use Rattle.chain_box.specs.Examples.{ExamplesRun};

@@ -15,8 +15,8 @@ use Rattle.rtl_core.proofs.Fits.{fit_get, step_is_state}
 use Rattle.chain_box.specs.StageBoxes.{StageBox}
 use Rattle.chain_box.specs.Chains.{Chain, Pins, is_some_item, first, has_room, chain_outs, ChainStep, begun, AreSound}
 use Rattle.chain_box.specs.Agreement.{pins_of, ShowsOuts, FollowsChain, AgreesWithChain, AreStagesOf}
-use Rattle.stage_embedding.specs.Placing.{Part, HoldsPlace}
-use Rattle.stage_embedding.proofs.Assembling.{Both, HasCounts, IsHeld, joined, next_states, states_held, parts_step, states_split, states_count, next_counts}
+use Rattle.chain_box.specs.StageEmbedding.Placing.{Part, HoldsPlace}
+use Rattle.chain_box.proofs.Assembling.{Both, HasCounts, IsHeld, joined, next_states, states_held, parts_step, states_split, states_count, next_counts}
 use Rattle.chain_link.specs.declared.numbers.Queue.{Queue}
 use Rattle.chain_link.specs.Units.{low_pins, both_bits, queue_front}
 use Rattle.chain_link.specs.Queues.{HasLog, Ring, HoldsQueue}

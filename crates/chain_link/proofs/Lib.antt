@@ -10,4 +10,5 @@ pub mod Following
 pub mod Shaped
 pub mod StagePins
 pub mod Pushing
+pub mod Near
 pub mod Linked

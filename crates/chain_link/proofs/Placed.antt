@@ -11,10 +11,10 @@ use Rattle.rtl_core.specs.declared.design.OutPin.{OutPin}
 use Rattle.rtl_core.specs.Netlist.{Netlist, Memory}
 use Rattle.rtl_core.specs.ClockStep.{input_widths, register_widths, widths_after, widths}
 use Rattle.rtl_core.specs.Valid.{IsBetween, HasBits, IsConstant, WiresFit, RegisterFits, OutputFits}
-use Rattle.stage_embedding.specs.Placing.{Place, renamed, renamed_wire, renamed_port, renamed_memory, with_exits, exit_wire, part_wires, HasMemory, HasPlace}
-use Rattle.stage_embedding.proofs.Assembling.{ArePlaced, Owns}
-use Rattle.stage_embedding.proofs.Exits.{exits_are_valid, exit_fits}
-use Rattle.stage_embedding.proofs.Pins.{AreInputs, placed_at, fits_later, fits_behind_part, own_memory}
+use Rattle.chain_box.specs.StageEmbedding.Placing.{Place, renamed, renamed_wire, renamed_port, renamed_memory, with_exits, exit_wire, part_wires, HasMemory, HasPlace}
+use Rattle.chain_box.proofs.Assembling.{ArePlaced, Owns}
+use Rattle.chain_box.proofs.Exits.{exits_are_valid, exit_fits}
+use Rattle.chain_box.proofs.Pins.{AreInputs, placed_at, fits_later, fits_behind_part, own_memory}
 use Rattle.chain_link.specs.declared.numbers.Sizes.{Sizes}
 use Rattle.chain_link.specs.declared.numbers.Queue.{Queue}
 use Rattle.chain_link.specs.Units.{low_pins, both_bits, queue_front, queue_back, control, memory_of, writing_port, reading_port}

@@ -6,7 +6,7 @@ use Rattle.rtl_core.specs.declared.design.Wire.{Wire}
 use Rattle.rtl_core.specs.declared.design.Reg.{Reg}
 use Rattle.rtl_core.specs.declared.design.Design.{Design}
 use Rattle.rtl_core.specs.Netlist.{Netlist, Memory, netlist_of}
-use Rattle.stage_embedding.specs.Placing.{Place, Part, renamed_wires, part_wires, part_registers, part_memories, wires_of, registers_of, memories_of}
+use Rattle.chain_box.specs.StageEmbedding.Placing.{Place, Part, renamed_wires, part_wires, part_registers, part_memories, wires_of, registers_of, memories_of}
 use Rattle.chain_link.specs.declared.numbers.Sizes.{Sizes}
 use Rattle.chain_link.specs.declared.numbers.Queue.{Queue}
 use Rattle.chain_link.specs.Linking.{sizes_behind, queue_behind, stage_parts, owned_stage, chain_parts, owned_parts, last_queue}

@@ -11,8 +11,8 @@ use Rattle.rtl_core.proofs.Fits.{fit_get, fit_length}
 use Rattle.chain_box.specs.StageBoxes.{StageBox}
 use Rattle.chain_box.specs.Chains.{begun_link}
 use Rattle.chain_box.specs.Agreement.{AreStagesOf}
-use Rattle.stage_embedding.proofs.Assembling.{Stands, Both, IsStateOf, next_states, memory_parts}
-use Rattle.stage_embedding.proofs.Pins.{part_pins_fit}
+use Rattle.chain_box.proofs.Assembling.{Stands, Both, IsStateOf, next_states, memory_parts}
+use Rattle.chain_box.proofs.Pins.{part_pins_fit}
 use Rattle.chain_link.specs.declared.numbers.Sizes.{Sizes}
 use Rattle.chain_link.specs.declared.numbers.Queue.{Queue}
 use Rattle.chain_link.specs.Units.{queue_back, control, memory_of, reading_port, writing_port}

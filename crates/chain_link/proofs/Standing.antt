@@ -18,10 +18,10 @@ use Rattle.rtl_core.specs.Agreement.{ShowsPhase, ShowsValue, ShowsResult, Shows,
 use Rattle.rtl_core.specs.Valid.{HasBits, IsValid}
 use Rattle.chain_box.specs.StageBoxes.{StageBox, StageStep, answers_of, interface_of, stage_pins, is_ready, is_done, given_result, HasResult, HasResults}
 use Rattle.chain_box.specs.Chains.{Link, is_some_item, first, has_room, gives, starts, taken, popped, pushed, fresh_after, LinkStep, LinksStep, last, AreSound}
-use Rattle.stage_embedding.specs.Placing.{Place, Part, with_exits, HoldsPlace}
-use Rattle.stage_embedding.proofs.Assembling.{Stands, Both, HasCounts, IsHeld, next_states}
-use Rattle.stage_embedding.proofs.Exits.{exit_fits, exit_shows}
-use Rattle.stage_embedding.proofs.Pins.{part_pins_fit}
+use Rattle.chain_box.specs.StageEmbedding.Placing.{Place, Part, with_exits, HoldsPlace}
+use Rattle.chain_box.proofs.Assembling.{Stands, Both, HasCounts, IsHeld, next_states}
+use Rattle.chain_box.proofs.Exits.{exit_fits, exit_shows}
+use Rattle.chain_box.proofs.Pins.{part_pins_fit}
 use Rattle.chain_link.specs.declared.numbers.Sizes.{Sizes}
 use Rattle.chain_link.specs.declared.numbers.Queue.{Queue}
 use Rattle.chain_link.specs.Units.{both_bits, queue_front, queue_back, control, memory_of, reading_port, writing_port}

@@ -7,8 +7,8 @@ use Rattle.rtl_core.specs.declared.design.Atom.TheVariants as atom
 use Rattle.rtl_core.specs.Netlist.{Netlist}
 use Rattle.rtl_core.specs.ClockStep.{widths}
 use Rattle.rtl_core.specs.Valid.{IsBetween, WiresFit, RegisterFits, PortFits, MemoryFits}
-use Rattle.stage_embedding.specs.Placing.{Part}
-use Rattle.stage_embedding.proofs.Assembling.{ReadsFit}
+use Rattle.chain_box.specs.StageEmbedding.Placing.{Part}
+use Rattle.chain_box.proofs.Assembling.{ReadsFit}
 use Rattle.chain_link.specs.Units.{one_of, register_of, low_pins, both_bits, queue_front, queue_back, control, writing_port, reading_port, memory_of}
 use Rattle.chain_link.specs.Queues.{HasLog}
 use Rattle.chain_link.proofs.Queues.{limit_fits}

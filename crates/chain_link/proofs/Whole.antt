@@ -11,8 +11,8 @@ use Rattle.rtl_core.specs.Interface.{pin}
 use Rattle.rtl_core.specs.Valid.{IsBetween, HasBits, IsName, AreDistinct, MemoryFits, OutputFits, IsValid}
 use Rattle.rtl_core.proofs.Tokens.{name_true, names_true, differ_true}
 use Rattle.chain_box.specs.Agreement.{HasChainPins, chain_outputs}
-use Rattle.stage_embedding.specs.Placing.{Part}
-use Rattle.stage_embedding.proofs.Assembling.{ArePlaced, wires_placed, Stands, parts_stand, AreCounted, Owns, parts_own, ReadsFit, registers_fit, memories_fit}
+use Rattle.chain_box.specs.StageEmbedding.Placing.{Part}
+use Rattle.chain_box.proofs.Assembling.{ArePlaced, wires_placed, Stands, parts_stand, AreCounted, Owns, parts_own, ReadsFit, registers_fit, memories_fit}
 use Rattle.chain_link.specs.declared.numbers.Sizes.{Sizes}
 use Rattle.chain_link.specs.declared.numbers.Queue.{Queue}
 use Rattle.chain_link.specs.Queues.{HasLog}

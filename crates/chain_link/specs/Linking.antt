@@ -6,7 +6,7 @@ use Rattle.rtl_core.specs.declared.design.OutPin.{OutPin}
 use Rattle.rtl_core.specs.Netlist.{Netlist}
 use Rattle.rtl_core.specs.ClockStep.{input_widths}
 use Rattle.chain_box.specs.Agreement.{chain_inputs}
-use Rattle.stage_embedding.specs.Placing.{Part, with_exits, wires_of, registers_of, memories_of}
+use Rattle.chain_box.specs.StageEmbedding.Placing.{Part, with_exits, wires_of, registers_of, memories_of}
 use Rattle.chain_link.specs.Units.{low_pins, both_bits, queue_front, queue_back, control}
 use Rattle.chain_link.specs.declared.numbers.Sizes.{Sizes}
 use Rattle.chain_link.specs.declared.numbers.Queue.{Queue}

@@ -1,5 +1,5 @@
 -- The value of a `Spot`.
-use Rattle.stage_embedding.specs.Placing.{Place}
+use Rattle.chain_box.specs.StageEmbedding.Placing.{Place}
 use Rattle.chain_link.specs.declared.placing.Spot.{Spot}
 
 abbrev pub place_of : Spot → Place

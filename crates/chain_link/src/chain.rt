@@ -41,6 +41,8 @@ fn depth_log(depth: u16) -> u8
 fn linked(alloc: Global, stages: &[Design], depth: u16) -> Result<Design, AllocError>
     requires some { 0 < length stages.now }
     requires none { All (λ (d : Design). d.mems.items ≡ []) stages.now }
+    requires few { length stages.now ≤ 16 }
+    requires valid { All (λ (d : Design). IsValid (netlist_of d)) stages.now }
     requires depth { depth ≤ 1024 }
     ensures { IfOk result (λ d. (log : ℕ) × HasLog depth log × (netlist_of d ≡ spec.linked depth log (map netlist_of stages.now))) }
 {

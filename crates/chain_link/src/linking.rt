@@ -1,10 +1,12 @@
 //! The registers, memories and wires of the linked circuit. Called by `link`.
-ghost use Rattle.std.specs.Prelude.{◌≡◌, ◌<◌, ◌++◌, [], ◌∷◌, OnOk, IfOk, map};
+ghost use Rattle.std.specs.Prelude.{◌≡◌, ◌+◌, ◌^◌, ◌<◌, ◌≤◌, ◌++◌, [], ◌∷◌, OnOk, IfOk, length, map};
 ghost use Rattle.std.specs.List.{All};
 ghost use Rattle.rtl_core.specs.Netlist.{netlist_of, memory_of};
-ghost use Rattle.stage_embedding.specs.Placing.{part_wires, wires_of, registers_of, memories_of};
+ghost use Rattle.rtl_core.specs.Valid.{IsValid};
+ghost use Rattle.chain_box.specs.StageEmbedding.Placing.{part_wires, wires_of, registers_of, memories_of};
 ghost use Rattle.chain_link.specs.Linking as spec;
 ghost use Rattle.chain_link.specs.Places.{place_of};
+ghost use Rattle.chain_link.specs.Bounds.{HasRoom, IsEarly, IsSmall, IsWithin, SpotHasRoom};
 
 use crate::numbers::{
     Joint, Queue, asked_spot, back_spot, behind, control_spot, front_spot, last_spot, result_bits,
@@ -15,7 +17,7 @@ use crate::units::{
     back_ports, back_registers, back_wires, both_wires, control_registers, control_wires,
     front_wires, low_wires,
 };
-use rtl_core::design::{Atom, Design, Mem, Reg, Wire};
+use rtl_core::design::{Atom, Design, Mem, OutPin, Reg, Wire};
 use std::alloc::{AllocError, Global};
 
 /// A circuit under construction, without pins.
@@ -27,7 +29,9 @@ pub struct Content {
 }
 
 fn spot_at(alloc: Global, inputs: Vec<Atom>, wires: u64) -> Spot
-    ensures { place_of result ≡ record { inputs = inputs.items; regs = 0; mems = 0; wires = wires } }
+    requires first { wires ≤ 7 }
+    ensures place { place_of result ≡ record { inputs = inputs.items; regs = 0; mems = 0; wires = wires } }
+    ensures room { SpotHasRoom result }
 {
     Spot {
         inputs,
@@ -55,6 +59,30 @@ fn entry_wires(alloc: Global, joint: Joint) -> Result<Vec<Wire>, AllocError>
     Ok(wires)
 }
 
+/// An item of these lists takes more than 64 bytes of memory.
+fn are_few_wires(wires: &[Wire])
+    ensures { length wires.now < 2 ^ 57 }
+{}
+
+fn are_few_registers(regs: &[Reg])
+    ensures { length regs.now < 2 ^ 57 }
+{}
+
+fn are_few_outputs(outputs: &[OutPin])
+    ensures { length outputs.now < 2 ^ 57 }
+{}
+
+/// A valid circuit in memory has no number that comes near 2^64.
+fn has_small_numbers(stage: &Design)
+    requires valid { IsValid (netlist_of stage.now) }
+    requires none { stage.now.mems.items ≡ [] }
+    ensures { IsSmall (netlist_of stage.now) }
+{
+    are_few_wires(&stage.wires);
+    are_few_registers(&stage.regs);
+    are_few_outputs(&stage.outputs);
+}
+
 /// The wires of the stage with start low, and one for each output.
 fn push_asked(
     alloc: Global,
@@ -62,6 +90,9 @@ fn push_asked(
     joint: Joint,
     stage: &Design,
 ) -> Result<(), AllocError>
+    requires room { HasRoom joint.sizes }
+    requires early { IsEarly joint.queue }
+    requires small { IsSmall (netlist_of stage.now) }
     ensures { OnOk result (all.new.items ≡ all.old.items ++ part_wires (spec.asked_part joint.sizes joint.queue (netlist_of stage.now))) }
 {
     let spot = asked_spot(alloc, joint, stage)?;
@@ -76,13 +107,16 @@ fn push_between(
     joint: Joint,
     stage: &Design,
 ) -> Result<(), AllocError>
+    requires room { HasRoom joint.sizes }
+    requires early { IsEarly joint.queue }
+    requires small { IsSmall (netlist_of stage.now) }
     requires some { 0 < joint.log }
     requires few { joint.log < 64 }
     ensures { let d = netlist_of stage.now in
         OnOk result (all.new.items ≡ all.old.items ++ wires_of (spec.front_part joint.depth joint.log joint.sizes d ∷ spec.control_part joint.sizes joint.queue d ∷ spec.back_part joint.log joint.sizes joint.queue d ∷ [])) }
 {
     let front = front_wires(joint.depth, joint.log, result_bits(stage));
-    push_wires(all, &front, &front_spot(alloc, joint, stage)?)?;
+    push_wires(all, &front, &front_spot(alloc, joint, stage))?;
     push_wires(all, &control_wires(), &control_spot(alloc, joint, stage)?)?;
     push_wires(
         all,
@@ -98,6 +132,9 @@ fn push_stage_wires(
     joint: Joint,
     stage: &Design,
 ) -> Result<(), AllocError>
+    requires room { HasRoom joint.sizes }
+    requires early { IsEarly joint.queue }
+    requires small { IsSmall (netlist_of stage.now) }
     requires some { 0 < joint.log }
     requires few { joint.log < 64 }
     ensures { OnOk result (all.new.items ≡ all.old.items ++ wires_of (spec.stage_parts joint.depth joint.log joint.sizes joint.queue (netlist_of stage.now))) }
@@ -114,6 +151,9 @@ fn push_stage_registers(
     joint: Joint,
     stage: &Design,
 ) -> Result<(), AllocError>
+    requires room { HasRoom joint.sizes }
+    requires early { IsEarly joint.queue }
+    requires small { IsSmall (netlist_of stage.now) }
     requires few { joint.log < 64 }
     ensures { OnOk result (all.new.items ≡ all.old.items ++ registers_of (spec.owned_stage joint.log joint.sizes joint.queue (netlist_of stage.now))) }
 {
@@ -137,6 +177,9 @@ fn push_stage_memory(
     joint: Joint,
     stage: &Design,
 ) -> Result<(), AllocError>
+    requires room { HasRoom joint.sizes }
+    requires early { IsEarly joint.queue }
+    requires small { IsSmall (netlist_of stage.now) }
     requires none { stage.now.mems.items ≡ [] }
     ensures { OnOk result (map memory_of all.new.items ≡ map memory_of all.old.items ++ memories_of (spec.owned_stage joint.log joint.sizes joint.queue (netlist_of stage.now))) }
 {
@@ -156,6 +199,9 @@ fn push_stage(
     joint: Joint,
     stage: &Design,
 ) -> Result<(), AllocError>
+    requires room { HasRoom joint.sizes }
+    requires early { IsEarly joint.queue }
+    requires small { IsSmall (netlist_of stage.now) }
     requires none { stage.now.mems.items ≡ [] }
     requires some { 0 < joint.log }
     requires few { joint.log < 64 }
@@ -170,6 +216,8 @@ fn push_stage(
 
 /// The last queue.
 fn push_last(alloc: Global, content: &mut Content, joint: Joint) -> Result<(), AllocError>
+    requires room { HasRoom joint.sizes }
+    requires early { IsEarly joint.queue }
     requires some { 0 < joint.log }
     requires few { joint.log < 64 }
     ensures wires { OnOk result (content.new.wires.items ≡ content.old.wires.items ++ wires_of (spec.last_parts joint.log joint.sizes joint.queue)) }
@@ -197,9 +245,14 @@ fn push_stages(
     stages: &[Design],
     first: Joint,
 ) -> Result<Joint, AllocError>
+    requires few { length stages.now ≤ 16 }
+    requires valid { All (λ (d : Design). IsValid (netlist_of d)) stages.now }
+    requires begins { IsWithin 0 first.sizes first.queue }
     requires none { All (λ (d : Design). d.mems.items ≡ []) stages.now }
     requires some { 0 < first.log }
-    requires few { first.log < 64 }
+    requires log { first.log < 64 }
+    ensures room { IfOk result (λ j. HasRoom j.sizes) }
+    ensures early { IfOk result (λ j. IsEarly j.queue) }
     ensures depth { IfOk result (λ j. j.depth ≡ first.depth) }
     ensures log { IfOk result (λ j. j.log ≡ first.log) }
     ensures queue { IfOk result (λ j. j.queue ≡ spec.last_queue first.sizes first.queue (map netlist_of stages.now)) }
@@ -212,8 +265,9 @@ fn push_stages(
 {
     let mut joint = first;
     for stage in stages {
+        has_small_numbers(stage);
         push_stage(alloc, content, joint, stage)?;
-        joint = behind(joint, stage)?;
+        joint = behind(joint, stage);
     }
     Ok(joint)
 }
@@ -224,9 +278,13 @@ pub fn contents(
     stages: &[Design],
     first: Joint,
 ) -> Result<(Content, Queue), AllocError>
+    requires stages { length stages.now ≤ 16 }
+    requires valid { All (λ (d : Design). IsValid (netlist_of d)) stages.now }
+    requires begins { IsWithin 0 first.sizes first.queue }
     requires none { All (λ (d : Design). d.mems.items ≡ []) stages.now }
     requires some { 0 < first.log }
     requires few { first.log < 64 }
+    ensures early { IfOk result (λ r. IsEarly r.1) }
     ensures queue { IfOk result (λ r. r.1 ≡ spec.last_queue first.sizes first.queue (map netlist_of stages.now)) }
     ensures wires { IfOk result (λ r. r.0.wires.items
         ≡ wires_of (spec.entry_parts first.depth first.log first.queue.bits ++ spec.chain_parts first.depth first.log first.sizes first.queue (map netlist_of stages.now))) }

@@ -1,10 +1,11 @@
 //! Numbers of registers, memories and wires, and the places of a stage's parts. Called by `linking`.
-ghost use Rattle.std.specs.Prelude.{◌≡◌, ◌+◌, [], ◌∷◌, IfOk, length};
+ghost use Rattle.std.specs.Prelude.{◌≡◌, ◌+◌, ◌^◌, ◌<◌, ◌≤◌, [], ◌∷◌, IfOk};
 ghost use Rattle.rtl_core.specs.Netlist.{netlist_of};
 ghost use Rattle.chain_link.specs.Linking as spec;
 ghost use Rattle.chain_link.specs.Places.{place_of};
+ghost use Rattle.chain_link.specs.Bounds.{HasRoom, IsEarly, IsSmall, IsWithin, SpotHasRoom};
 
-use crate::placing::{Spot, plus};
+use crate::placing::Spot;
 use rtl_core::design::{Atom, Design};
 use std::alloc::{AllocError, Global};
 
@@ -55,45 +56,55 @@ pub fn result_bits(stage: &Design) -> u8
 }
 
 /// The wire k places after another.
-fn wire_at(first: u64, k: u64) -> Result<Atom, AllocError>
-    ensures { IfOk result (λ a. a ≡ Atom.Wire (first + k)) }
+fn wire_at(first: u64, k: u64) -> Atom
+    requires fits { first + k < 2 ^ 64 }
+    ensures { result ≡ Atom.Wire (first + k) }
 {
-    Ok(Atom::Wire(plus(first, k)?))
+    Atom::Wire(first + k)
 }
 
 /// Whether the queue has an item.
-pub fn some_of(queue: Queue) -> Result<Atom, AllocError>
-    ensures { IfOk result (λ a. a ≡ spec.some_of queue) }
+pub fn some_of(queue: Queue) -> Atom
+    requires early { IsEarly queue }
+    ensures { result ≡ spec.some_of queue }
 {
     wire_at(queue.front, 0)
 }
 
 /// The first item.
-pub fn first_of(queue: Queue) -> Result<Atom, AllocError>
-    ensures { IfOk result (λ a. a ≡ spec.first_of queue) }
+pub fn first_of(queue: Queue) -> Atom
+    requires early { IsEarly queue }
+    ensures { result ≡ spec.first_of queue }
 {
     wire_at(queue.front, 2)
 }
 
 /// Output k of the stage with start low.
-fn exit_of(sizes: Sizes, stage: &Design, k: u64) -> Result<Atom, AllocError>
-    ensures { IfOk result (λ a. a ≡ spec.exit_of sizes (netlist_of stage.now) k) }
+fn exit_of(sizes: Sizes, stage: &Design, k: u64) -> Atom
+    requires room { HasRoom sizes }
+    requires small { IsSmall (netlist_of stage.now) }
+    requires output { k ≤ 3 }
+    ensures { result ≡ spec.exit_of sizes (netlist_of stage.now) k }
 {
-    let place = plus(stage.wires.len() as u64, k)?;
-    Ok(Atom::Wire(plus(sizes.wires, place)?))
+    wire_at(sizes.wires, stage.wires.len() as u64 + k)
 }
 
-fn behind_asked(sizes: Sizes, stage: &Design) -> Result<u64, AllocError>
-    ensures { IfOk result (λ n. n ≡ spec.behind_asked sizes (netlist_of stage.now)) }
+fn behind_asked(sizes: Sizes, stage: &Design) -> u64
+    requires room { HasRoom sizes }
+    requires small { IsSmall (netlist_of stage.now) }
+    ensures is { result ≡ spec.behind_asked sizes (netlist_of stage.now) }
+    ensures bound { result < sizes.wires + 2 ^ 58 }
 {
-    let wires = plus(stage.wires.len() as u64, stage.outputs.len() as u64)?;
-    plus(sizes.wires, wires)
+    let wires = stage.wires.len() as u64 + stage.outputs.len() as u64;
+    sizes.wires + wires
 }
 
-fn start_of(sizes: Sizes, stage: &Design) -> Result<Atom, AllocError>
-    ensures { IfOk result (λ a. a ≡ spec.start_of sizes (netlist_of stage.now)) }
+fn start_of(sizes: Sizes, stage: &Design) -> Atom
+    requires room { HasRoom sizes }
+    requires small { IsSmall (netlist_of stage.now) }
+    ensures { result ≡ spec.start_of sizes (netlist_of stage.now) }
 {
-    let control = plus(behind_asked(sizes, stage)?, 3)?;
+    let control = behind_asked(sizes, stage) + 3;
     wire_at(control, 5)
 }
 
@@ -113,65 +124,71 @@ fn stage_inputs(alloc: Global, start: Atom, argument: Atom) -> Result<Vec<Atom>,
     Ok(inputs)
 }
 
-fn next_memory(sizes: Sizes) -> Result<u32, AllocError>
-    ensures { IfOk result (λ n. n ≡ sizes.mems + 1) }
-{
-    sizes.mems.checked_add(1).ok_or(AllocError)
-}
-
 /// The stage with start low.
 pub fn asked_spot(alloc: Global, joint: Joint, stage: &Design) -> Result<Spot, AllocError>
-    ensures { IfOk result (λ x. place_of x ≡ (spec.asked_part joint.sizes joint.queue (netlist_of stage.now)).place) }
+    requires room { HasRoom joint.sizes }
+    requires early { IsEarly joint.queue }
+    ensures place { IfOk result (λ x. place_of x ≡ (spec.asked_part joint.sizes joint.queue (netlist_of stage.now)).place) }
+    ensures room { IfOk result SpotHasRoom }
 {
-    let inputs = stage_inputs(alloc, Atom::Wire(0), first_of(joint.queue)?)?;
+    let inputs = stage_inputs(alloc, Atom::Wire(0), first_of(joint.queue))?;
     Ok(Spot {
         inputs,
-        regs: plus(joint.sizes.regs, 3)?,
-        mems: next_memory(joint.sizes)?,
+        regs: joint.sizes.regs + 3,
+        mems: joint.sizes.mems + 1,
         wires: joint.sizes.wires,
     })
 }
 
 /// The state of the queue after the stage.
-pub fn front_spot(alloc: Global, joint: Joint, stage: &Design) -> Result<Spot, AllocError>
-    ensures { IfOk result (λ x. place_of x ≡ (spec.front_part joint.depth joint.log joint.sizes (netlist_of stage.now)).place) }
+pub fn front_spot(alloc: Global, joint: Joint, stage: &Design) -> Spot
+    requires room { HasRoom joint.sizes }
+    requires small { IsSmall (netlist_of stage.now) }
+    ensures place { place_of result ≡ (spec.front_part joint.depth joint.log joint.sizes (netlist_of stage.now)).place }
+    ensures room { SpotHasRoom result }
 {
-    let regs = plus(joint.sizes.regs, 3)?;
-    Ok(Spot {
+    Spot {
         inputs: Vec::new(alloc),
-        regs: plus(regs, stage.regs.len() as u64)?,
-        mems: next_memory(joint.sizes)?,
-        wires: behind_asked(joint.sizes, stage)?,
-    })
+        regs: joint.sizes.regs + 3 + stage.regs.len() as u64,
+        mems: joint.sizes.mems + 1,
+        wires: behind_asked(joint.sizes, stage),
+    }
 }
 
 /// The control of the stage.
 pub fn control_spot(alloc: Global, joint: Joint, stage: &Design) -> Result<Spot, AllocError>
-    ensures { IfOk result (λ x. place_of x ≡ (spec.control_part joint.sizes joint.queue (netlist_of stage.now)).place) }
+    requires room { HasRoom joint.sizes }
+    requires early { IsEarly joint.queue }
+    requires small { IsSmall (netlist_of stage.now) }
+    ensures place { IfOk result (λ x. place_of x ≡ (spec.control_part joint.sizes joint.queue (netlist_of stage.now)).place) }
+    ensures room { IfOk result SpotHasRoom }
 {
-    let behind = behind_asked(joint.sizes, stage)?;
+    let behind = behind_asked(joint.sizes, stage);
     let inputs = vec![in alloc;
         Atom::Input(0),
-        exit_of(joint.sizes, stage, 0)?,
-        exit_of(joint.sizes, stage, 1)?,
-        wire_at(behind, 1)?,
-        some_of(joint.queue)?,
+        exit_of(joint.sizes, stage, 0),
+        exit_of(joint.sizes, stage, 1),
+        wire_at(behind, 1),
+        some_of(joint.queue),
     ]?;
     Ok(Spot {
         inputs,
-        regs: plus(joint.sizes.regs, 2)?,
-        mems: next_memory(joint.sizes)?,
-        wires: plus(behind, 3)?,
+        regs: joint.sizes.regs + 2,
+        mems: joint.sizes.mems + 1,
+        wires: behind + 3,
     })
 }
 
 /// The next state of the queue before the stage.
 pub fn back_spot(alloc: Global, joint: Joint, stage: &Design) -> Result<Spot, AllocError>
-    ensures { IfOk result (λ x. place_of x ≡ (spec.back_part joint.log joint.sizes joint.queue (netlist_of stage.now)).place) }
+    requires room { HasRoom joint.sizes }
+    requires small { IsSmall (netlist_of stage.now) }
+    ensures place { IfOk result (λ x. place_of x ≡ (spec.back_part joint.log joint.sizes joint.queue (netlist_of stage.now)).place) }
+    ensures room { IfOk result SpotHasRoom }
 {
     let inputs = vec![in alloc;
         Atom::Input(0),
-        start_of(joint.sizes, stage)?,
+        start_of(joint.sizes, stage),
         Atom::Wire(joint.queue.give),
         joint.queue.item,
     ]?;
@@ -179,29 +196,36 @@ pub fn back_spot(alloc: Global, joint: Joint, stage: &Design) -> Result<Spot, Al
         inputs,
         regs: joint.sizes.regs,
         mems: joint.sizes.mems,
-        wires: plus(behind_asked(joint.sizes, stage)?, 12)?,
+        wires: behind_asked(joint.sizes, stage) + 12,
     })
 }
 
 /// The stage with its real start.
 pub fn started_spot(alloc: Global, joint: Joint, stage: &Design) -> Result<Spot, AllocError>
-    ensures { IfOk result (λ x. place_of x ≡ (spec.started_part joint.sizes joint.queue (netlist_of stage.now)).place) }
+    requires room { HasRoom joint.sizes }
+    requires early { IsEarly joint.queue }
+    requires small { IsSmall (netlist_of stage.now) }
+    ensures place { IfOk result (λ x. place_of x ≡ (spec.started_part joint.sizes joint.queue (netlist_of stage.now)).place) }
+    ensures room { IfOk result SpotHasRoom }
 {
-    let start = start_of(joint.sizes, stage)?;
-    let inputs = stage_inputs(alloc, start, first_of(joint.queue)?)?;
+    let start = start_of(joint.sizes, stage);
+    let inputs = stage_inputs(alloc, start, first_of(joint.queue))?;
     Ok(Spot {
         inputs,
-        regs: plus(joint.sizes.regs, 3)?,
-        mems: next_memory(joint.sizes)?,
-        wires: plus(behind_asked(joint.sizes, stage)?, 23)?,
+        regs: joint.sizes.regs + 3,
+        mems: joint.sizes.mems + 1,
+        wires: behind_asked(joint.sizes, stage) + 23,
     })
 }
 
 /// Whether the user takes an item.
 pub fn take_spot(alloc: Global, joint: Joint) -> Result<Spot, AllocError>
-    ensures { IfOk result (λ x. place_of x ≡ (spec.take_part joint.sizes joint.queue).place) }
+    requires room { HasRoom joint.sizes }
+    requires early { IsEarly joint.queue }
+    ensures place { IfOk result (λ x. place_of x ≡ (spec.take_part joint.sizes joint.queue).place) }
+    ensures room { IfOk result SpotHasRoom }
 {
-    let inputs = vec![in alloc; Atom::Input(3), some_of(joint.queue)?]?;
+    let inputs = vec![in alloc; Atom::Input(3), some_of(joint.queue)]?;
     Ok(Spot {
         inputs,
         regs: 0,
@@ -212,11 +236,13 @@ pub fn take_spot(alloc: Global, joint: Joint) -> Result<Spot, AllocError>
 
 /// The next state of the last queue.
 pub fn last_spot(alloc: Global, joint: Joint) -> Result<Spot, AllocError>
-    ensures { IfOk result (λ x. place_of x ≡ (spec.last_part joint.log joint.sizes joint.queue).place) }
+    requires room { HasRoom joint.sizes }
+    ensures place { IfOk result (λ x. place_of x ≡ (spec.last_part joint.log joint.sizes joint.queue).place) }
+    ensures room { IfOk result SpotHasRoom }
 {
     let inputs = vec![in alloc;
         Atom::Input(0),
-        wire_at(joint.sizes.wires, 0)?,
+        wire_at(joint.sizes.wires, 0),
         Atom::Wire(joint.queue.give),
         joint.queue.item,
     ]?;
@@ -224,50 +250,52 @@ pub fn last_spot(alloc: Global, joint: Joint) -> Result<Spot, AllocError>
         inputs,
         regs: joint.sizes.regs,
         mems: joint.sizes.mems,
-        wires: plus(joint.sizes.wires, 1)?,
+        wires: joint.sizes.wires + 1,
     })
 }
 
-fn sizes_behind(sizes: Sizes, stage: &Design) -> Result<Sizes, AllocError>
-    ensures { IfOk result (λ s. s ≡ spec.sizes_behind sizes (netlist_of stage.now)) }
+fn sizes_behind(sizes: Sizes, stage: &Design) -> Sizes
+    requires room { HasRoom sizes }
+    requires small { IsSmall (netlist_of stage.now) }
+    ensures { result ≡ spec.sizes_behind sizes (netlist_of stage.now) }
 {
-    let regs = plus(sizes.regs, 3)?;
-    let wires = plus(behind_asked(sizes, stage)?, 23)?;
-    Ok(Sizes {
-        regs: plus(regs, stage.regs.len() as u64)?,
-        mems: next_memory(sizes)?,
-        wires: plus(wires, stage.wires.len() as u64)?,
-    })
+    Sizes {
+        regs: sizes.regs + 3 + stage.regs.len() as u64,
+        mems: sizes.mems + 1,
+        wires: behind_asked(sizes, stage) + 23 + stage.wires.len() as u64,
+    }
 }
 
-fn queue_behind(sizes: Sizes, stage: &Design) -> Result<Queue, AllocError>
-    ensures { IfOk result (λ q. q ≡ spec.queue_behind sizes (netlist_of stage.now)) }
+fn queue_behind(sizes: Sizes, stage: &Design) -> Queue
+    requires room { HasRoom sizes }
+    requires small { IsSmall (netlist_of stage.now) }
+    ensures { result ≡ spec.queue_behind sizes (netlist_of stage.now) }
 {
-    let front = behind_asked(sizes, stage)?;
-    let control = plus(front, 3)?;
-    Ok(Queue {
+    let front = behind_asked(sizes, stage);
+    let control = front + 3;
+    Queue {
         front,
-        give: plus(control, 1)?,
-        item: exit_of(sizes, stage, 3)?,
+        give: control + 1,
+        item: exit_of(sizes, stage, 3),
         bits: result_bits(stage),
-    })
+    }
 }
 
 /// Where the stage after this one follows.
-pub fn behind(joint: Joint, stage: &Design) -> Result<Joint, AllocError>
-    ensures depth { IfOk result (λ j. j.depth ≡ joint.depth) }
-    ensures log { IfOk result (λ j. j.log ≡ joint.log) }
-    ensures sizes { IfOk result (λ j. j.sizes ≡ spec.sizes_behind joint.sizes (netlist_of stage.now)) }
-    ensures queue { IfOk result (λ j. j.queue ≡ spec.queue_behind joint.sizes (netlist_of stage.now)) }
+pub fn behind(joint: Joint, stage: &Design) -> Joint
+    requires room { HasRoom joint.sizes }
+    requires small { IsSmall (netlist_of stage.now) }
+    ensures depth { result.depth ≡ joint.depth }
+    ensures log { result.log ≡ joint.log }
+    ensures sizes { result.sizes ≡ spec.sizes_behind joint.sizes (netlist_of stage.now) }
+    ensures queue { result.queue ≡ spec.queue_behind joint.sizes (netlist_of stage.now) }
 {
-    let sizes = sizes_behind(joint.sizes, stage)?;
-    let queue = queue_behind(joint.sizes, stage)?;
-    Ok(Joint {
+    Joint {
         depth: joint.depth,
         log: joint.log,
-        sizes,
-        queue,
-    })
+        sizes: sizes_behind(joint.sizes, stage),
+        queue: queue_behind(joint.sizes, stage),
+    }
 }
 
 /// Where the first stage follows.
@@ -276,6 +304,7 @@ pub fn entry(depth: u16, log: u8, bits: u8) -> Joint
     ensures log { result.log ≡ log }
     ensures sizes { result.sizes ≡ spec.entry_sizes }
     ensures queue { result.queue ≡ spec.entry_queue bits }
+    ensures room { IsWithin 0 result.sizes result.queue }
 {
     Joint {
         depth,

@@ -3,6 +3,7 @@ ghost use Rattle.std.specs.Prelude.{◌≡◌, IfOk};
 ghost use Rattle.rtl_core.specs.Interface.{pin};
 ghost use Rattle.chain_box.specs.Agreement.{chain_inputs};
 ghost use Rattle.chain_link.specs.Linking as spec;
+ghost use Rattle.chain_link.specs.Bounds.{IsEarly};
 
 use crate::numbers::{Queue, first_of, some_of};
 use hls_base::text::Text;
@@ -38,12 +39,13 @@ fn output(alloc: Global, name: &[u8], bits: u8, from: Atom) -> Result<OutPin, Al
 
 /// The outputs; the last two show the last queue.
 pub fn outputs_of(alloc: Global, queue: Queue) -> Result<Vec<OutPin>, AllocError>
+    requires early { IsEarly queue }
     ensures { IfOk result (λ v. v.items ≡ spec.output_pins queue) }
 {
     let pins = vec![in alloc;
         output(alloc, b"in_room", 1, Atom::Wire(5))?,
-        output(alloc, b"out_valid", 1, some_of(queue)?)?,
-        output(alloc, b"out_data", queue.bits, first_of(queue)?)?,
+        output(alloc, b"out_valid", 1, some_of(queue))?,
+        output(alloc, b"out_data", queue.bits, first_of(queue))?,
     ]?;
     Ok(pins)
 }

@@ -1,5 +1,5 @@
 use Rattle.std.proofs.Common.{◌≡◌, ◌++◌, map, take}
-use Rattle.stage_embedding.specs.Placing.{renamed_wire}
+use Rattle.chain_box.specs.StageEmbedding.Placing.{renamed_wire}
 use Rattle.chain_link.specs.Places.{place_of}
 use Rattle.chain_link.proofs.placing.push_wires.Given as goal
 

@@ -19,8 +19,8 @@ use Rattle.rtl_core.specs.ClockStep.{State, Widths, bits_of, value_of, pair_valu
 use Rattle.rtl_core.specs.Valid.{HasBits, OperandsFit, IsWordOf, NetFits, WiresFit, IsConstant, RegisterFits, PortFits, MemoryFits}
 use Rattle.rtl_core.proofs.Stability.{Longer, bits_kept, values_extend, values_append, wire_values_length}
 use Rattle.rtl_core.proofs.Fits.{width_is}
-use Rattle.stage_embedding.specs.Placing.{Place, renamed, renamed_net, renamed_wire, renamed_register, renamed_port, renamed_memory, renamed_wires, HasMemory, HasPlace, HoldsPlace}
-use Rattle.stage_embedding.specs.Laws.{SeesTheSame}
+use Rattle.chain_box.specs.StageEmbedding.Placing.{Place, renamed, renamed_net, renamed_wire, renamed_register, renamed_port, renamed_memory, renamed_wires, HasMemory, HasPlace, HoldsPlace}
+use Rattle.chain_box.specs.StageEmbedding.{SeesTheSame}
 
 -- ---- an expression whose atoms are renamed
 

@@ -1,4 +1,5 @@
 -- A part of a larger circuit behaves as it does alone.
+pub mod Placing
 use Rattle.std.specs.Prelude.{◌≡◌, ℕ, List, [], ◌++◌, map}
 use Rattle.std.specs.List.{All}
 use Rattle.rtl_core.specs.declared.design.Atom.{Atom}
@@ -6,7 +7,7 @@ use Rattle.rtl_core.specs.declared.design.Wire.{Wire}
 use Rattle.rtl_core.specs.Netlist.{Netlist}
 use Rattle.rtl_core.specs.ClockStep.{State, widths, seen, clocked_registers, clocked_memories}
 use Rattle.rtl_core.specs.Valid.{HasBits, WiresFit, RegisterFits, MemoryFits}
-use Rattle.stage_embedding.specs.Placing.{Place, renamed, renamed_register, renamed_memory, renamed_wires, HasPlace, HoldsPlace}
+use Rattle.chain_box.specs.StageEmbedding.Placing.{Place, renamed, renamed_register, renamed_memory, renamed_wires, HasPlace, HoldsPlace}
 
 -- The renamed wires are valid after the wires `before`.
 abbrev pub PartsFit : Type 0

@@ -1,7 +1,6 @@
 //! A circuit as a part of a larger one: its renamed wires have the values that they have alone. `chain_link` puts its circuits together from such parts.
-#![tactic(auto)]
 
-ghost use Rattle.stage_embedding.specs.Laws.{PartsFit, PartsSeeTheSame};
+ghost use Rattle.chain_box.specs.StageEmbedding.{PartsFit, PartsSeeTheSame};
 
 /// The renamed wires are valid.
 pub fn parts_fit()

@@ -12,9 +12,9 @@ use Rattle.rtl_core.specs.ClockStep.{State, Widths, input_widths, register_width
 use Rattle.rtl_core.specs.Valid.{HasBits, IsConstant, IsValid}
 use Rattle.rtl_core.proofs.Stability.{bits_kept}
 use Rattle.rtl_core.proofs.Fits.{seen_fits}
-use Rattle.stage_embedding.specs.Placing.{Place, renamed, renamed_port, renamed_memory, renamed_wires, Part, HasMemory, HasPlace}
-use Rattle.stage_embedding.proofs.Embedding.{atom_fits_renamed}
-use Rattle.stage_embedding.proofs.Assembling.{Stands, Owns}
+use Rattle.chain_box.specs.StageEmbedding.Placing.{Place, renamed, renamed_port, renamed_memory, renamed_wires, Part, HasMemory, HasPlace}
+use Rattle.chain_box.proofs.Embedding.{atom_fits_renamed}
+use Rattle.chain_box.proofs.Assembling.{Stands, Owns}
 
 -- an atom of each width, none of them constant
 abbrev pub AreInputs : Widths → List ℕ → List Atom → Type 0

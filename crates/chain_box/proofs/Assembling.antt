@@ -15,9 +15,9 @@ use Rattle.rtl_core.specs.Valid.{HasBits, WiresFit, RegisterFits, PortFits, Memo
 use Rattle.rtl_core.proofs.Stability.{get_same}
 use Rattle.rtl_core.proofs.Fits.{fit_length, fit_parts, fit_apart}
 use Rattle.rtl_core.proofs.Growth.{wires_append}
-use Rattle.stage_embedding.specs.Placing.{Place, renamed, renamed_register, renamed_port, renamed_memory, Part, part_wires, part_registers, part_memories, wires_of, registers_of, memories_of, HasPlace, HoldsPlace}
-use Rattle.stage_embedding.specs.Laws.{SeesTheSame}
-use Rattle.stage_embedding.proofs.Embedding.{get_behind, parts_fit, fits_whole, sees}
+use Rattle.chain_box.specs.StageEmbedding.Placing.{Place, renamed, renamed_register, renamed_port, renamed_memory, Part, part_wires, part_registers, part_memories, wires_of, registers_of, memories_of, HasPlace, HoldsPlace}
+use Rattle.chain_box.specs.StageEmbedding.{SeesTheSame}
+use Rattle.chain_box.proofs.Embedding.{get_behind, parts_fit, fits_whole, sees}
 
 -- ---- parts one behind another
 

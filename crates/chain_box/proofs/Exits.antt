@@ -13,8 +13,8 @@ use Rattle.rtl_core.specs.ClockStep.{State, register_widths, wire_widths, widths
 use Rattle.rtl_core.specs.Valid.{HasBits, IsBetween, WiresFit, OutputFits}
 use Rattle.rtl_core.proofs.Stability.{Extends, Holds, bits_kept, wire_equation, seen_kept}
 use Rattle.rtl_core.proofs.Growth.{wires_extended}
-use Rattle.stage_embedding.specs.Placing.{exit_wire, with_exits}
-use Rattle.stage_embedding.proofs.Embedding.{get_behind}
+use Rattle.chain_box.specs.StageEmbedding.Placing.{exit_wire, with_exits}
+use Rattle.chain_box.proofs.Embedding.{get_behind}
 
 abbrev pub exits_extend : (d : Netlist) → Extends d (with_exits d)
 exits_extend d = record { inputs = refl; more_regs = []; regs = sym (append-nil (register_widths d)); more_wires = map exit_wire d.outputs; wires = refl }

@@ -1,4 +1,0 @@
-pub mod Embedding
-pub mod Assembling
-pub mod Exits
-pub mod Pins
