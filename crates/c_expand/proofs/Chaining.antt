@@ -1,5 +1,5 @@
 -- Operators of a chain, one more at the innermost.
-use Rattle.std.proofs.Common.{◌≡◌, Bool, List, [], ◌∷◌, ◌++◌, refl, sym, ap, ◌∙◌}
+use Rattle.std.proofs.Common.{◌≡◌, List, [], ◌∷◌, ◌++◌, refl, sym, ap, ◌∙◌}
 use Rattle.pieces.specs.Trees.{PureTree}
 use Rattle.piece_making.specs.Making.{State, Part, then_}
 use Rattle.piece_making.specs.Calls.{Call}
@@ -9,7 +9,8 @@ use Rattle.c_expand.specs.declared.operators.Step.{Step}
 use Rattle.pieces.specs.Resolved.Core as core
 use Rattle.pieces.specs.Resolved.Core.{CoreTree}
 use Rattle.piece_making.proofs.Parts.{made_behind, heavy_at_once, heavy_behind}
-use Rattle.c_expand.specs.Expressions.{Callee, expression, discarded, may_be_unused}
+use Rattle.piece_making.specs.Acting.{effects}
+use Rattle.c_expand.specs.Expressions.{Callee, expression, comma_left}
 use Rattle.c_expand.specs.Chains.{link, links}
 use Rattle.c_expand.proofs.Leading.{Leads, begins, leads_as, goes_on, stops, ends, then_then, then_nothing, nothing_then, same_behind}
 
@@ -71,11 +72,11 @@ module _ (f : Callee) (c : Call) where
   unfolding chained
   chain_heavy_first ss p old mid r whole l h = l.heavy r (heavy_at_once _ _ p (λ y s. links f c ss y s) h)
 
-  -- whether the value of a left operand of a comma is let go
-  pub comma_is : (left right : CoreTree) (b : Bool) (s : State) → b ≡ may_be_unused left
-      → expression f c (core.comma left right) s ≡ then_ (expression f c left s) (λ x s1. then_ (discarded b x s1) (λ u s2. expression f c right s2))
-  comma_is left right b s e =
-      ap (λ (z : Bool). then_ (expression f c left s) (λ x s1. then_ (discarded z x s1) (λ u s2. expression f c right s2))) (sym e)
+  -- a comma, whose left operand is also held apart
+  pub comma_is : (left right held : CoreTree) (s : State) → held ≡ left
+      → expression f c (core.comma left right) s ≡ then_ (expression f c left s) (λ x s1. then_ (comma_left c.file_variables held x (effects right) s1) (λ u s2. expression f c right s2))
+  comma_is left right held s e =
+      ap (λ (z : CoreTree). then_ (expression f c left s) (λ x s1. then_ (comma_left c.file_variables z x (effects right) s1) (λ u s2. expression f c right s2))) (sym e)
 
   pub joined_turn : (left steps : List Step) (t : Step) (x y : PureTree) (old mid new : Stock) (whole : Part PureTree)
       → steps ≡ left ++ t ∷ [] → IsMade mid new y (link f c t x (state_of mid))

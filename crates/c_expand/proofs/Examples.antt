@@ -11,7 +11,8 @@ use Rattle.pieces.specs.Resolved.Core as core
 use Rattle.pieces.specs.Resolved.Core.{CoreTree, CoreStmtTree, CoreStmtTrees, stmt_row, argument_row, CoreObjectTree, CoreFunctionTree, CoreProgramTree}
 use Rattle.pieces.specs.Trees as tree
 use Rattle.pieces.specs.Trees.{PureTree, PieceTree, PieceTrees, piece_row}
-use Rattle.piece_making.specs.Making.{then_, emit, inside, fresh, fresh_result, next_call, next_loop, variable_number}
+use Rattle.piece_making.specs.Making.{then_, emit, declared, inside, fresh, fresh_result, add_array, next_call, next_loop, set_own, variable_number, array_number}
+use Rattle.c_expand.specs.Expressions.{chosen}
 use Rattle.c_expand.specs.Statements.{actions, changed, valued, stepped}
 use Rattle.c_expand.specs.Expansion.{expansion, expanded_weight}
 
@@ -103,3 +104,67 @@ counted_pieces = refl
 counted_weight : expanded_weight counted ≡ 10
 unfolding then_ emit fresh fresh_result next_call actions changed valued stepped
 counted_weight = refl
+
+-- int g(void) { return 1; }, and f, whose first parameter is an array
+abbrev with_array : List CoreObjectTree → List CoreStmtTree → CoreProgramTree
+with_array scalars body = program (
+    function 0 [] (core.return_ (Some (core.number 1 int_type)) ∷ []) ∷
+    record { name = []; at = p; result = Some int_type; params = 2; objects = record { name = []; kind = int_type; lengths = 2 ∷ []; constant = false } ∷ scalars; outermost = []; body = stmt_row body } ∷ []) 1
+
+abbrev element : ℕ → CoreTree
+element n = core.element (cell 0) (core.more (core.number n int_type) core.none) int_type p
+
+abbrev e : ℕ → PureTree
+e n = tree.element (array_number 0) (tree.more (number n) tree.none) int_type p
+
+abbrev call : CoreTree
+call = core.call 0 (argument_row []) (Some int_type) p
+
+-- int f(int a[2], int c) { return (a[0] && a[1]) + g(); }
+abbrev operand_saved : CoreProgramTree
+operand_saved = with_array (object ∷ []) (
+    core.return_ (Some (core.binary b.Add (core.binary b.LogAnd (element 0) (element 1) int_type p) call int_type p)) ∷ [])
+
+operand_saved_pieces : (expansion operand_saved).pieces ≡ piece_row (
+    at [] point.Begin ∷ set 2 (e 0) ∷ set 3 (tree.binary b.LogAnd (v 2) (e 1) int_type p) ∷
+    at (p ∷ []) point.Begin ∷ set 4 (number 1) ∷ at (p ∷ []) point.End ∷
+    set 1 (tree.binary b.Add (v 3) (v 4) int_type p) ∷ at [] point.End ∷ [])
+unfolding then_ emit fresh fresh_result next_call add_array set_own actions changed valued stepped
+operand_saved_pieces = refl
+
+operand_saved_weight : expanded_weight operand_saved ≡ 15
+unfolding then_ emit fresh fresh_result next_call add_array set_own actions changed valued stepped
+operand_saved_weight = refl
+
+-- int f(int a[2], int d) { return (a[0] ? a[1] : d) + g(); }
+abbrev test_saved : CoreProgramTree
+test_saved = with_array (object ∷ []) (
+    core.return_ (Some (core.binary b.Add (core.choice (element 0) (element 1) (read 1) int_type p p) call int_type p)) ∷ [])
+
+test_saved_pieces : (expansion test_saved).pieces ≡ piece_row (
+    at [] point.Begin ∷ set 2 (e 0) ∷ set 3 (tree.choice (v 2) (e 1) (v 0) int_type) ∷
+    at (p ∷ []) point.Begin ∷ set 4 (number 1) ∷ at (p ∷ []) point.End ∷
+    set 1 (tree.binary b.Add (v 3) (v 4) int_type p) ∷ at [] point.End ∷ [])
+unfolding then_ emit fresh fresh_result next_call add_array set_own chosen actions changed valued stepped
+test_saved_pieces = refl
+
+test_saved_weight : expanded_weight test_saved ≡ 16
+unfolding then_ emit fresh fresh_result next_call add_array set_own chosen actions changed valued stepped
+test_saved_weight = refl
+
+-- int f(int a[2], int c) { int x; return (a[0], x = g()); }
+abbrev left_saved : CoreProgramTree
+left_saved = with_array (object ∷ object ∷ []) (
+    core.declare 2 core.unwritten ∷
+    core.return_ (Some (core.comma (element 0) (core.assign (core.target (cell 2) core.none int_type p) None call p))) ∷ [])
+
+left_saved_pieces : (expansion left_saved).pieces ≡ piece_row (
+    at [] point.Begin ∷ set 3 (e 0) ∷ set 4 (v 3) ∷
+    at (p ∷ []) point.Begin ∷ set 5 (number 1) ∷ at (p ∷ []) point.End ∷
+    set 6 (v 5) ∷ set 1 (v 6) ∷ set 2 (v 6) ∷ at [] point.End ∷ [])
+unfolding then_ emit declared fresh fresh_result next_call add_array set_own actions changed valued stepped
+left_saved_pieces = refl
+
+left_saved_weight : expanded_weight left_saved ≡ 15
+unfolding then_ emit declared fresh fresh_result next_call add_array set_own actions changed valued stepped
+left_saved_weight = refl

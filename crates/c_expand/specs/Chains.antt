@@ -9,7 +9,7 @@ use Rattle.piece_making.specs.Acting.{effects}
 use Rattle.piece_making.specs.Assigning.{assigned, change_of}
 use Rattle.c_expand.specs.declared.operators.Step.{Step}
 use Rattle.c_expand.specs.declared.operators.Step.TheVariants as s
-use Rattle.c_expand.specs.Expressions.{Callee, expression, operated, discarded}
+use Rattle.c_expand.specs.Expressions.{Callee, expression, operated, comma_left}
 
 -- an operator behind the operand that it goes on with
 abbrev pub link : Callee → Call → Step → PureTree → State → Part PureTree
@@ -17,7 +17,8 @@ link f c (s.Unary op kind at) x st = gives (tree.unary op x kind at) st
 link f c (s.Cast to) x st = gives (tree.cast to x) st
 link f c (s.Binary o right) x st = operated c o.op o.kind o.at x (effects (core_of right.now)) (expression f c (core_of right.now)) st
 link f c (s.Assign t) x st = assigned c (change_of t) x st
-link f c (s.Comma is_let_go right) x st = then_ (discarded is_let_go x st) (λ u s1. expression f c (core_of right.now) s1)
+link f c (s.Comma left right) x st =
+    then_ (comma_left c.file_variables (core_of left.now) x (effects (core_of right.now)) st) (λ u s1. expression f c (core_of right.now) s1)
 
 -- outermost first
 abbrev pub links : Callee → Call → List Step → PureTree → State → Part PureTree

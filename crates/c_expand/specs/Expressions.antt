@@ -30,6 +30,10 @@ pub data Given : Type 0 where
 abbrev pub Callee : Type 0
 Callee = ℕ → List Given → Call → Place → State → Part (Option PureTree)
 
+abbrev pub is_call : CoreTree → Bool
+is_call (core.call callee args k at) = true
+is_call _ = false
+
 -- an expression that is a call, a comma or a change: its value is let go where it is not used
 abbrev pub may_be_unused : CoreTree → Bool
 may_be_unused (core.number value k) = false
@@ -50,6 +54,10 @@ set_unused x s = then_ (set_own (kind x) x s) (λ own s1. gives tt s1)
 
 abbrev pub discarded : Bool → PureTree → State → Part (Unit {0})
 discarded is_let_go x s = if is_let_go then gives tt s else set_unused x s
+
+-- The left operand of a comma, whose value is x, where the right one has these effects. A call's value is let go. What any other operand reads is saved, and then the operand is let go or set.
+abbrev pub comma_left : ℕ → CoreTree → PureTree → Effects → State → Part (Unit {0})
+comma_left n left x later s = if is_call left then gives tt s else then_ (save n x later s) (λ y s1. discarded (may_be_unused left) y s1)
 
 -- the value of a call that has one
 abbrev pub value_or_zero : Option PureTree → PureTree
@@ -126,7 +134,7 @@ abbrev mutual
       then_ (targeted f c left (effects value) op at s) (λ t s1. then_ (expression f c value s1) (λ by s2. assigned c t by s2))
   expression f c (core.bump left up post at) s = then_ (targeted f c left no_effects (step up) at s) (λ t s1. bumped c t post s1)
   expression f c (core.comma left right) s =
-      then_ (expression f c left s) (λ x s1. then_ (discarded (may_be_unused left) x s1) (λ u s2. expression f c right s2))
+      then_ (expression f c left s) (λ x s1. then_ (comma_left c.file_variables left x (effects right) s1) (λ u s2. expression f c right s2))
 
   -- Operands from left to right, behind those that have their values. What each of them reads is saved where a later one has effects, or what comes behind them all.
   pub operands : Callee → Call → CoreTrees → Effects → List PureTree → State → Part (List PureTree)

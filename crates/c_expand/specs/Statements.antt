@@ -20,16 +20,12 @@ use Rattle.piece_making.specs.Acting.{no_effects, effects}
 use Rattle.piece_making.specs.Leaving.{is_empty}
 use Rattle.piece_making.specs.Assigning.{step, one, apply}
 use Rattle.piece_making.specs.Objects.{local_array}
-use Rattle.c_expand.specs.Expressions.{Callee, expression, targeted, discarded}
+use Rattle.c_expand.specs.Expressions.{Callee, expression, targeted, is_call, discarded}
 
 abbrev pub marked : Call → PointKind → Place → State → Part (Unit {0})
 marked c kind at s = emit (tree.mark (point_in c kind at)) s
 
 -- ---- actions
-
-abbrev pub is_call : CoreTree → Bool
-is_call (core.call callee args k at) = true
-is_call _ = false
 
 -- an expression whose value is not used: where it is no call, it is set into a variable of its own
 unfoldable pub valued : Callee → Call → CoreTree → State → Part (Unit {0})

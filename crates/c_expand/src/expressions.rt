@@ -11,7 +11,7 @@ ghost use Rattle.piece_making.specs.Assigning.{change_of, step};
 ghost use Rattle.piece_making.specs.Stocks.{IsMade, IsTooHeavy, state_of, stock};
 ghost use Rattle.c_expand.specs.Callees.{callee_of, call_at};
 ghost use Rattle.c_expand.specs.Chains.{links};
-ghost use Rattle.c_expand.specs.Expressions.{expression, operands, targeted, may_be_unused, value_or_zero};
+ghost use Rattle.c_expand.specs.Expressions.{expression, operands, targeted, value_or_zero};
 
 use crate::calls::called;
 use crate::here::{Here, deeper};
@@ -75,8 +75,7 @@ pub fn expression(here: Here, work: &mut Work, e: &CoreExpr) -> Result<Pure, Fai
                 part = value;
             }
             CoreExpr::Comma { left, right } => {
-                let unused = may_be_unused(left);
-                steps.push(Step::Comma { unused, right })?;
+                steps.push(Step::Comma { left, right })?;
                 part = left;
             }
             _ => {
@@ -246,17 +245,4 @@ fn operands(
         values.push(kept)?;
     }
     Ok(values)
-}
-
-/// Whether an expression is a call, a comma or a change, whose value is let go where it is not used.
-fn may_be_unused(e: &CoreExpr) -> bool
-    ensures { result ≡ may_be_unused (core_of e.now) }
-{
-    matches!(
-        e,
-        CoreExpr::Call { .. }
-            | CoreExpr::Assign { .. }
-            | CoreExpr::Bump { .. }
-            | CoreExpr::Comma { .. }
-    )
 }

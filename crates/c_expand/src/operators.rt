@@ -9,7 +9,7 @@ ghost use Rattle.piece_making.specs.Saving.{is_logical};
 ghost use Rattle.piece_making.specs.Stocks.{IsMade, IsTooHeavy, state_of, stock};
 ghost use Rattle.c_expand.specs.Callees.{callee_of, call_at};
 ghost use Rattle.c_expand.specs.Chains.{link};
-ghost use Rattle.c_expand.specs.Expressions.{expression, operated, forked, chosen, arm, decided, same, to_bool, fork_of, discarded, set_unused, is_or};
+ghost use Rattle.c_expand.specs.Expressions.{expression, operated, forked, chosen, arm, decided, same, to_bool, fork_of, is_call, may_be_unused, comma_left, discarded, set_unused, is_or};
 
 use crate::expressions::expression;
 use crate::here::{Here, deeper};
@@ -21,8 +21,8 @@ use hls_base::point::PointKind;
 use hls_base::refusal::{Fail, impossible};
 use piece_making::assignments::{Change, assigned};
 use piece_making::build::{Operator, binary, bit, cast, choice, unary, variable};
-use piece_making::effects::effects_of;
-use piece_making::frame::Frame;
+use piece_making::effects::{Effects, effects_of};
+use piece_making::frame::{Context, Frame};
 use piece_making::saving::save;
 use piece_making::work::Work;
 use pieces::piece::Piece;
@@ -46,9 +46,8 @@ pub enum Step<'e> {
         right: &'e CoreExpr,
     },
     Assign(Change<'e>),
-    /// The value of its left operand may be let go where `unused` holds.
     Comma {
-        unused: bool,
+        left: &'e CoreExpr,
         right: &'e CoreExpr,
     },
 }
@@ -68,11 +67,50 @@ pub fn linked(here: Here, work: &mut Work, step: Step, part: Pure) -> Result<Pur
         Step::Cast { to } => Ok(cast(alloc, to, part)?),
         Step::Binary { operator, right } => operated(here, work, operator, part, right),
         Step::Assign(change) => assigned(here.frame, work, change, part),
-        Step::Comma { unused, right } => {
-            discard(work, unused, part)?;
+        Step::Comma { left, right } => {
+            let later = effects_of(right);
+            comma_left(here.frame.context, work, left, part, later)?;
             expression(here, work, right)
         }
     }
+}
+
+/// The left operand of a comma. What it reads is saved where the right operand has effects, unless it is a call. Its value is not used.
+fn comma_left(
+    context: &Context,
+    work: &mut Work,
+    left: &CoreExpr,
+    value: Pure,
+    later: Effects,
+) -> Result<(), Fail>
+    ensures made { IfOk result (λ v. IsMade (stock work.old) (stock work.new) v (comma_left context.now.file_variables (core_of left.now) (pure_of value) later (state_of (stock work.old)))) }
+    ensures refused { IfRefused result (λ r. IsTooHeavy (stock work.old) r (comma_left context.now.file_variables (core_of left.now) (pure_of value) later (state_of (stock work.old)))) }
+{
+    if is_call(left) {
+        Ok(())
+    } else {
+        let value = save(context, work, value, later)?;
+        discard(work, may_be_unused(left), value)
+    }
+}
+
+pub fn is_call(e: &CoreExpr) -> bool
+    ensures { result ≡ is_call (core_of e.now) }
+{
+    matches!(e, CoreExpr::Call { .. })
+}
+
+/// Whether an expression is a call, a comma or a change, whose value is let go where it is not used.
+fn may_be_unused(e: &CoreExpr) -> bool
+    ensures { result ≡ may_be_unused (core_of e.now) }
+{
+    matches!(
+        e,
+        CoreExpr::Call { .. }
+            | CoreExpr::Assign { .. }
+            | CoreExpr::Bump { .. }
+            | CoreExpr::Comma { .. }
+    )
 }
 
 /// A value that is not used. It is set into a variable of its own, unless it may be let go.

@@ -10,12 +10,12 @@ ghost use Rattle.piece_making.specs.Calls.{call_of};
 ghost use Rattle.piece_making.specs.Stocks.{IsMade, IsTooHeavy, state_of, stock};
 ghost use Rattle.c_expand.specs.Callees.{callee_of, call_at};
 ghost use Rattle.c_expand.specs.Loops.{loop_of, loop_tree, repeat_of, test_of};
-ghost use Rattle.c_expand.specs.Statements.{statement, statements, other_branch, branch, labelled, switched, loop_body, stepped, tested, returned, result_set, actions, action, changed, valued, is_call};
+ghost use Rattle.c_expand.specs.Statements.{statement, statements, other_branch, branch, labelled, switched, loop_body, stepped, tested, returned, result_set, actions, action, changed, valued};
 
 use crate::declarations::declare;
 use crate::expressions::{assignment, expression, step_by_one};
 use crate::here::{Here, deeper};
-use crate::operators::discard;
+use crate::operators::{discard, is_call};
 use hls_base::place::Place;
 use hls_base::point::PointKind;
 use hls_base::refusal::{Fail, impossible};
@@ -419,10 +419,4 @@ fn valued(here: Here, work: &mut Work, e: &CoreExpr) -> Result<(), Fail>
     let here = Here { depth, ..here };
     let value = expression(here, work, e)?;
     discard(work, is_call(e), value)
-}
-
-fn is_call(e: &CoreExpr) -> bool
-    ensures { result ≡ is_call (core_of e.now) }
-{
-    matches!(e, CoreExpr::Call { .. })
 }

@@ -13,9 +13,9 @@ use Rattle.pieces.specs.Program.{ArrayTree, ExpandedTree}
 use Rattle.c_meaning.specs.PieceRuns.Runs.{frame_of, variables_of}
 use Rattle.expand_runs.specs.Laws.{FillsObject, InputsFit}
 use Rattle.expanded_programs.specs.Calls.Programs.{IsProgramSound}
-use Rattle.elaborated_programs.specs.Written.{NumbersFit}
-use Rattle.elaborated_programs.specs.Inputs.{ProgramInputsFit}
-use Rattle.lower_runs.specs.Holding.{ArraysAreShort}
+use Rattle.expanded_programs.specs.ElaboratedPrograms.Written.{NumbersFit}
+use Rattle.expanded_programs.specs.ElaboratedPrograms.Inputs.{ProgramInputsFit}
+use Rattle.pass_runs.specs.LowerRuns.Holding.{ArraysAreShort}
 use Rattle.timed_pieces.specs.StartedWords.Contents.{HostsAreApart, ResultIsThere, KeptAreThere}
 use Rattle.timed_pieces.specs.StartedWords.FirstWords.{FillVariables, FillsArray, FillHosts, HasFirstContents}
 

@@ -12,8 +12,8 @@ use Rattle.c_meaning.specs.PieceRuns.Values.{Store}
 use Rattle.c_meaning.specs.PieceRuns.Runs.{frame_of, pieces_answer}
 use Rattle.expand_runs.specs.Reading.{IsTyped}
 use Rattle.expand_runs.specs.Laws.{IsDefined}
-use Rattle.elaborated_programs.specs.Written.{NumbersFit}
-use Rattle.elaborated_programs.specs.Inputs.{ProgramInputsFit}
+use Rattle.expanded_programs.specs.ElaboratedPrograms.Written.{NumbersFit}
+use Rattle.expanded_programs.specs.ElaboratedPrograms.Inputs.{ProgramInputsFit}
 
 -- The grammar derives the program from tokens whose numbers are of their types, and it has no fault for its top function.
 pub record IsWithoutFaults (p : ProgramTree) (top : ℕ) : Type 0 where

@@ -17,12 +17,12 @@ use Rattle.ir_core.specs.Trees.{BlockTree, BodyTree}
 use Rattle.passes.specs.Lowering.Blocks.{Scope}
 use Rattle.passes.specs.Conversion.Outs.{is_set}
 use Rattle.passes.specs.Conversion.Overlapping.{carried_from, carried, carried_op, carried_out, iteration}
-use Rattle.convert_runs.specs.Typed.{HasBits, OutsAreTyped}
-use Rattle.convert_runs.specs.Blocks.{Once}
-use Rattle.convert_runs.proofs.Joining.{has_more}
+use Rattle.pass_runs.specs.ConvertRuns.Typed.{HasBits, OutsAreTyped}
+use Rattle.pass_runs.specs.ConvertRuns.Blocks.{Once}
+use Rattle.pass_runs.proofs.ConvertRuns.Joining.{has_more}
 use Rattle.ir_layout.specs.Nodes.{NodeTree, node_of}
 use Rattle.ir_layout.specs.Layout.{finish, laid_out}
-use Rattle.convert_runs.specs.LoweredConversions.Suiting.{widths_of, words_of, PiecesSuit}
+use Rattle.pass_runs.specs.ConvertRuns.LoweredConversions.Suiting.{widths_of, words_of, PiecesSuit}
 use Rattle.clock_runs.specs.Premises.{Each, AreApart}
 use Rattle.clock_runs.proofs.Lists.{some_same, no_some}
 use Rattle.sound_trees.specs.Ready.{AllHave, IsChecked, OpIsReady, OpsAreReady, BlockIsReady}
@@ -30,7 +30,7 @@ use Rattle.sound_trees.specs.Loops.{BodyIsSound}
 use Rattle.sound_trees.specs.Subscripts.{PiecesSubscriptsFit}
 use Rattle.sound_trees.specs.Laws.{shapes_in, tree_in}
 use Rattle.sound_trees.proofs.Whole.{tree_ready}
-use Rattle.circuit_flow.specs.Compiled.{IsDivision}
+use Rattle.circuit_agreement.specs.CircuitFlow.Compiled.{IsDivision}
 use Rattle.compiled_plans.specs.Operations.{DivisionsSuit, BodyDivides, NodeDivides}
 use Rattle.compiled_plans.proofs.Lists.{mapped, at_map}
 use Rattle.compiled_plans.proofs.LaidNodes.{laid_has}

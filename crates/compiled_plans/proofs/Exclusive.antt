@@ -12,7 +12,7 @@ use Rattle.ir_core.specs.declared.cfg.End.{End}
 use Rattle.ir_core.specs.declared.cfg.End.TheVariants as end
 use Rattle.passes.specs.Numbering.Equal.{operand_eq}
 use Rattle.passes.proofs.Equalities.{operand_same}
-use Rattle.convert_runs.proofs.Opening.{itself_number}
+use Rattle.pass_runs.proofs.ConvertRuns.Opening.{itself_number}
 use Rattle.sound_trees.proofs.Fixed.{both_true}
 use Rattle.clock_runs.proofs.Lists.{some_same, no_some}
 use Rattle.clock_ir.specs.Flows.{TimedOp, TimedBody}

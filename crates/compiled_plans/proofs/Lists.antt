@@ -7,7 +7,7 @@ use Rattle.std.proofs.lemmas.List.Folds.{list_any-append}
 use Rattle.hls_base.specs.declared.number.VarId.{VarId}
 use Rattle.ir_core.specs.declared.body.Operand.{Operand}
 use Rattle.ir_core.specs.declared.body.Source.TheVariants as source
-use Rattle.convert_runs.proofs.Opening.{itself_number}
+use Rattle.pass_runs.proofs.ConvertRuns.Opening.{itself_number}
 use Rattle.clock_runs.proofs.Lists.{some_same, no_some}
 use Rattle.reg_binding.specs.Liveness.{is_among, read_by, operand_reads}
 

@@ -24,7 +24,7 @@ use Rattle.passes.specs.Lowering.Expressions.{emitted, emitted_all}
 use Rattle.passes.specs.Lowering.Blocks as lower
 use Rattle.passes.specs.Lowering.Blocks.{Scope, variable_type, element_type, begun, is_live, with_exit, with_ops, value_as, set, put, condition, ends_by_test, all_set, set_before, forking, ends_by_fork, Cases, case_or, cases, ends_by_cases}
 use Rattle.passes.specs.Lowering.Copies.{Fixed, Copied, needs_copy, own_operand, with_own, copied_out, copied_outs, copied_block, copied_parts, copied, fixed_in, fixed_behind, fixed_behind_shape, parts_set}
-use Rattle.convert_runs.specs.LoweredConversions.Suiting.{PureSuits, PieceSuits, PiecesSuit}
+use Rattle.pass_runs.specs.ConvertRuns.LoweredConversions.Suiting.{PureSuits, PieceSuits, PiecesSuit}
 use Rattle.sound_trees.specs.Trees.{SequenceHas, PartsHave}
 use Rattle.compiled_plans.specs.Operations.{PutsNoTable, AllNamed, OutsNamed, ExitNamed, BlockNamed}
 use Rattle.compiled_plans.proofs.NamedAdding.{width_small, IsNamed, OpsNamed, Gives, added_gives, tested_gives, assigned_gives, balanced_gives}

@@ -13,7 +13,7 @@ use Rattle.passes.specs.Conversion.Outs.{is_set}
 use Rattle.passes.specs.Conversion.Merging.{Branches, branches_of, opened, merged, joined, first_block, first_of}
 use Rattle.passes.specs.Conversion.Overlapping.{carried_from, carried, carried_op, carried_out, iteration, loop_by, chosen_test, overlapped_test}
 use Rattle.passes.specs.Conversion.{Scope, going_on, part_before, behind, converted_sequence, converted_behind, converted_parts, converted_shape, converted_side, converted_arms}
-use Rattle.convert_runs.proofs.Finding.{fork_found, no_fork_found, loop_is_no_fork, IsOverlapped, overlapped_found}
+use Rattle.pass_runs.proofs.ConvertRuns.Finding.{fork_found, no_fork_found, loop_is_no_fork, IsOverlapped, overlapped_found}
 use Rattle.sound_trees.specs.Trees.{SequenceHas, PartsHave, ShapeHas, SideHas, ArmsHave}
 use Rattle.sound_trees.proofs.Converted.{by_option}
 use Rattle.compiled_plans.specs.Operations.{OutsNamed, ExitNamed, BlockNamed, BodyNamed}

@@ -23,7 +23,7 @@ use Rattle.passes.specs.Lowering.Guards.{Guard, guarded, outside, only_where}
 use Rattle.passes.specs.Lowering.Outs.{held}
 use Rattle.passes.specs.Lowering.Blocks.{Scope}
 use Rattle.passes.specs.Lowering.Expressions.{Evaluated, Next, Subscripts, with_value, with_truth, under_guard, is_total, computed, operated, junction, joined, binary, unary, choice, cast_to, subscript, emitted, emitted_all, left_type, right_type}
-use Rattle.convert_runs.specs.LoweredConversions.Suiting.{PureSuits, EachSuits}
+use Rattle.pass_runs.specs.ConvertRuns.LoweredConversions.Suiting.{PureSuits, EachSuits}
 use Rattle.compiled_plans.specs.Operations.{AllNamed, OutsNamed, Accesses}
 use Rattle.compiled_plans.proofs.Safe.{within}
 use Rattle.compiled_plans.proofs.NamedAdding.{width_small, IsNamed, IsNamedIf, OpNamed, OpsNamed, Gives, added_gives, GivenNamed, valued_gives, tested_gives, assigned_gives, balanced_gives, GuardsNamed, outside_named, guarded_named}

@@ -9,7 +9,7 @@ use Rattle.ir_core.specs.Trees.{break_, continue_, leave, BlockTree, BodyTree, S
 use Rattle.passes.specs.Lowering.Shapes.{is_eligible, first_point, or_at, point_of}
 use Rattle.passes.specs.Lowering.Blocks.{Scope, begun, is_live, with_exit, set, put, ends_by_test}
 use Rattle.passes.specs.Lowering.{Rest, last, followed, parts_of, land_of, side_from, with_copies, own_step, stepped, is_named, lowered, lowered_piece, before_arm, arms}
-use Rattle.convert_runs.specs.LoweredConversions.Suiting.{PieceSuits, PiecesSuit}
+use Rattle.pass_runs.specs.ConvertRuns.LoweredConversions.Suiting.{PieceSuits, PiecesSuit}
 use Rattle.sound_trees.specs.Trees.{SequenceHas, PartsHave, ShapeHas, SideHas, ArmsHave}
 use Rattle.compiled_plans.specs.Operations.{PutsNoTable, PutNoTables}
 use Rattle.compiled_plans.proofs.NamedBlocks.{B, begun_named, exit_named, set_named, put_named, test_named, fork_named, ends_named, copies_named}

@@ -26,7 +26,7 @@ use Rattle.ir_core.specs.Trees.{ExitTree, next, branch, choose, break_, continue
 use Rattle.unit_binding.specs.Copies.{IsTimedCopy, AreTimedCopies, IsEndCopy}
 use Rattle.passes.specs.Lowering.Blocks.{Scope, begun}
 use Rattle.passes.specs.Lowering.{last, lowered}
-use Rattle.convert_runs.specs.LoweredConversions.Suiting.{widths_of, PiecesSuit}
+use Rattle.pass_runs.specs.ConvertRuns.LoweredConversions.Suiting.{widths_of, PiecesSuit}
 use Rattle.passes.specs.Numbering.{numbered_sequence}
 use Rattle.ir_layout.specs.Nodes.{case_of, end_of, node_of}
 use Rattle.ir_layout.specs.Layout.{Ahead, finish, onto, tested, by_case, Around, held_behind, unset, left_in, straight, end_for, laid_block, laid_out}

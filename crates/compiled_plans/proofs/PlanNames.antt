@@ -30,9 +30,9 @@ use Rattle.dep_graph.specs.Offsets as graph
 use Rattle.dep_graph.specs.Offsets.{maker}
 use Rattle.dep_graph.specs.Dependences.{maker_by, maker_of}
 use Rattle.passes.specs.Conversion.Outs.{is_set}
-use Rattle.convert_runs.specs.Typed.{HasBits, OutsAreTyped}
-use Rattle.convert_runs.specs.Blocks.{Once}
-use Rattle.convert_runs.proofs.Opening.{same_number, itself_number, left_false, right_false}
+use Rattle.pass_runs.specs.ConvertRuns.Typed.{HasBits, OutsAreTyped}
+use Rattle.pass_runs.specs.ConvertRuns.Blocks.{Once}
+use Rattle.pass_runs.proofs.ConvertRuns.Opening.{same_number, itself_number, left_false, right_false}
 use Rattle.ir_layout.specs.Nodes.{case_of, end_of, node_of}
 use Rattle.reg_binding.specs.declared.registers.Registers.{Registers}
 use Rattle.clock_ir.specs.Flows.{TimedOp, TimedBody, timed_op}
@@ -45,7 +45,7 @@ use Rattle.datapath.specs.Plans.{Plan, Savings, Array, no_array, body_of, body_i
 use Rattle.datapath.specs.Blocks.{EndReads, AreApart}
 use Rattle.datapath.specs.Savings as savings
 use Rattle.datapath.specs.Savings.{NodeReads}
-use Rattle.circuit_flow.specs.Compiled.{NamesArrays, SourceFits, OperandFits, IsDivision, FitsUnits}
+use Rattle.circuit_agreement.specs.CircuitFlow.Compiled.{NamesArrays, SourceFits, OperandFits, IsDivision, FitsUnits}
 use Rattle.compiled_plans.specs.Frames.{plan_array, HasFrame}
 use Rattle.compiled_plans.specs.Names.{NamesVariables}
 use Rattle.compiled_plans.specs.Operations as named

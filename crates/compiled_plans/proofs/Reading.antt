@@ -13,7 +13,7 @@ use Rattle.ir_core.specs.declared.cfg.End.TheVariants as end
 use Rattle.ir_core.specs.declared.cfg.Node.{Node}
 use Rattle.ir_core.specs.declared.cfg.Node.TheVariants as node
 use Rattle.ir_core.specs.declared.timed.Timed.{Timed}
-use Rattle.convert_runs.proofs.Opening.{same_number}
+use Rattle.pass_runs.proofs.ConvertRuns.Opening.{same_number}
 use Rattle.clock_runs.proofs.Lists.{no_some}
 use Rattle.reg_binding.specs.Liveness.{is_among, operand_reads, op_reads, body_reads, out_reads, case_reads, end_reads, case_node, next_nodes, is_return, summary_of, is_set}
 use Rattle.clock_ir.specs.Flows.{TimedOp, timed_op, timed_body}

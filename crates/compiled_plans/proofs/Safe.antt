@@ -8,7 +8,7 @@ use Rattle.ir_core.specs.declared.cfg.Cfg.{Cfg}
 use Rattle.ir_core.specs.declared.cfg.Node.{Node}
 use Rattle.ir_core.specs.declared.cfg.Node.TheVariants as node
 use Rattle.ir_core.specs.declared.timed.Timed.{Timed}
-use Rattle.convert_runs.proofs.Opening.{itself_number}
+use Rattle.pass_runs.proofs.ConvertRuns.Opening.{itself_number}
 use Rattle.clock_runs.proofs.Lists.{no_some}
 use Rattle.reg_binding.specs.declared.live.Live.{Live}
 use Rattle.reg_binding.specs.Liveness as lv

@@ -20,8 +20,8 @@ use Rattle.c_token.specs.declared.ctype.CType.{CType}
 use Rattle.timed_pieces.specs.StartedWords.Contents.{ResultIsThere}
 use Rattle.c_meaning.specs.PieceRuns.Runs.{frame_of}
 use Rattle.ir_layout.specs.Nodes.{node_of}
-use Rattle.lower_runs.specs.Suits.{scope_of}
-use Rattle.convert_runs.specs.LoweredConversions.Suiting.{widths_of, words_of}
+use Rattle.pass_runs.specs.LowerRuns.Suits.{scope_of}
+use Rattle.pass_runs.specs.ConvertRuns.LoweredConversions.Suiting.{widths_of, words_of}
 use Rattle.clock_ir.specs.WellTimed.{IsWellTimed}
 use Rattle.compiled_plans.specs.Operations.{NodeNamed, NodeDivides}
 use Rattle.clock_runs.proofs.Lists.{some_same, no_some}

@@ -20,7 +20,7 @@ use Rattle.reg_binding.specs.declared.registers.Registers.{Registers}
 use Rattle.reg_binding.specs.Assigned.{IsAssignment}
 use Rattle.datapath.specs.Plans.{Plan, plan_of}
 use Rattle.datapath.specs.Savings.{AreSafe}
-use Rattle.circuit_flow.specs.Compiled.{HasSoundFrame, IsCompiled}
+use Rattle.circuit_agreement.specs.CircuitFlow.Compiled.{HasSoundFrame, IsCompiled}
 use Rattle.datapath.specs.LeftOut.{savings_of}
 use Rattle.compiled_plans.specs.Frames.{HasFrame, HostsComeFirst}
 use Rattle.ir_core.specs.Small.{HasSmallNumbers}

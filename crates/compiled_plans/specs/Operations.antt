@@ -12,10 +12,10 @@ use Rattle.pieces.specs.Trees.{PieceTree, PieceTrees}
 use Rattle.pieces.specs.Program.{ArrayTree}
 use Rattle.ir_core.specs.Bodies.{OpTree}
 use Rattle.ir_core.specs.Trees.{ExitTree, branch, choose, BlockTree, BodyTree}
-use Rattle.convert_runs.specs.Typed.{HasBits, OutsAreTyped}
-use Rattle.convert_runs.specs.Blocks.{Once}
+use Rattle.pass_runs.specs.ConvertRuns.Typed.{HasBits, OutsAreTyped}
+use Rattle.pass_runs.specs.ConvertRuns.Blocks.{Once}
 use Rattle.clock_runs.specs.Premises.{AreApart}
-use Rattle.circuit_flow.specs.Compiled.{IsDivision}
+use Rattle.circuit_agreement.specs.CircuitFlow.Compiled.{IsDivision}
 use Rattle.ir_layout.specs.Nodes.{EndTree, jumps, branches, chooses, returns, NodeTree, plain, looped}
 
 -- ---- pieces

@@ -5,4 +5,3 @@ pub mod access;
 pub mod counter;
 pub mod edge;
 pub mod edges;
-pub mod forward;

@@ -1,5 +1,5 @@
 //! Least solutions of systems of difference constraints.
-ghost use Rattle.std.specs.Prelude.{◌≡◌, ℕ, ◌+◌, ◌*◌, ◌^◌, ◌<◌, ◌≤◌, IsTrue, ◌↔◌, IfOk, IfSome, IfNone, pos, negsuc, ◌+ℤ◌, ◌<ℤ◌, ◌≤ℤ◌, [], length, replicate};
+ghost use Rattle.std.specs.Prelude.{◌≡◌, ℕ, ◌+◌, ◌*◌, ◌^◌, ◌<◌, ◌≤◌, IsTrue, IfOk, IfSome, IfNone, pos, negsuc, ◌+ℤ◌, ◌<ℤ◌, ◌≤ℤ◌, [], length, replicate};
 ghost use Rattle.diff_solve.specs.Times.{InRange, Solves, IsBelowAll};
 ghost use Rattle.diff_solve.specs.Cycles.{IsPositiveCycle};
 ghost use Rattle.diff_solve.specs.Answers.{IsAnswer, HasModestWeights};
@@ -28,9 +28,6 @@ pub enum Solved {
 /// The most that one constraint may add.
 const MAX_WEIGHT: u64 = 1 << 20;
 
-/// The least weight that a constraint may have.
-const MIN_WEIGHT: i64 = -1_125_899_906_842_624;
-
 /// What one pass over the constraints came to.
 enum Pass {
     /// No time rose, so all constraints are met.
@@ -39,18 +36,6 @@ enum Pass {
     Raised(u32),
     /// The time of this node is higher than it can be without a cycle.
     TooHigh(u32),
-}
-
-/// Whether a system of n nodes can be solved here: its nodes are below n, and no weight is out of bounds.
-pub fn is_admissible(n: u32, constraints: &[Constraint]) -> bool
-    ensures { IsTrue result ↔ (InRange n constraints.now × HasModestWeights constraints.now) }
-{
-    constraints.iter().all(|constraint| {
-        constraint.from < n
-            && constraint.to < n
-            && MIN_WEIGHT <= constraint.weight
-            && constraint.weight <= MAX_WEIGHT as i64
-    })
 }
 
 /// Raises times until each constraint is met, or there is a cycle that makes that impossible.

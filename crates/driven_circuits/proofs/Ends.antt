@@ -16,8 +16,8 @@ use Rattle.c_meaning.specs.Steps.{Outcome}
 use Rattle.c_meaning.specs.Run as run
 use Rattle.c_meaning.specs.Run.{Answer, element_pattern, patterns, first_object, filled, head_or_none, kept_object, kept_rest, file_store, host_arrays, is_array_parameter, file_names, result_pattern, answer_of, started, calls, function_meaning, top_arguments, run_of, function_at, c_run}
 use Rattle.c_meaning.proofs.Ranges.{pattern_below}
-use Rattle.elaborated_programs.proofs.StoredNumbers.Keeping.{Follows, AllFollow, Follow}
-use Rattle.elaborated_programs.proofs.StoredNumbers.Calls.{function_meaning_ends, calls_steady}
+use Rattle.expanded_programs.proofs.ElaboratedPrograms.StoredNumbers.Keeping.{Follows, AllFollow, Follow}
+use Rattle.expanded_programs.proofs.ElaboratedPrograms.StoredNumbers.Calls.{function_meaning_ends, calls_steady}
 use Rattle.cosim_levels.specs.Pins.FunctionPins.{array_shape, array_shapes}
 use Rattle.driven_circuits.specs.Fitting.{WordsFit, IsArray, AreArrays}
 

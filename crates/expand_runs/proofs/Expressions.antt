@@ -24,7 +24,7 @@ use Rattle.c_meaning.specs.CoreRuns.Expressions.{CoreCalls}
 use Rattle.c_meaning.specs.PieceRuns.Values.{Store}
 use Rattle.c_meaning.specs.PieceRuns.Pieces.{Frame}
 use Rattle.c_expand.specs.Expressions as e
-use Rattle.c_expand.specs.Expressions.{Callee, may_be_unused, discarded, expression, operands, arguments}
+use Rattle.c_expand.specs.Expressions.{Callee, comma_left, expression, operands, arguments}
 use Rattle.expand_runs.specs.Reading.{IsTyped, UnaryFits, BinaryFits}
 use Rattle.expand_runs.specs.Growing.{IsWithin}
 use Rattle.expand_runs.specs.Showing.{Known, IsShown}
@@ -38,7 +38,7 @@ use Rattle.expand_runs.proofs.Quiet.{quiet_first, quiet_second}
 use Rattle.expand_runs.proofs.Operands.{OperandsDone}
 use Rattle.expand_runs.proofs.ExpressionParts.{number_same, scalar_same, unary_same, cast_same}
 use Rattle.expand_runs.proofs.OperandParts.{none_done}
-use Rattle.expand_runs.proofs.PartRuns.{operated_plain, Does, any_later, all_later, save_later, discard_later, over_later, binary_runs, operands_runs, element_runs, comma_runs}
+use Rattle.expand_runs.proofs.PartRuns.{operated_plain, Does, any_later, all_later, save_later, comma_left_later, over_later, binary_runs, operands_runs, element_runs, comma_runs}
 use Rattle.expand_runs.proofs.LogicalRuns.{and_runs, or_runs, within_and, within_or}
 use Rattle.expand_runs.proofs.ChoiceRuns.{choice_runs, choice_within}
 use Rattle.expand_runs.proofs.QuietValues.{acts_agree, acts_either, operated_quiet, chosen_quiet}
@@ -181,10 +181,10 @@ module _ (unary_fits : UnaryFits) (binary_fits : BinaryFits) (f : Frame) (k : �
         (operands_same (core.more first rest) sound.1 no_effects [] [] st over (bump_before_within unary_fits binary_fits f k here c o Homes Lives kinds base world cc g callees cell (core.more first rest) kd place up post at st within) s t n le shown typed)
     expression_same used (core.comma left right) sound st over within s t n le shown typed =
         let x = expression g c left st in
-        let u = discarded (may_be_unused left) x.value x.state in
+        let u = comma_left c.file_variables left x.value (effects right) x.state in
         let y = expression g c right u.state in
         comma_runs unary_fits binary_fits f k here c o Homes Lives kinds base world cc g callees used left right st s t n over within
-        (expression_same false left sound.0 st over (within_before x.state y.state f (later_both x.state u.state y.state (discard_later unary_fits binary_fits f k here c o Homes Lives kinds base world cc g callees (may_be_unused left) x.value x.state) (any_later unary_fits binary_fits f k here c o Homes Lives kinds base world cc g callees right u.state)) within) s t n le shown typed)
+        (expression_same false left sound.0 st over (within_before x.state y.state f (later_both x.state u.state y.state (comma_left_later unary_fits binary_fits f k here c o Homes Lives kinds base world cc g callees left x.value (effects right) x.state) (any_later unary_fits binary_fits f k here c o Homes Lives kinds base world cc g callees right u.state)) within) s t n le shown typed)
         (λ st1 over1 within2 s1 t1 n1 le1 shown1 typed1. expression_same true right sound.1 st1 over1 within2 s1 t1 n1 le1 shown1 typed1)
 
     pub operands_same : (xs : CoreTrees) → AreSound o xs → (later : Effects) (before : List PureTree) (bs : List ℤ) (st : State) → IsOver c base world.array_base world.seen st → IsWithin (operands g c xs later before st).state f

@@ -1,5 +1,5 @@
 -- Parts whose pieces keep something, one after another.
-use Rattle.std.proofs.Common.{◌≡◌, ℕ, ◌≤◌, ℤ, Bool, true, false, ◌&&◌, List, [], ◌∷◌, ◌++◌, length, refl, le_trans, if◌then◌else◌}
+use Rattle.std.proofs.Common.{◌≡◌, ℕ, ◌≤◌, ℤ, Bool, true, false, ◌&&◌, ◌||◌, List, [], ◌∷◌, ◌++◌, length, refl, le_trans, if◌then◌else◌}
 use Rattle.std.specs.Prelude.{nat_lt}
 use Rattle.hls_base.specs.declared.number.VarId.{VarId}
 use Rattle.hls_base.specs.declared.number.ArrayId.{ArrayId}
@@ -11,7 +11,7 @@ use Rattle.pieces.specs.Kind.{kind}
 use Rattle.piece_making.specs.declared.effects.Effects.{Effects}
 use Rattle.piece_making.specs.Acting.{spoils}
 use Rattle.piece_making.specs.Making.{State, Part, Inner, gives, then_, emit, inside, fresh, set_own}
-use Rattle.piece_making.specs.Saving.{saved, all_saved, saved_if, may_skip_element, save}
+use Rattle.piece_making.specs.Saving.{has_element, is_logical, saved, all_saved, saved_if, saved_binary, saved_choice, save}
 use Rattle.c_meaning.specs.PieceRuns.Values.{Store, with_variable, with_element}
 use Rattle.c_meaning.specs.PieceRuns.Pieces.{Frame}
 use Rattle.expand_runs.specs.Keeping.{Allows, AllAllow}
@@ -129,10 +129,11 @@ module _ (f : Frame) (I : Store → Type 0) where
       fine_saved n calls (tree.binary op left right k at) s le =
           let x = saved n calls left s in
           let h = fine_saved n calls left s le in
-          fine_if (may_skip_element (tree.binary op left right k at)) (tree.binary op left right k at)
-          (λ s0. then_ (saved n calls left s0) (λ x s1. then_ (saved n calls right s1) (λ y s2. gives (tree.binary op x y k at) s2))) s le
-          (fine_then s x (λ x1 s1. then_ (saved n calls right s1) (λ y s2. gives (tree.binary op x1 y k at) s2)) h
-          (fine_then x.state (saved n calls right x.state) (λ y s2. gives (tree.binary op x.value y k at) s2) (fine_saved n calls right x.state (further s x h le)) (fine_gives _ _)))
+          let le1 = further s x h le in
+          fine_then s x (λ x1 s1. saved_binary op k at x1 right (saved n calls right) s1) h
+          (fine_if (is_logical op && has_element right) (tree.binary op x.value right k at)
+          (λ s1. then_ (saved n calls right s1) (λ y s2. gives (tree.binary op x.value y k at) s2)) x.state le1
+          (fine_then x.state (saved n calls right x.state) (λ y s2. gives (tree.binary op x.value y k at) s2) (fine_saved n calls right x.state le1) (fine_gives _ _)))
       fine_saved n calls (tree.choice test left right k) s le =
           let t = saved n calls test s in
           let x = saved n calls left t.state in
@@ -140,9 +141,9 @@ module _ (f : Frame) (I : Store → Type 0) where
           let h = fine_saved n calls test s le in
           let le1 = further s t h le in
           let g = fine_saved n calls left t.state le1 in
-          fine_if (may_skip_element (tree.choice test left right k)) (tree.choice test left right k)
-          (λ s0. then_ (saved n calls test s0) (λ t1 s1. then_ (saved n calls left s1) (λ x1 s2. then_ (saved n calls right s2) (λ y1 s3. gives (tree.choice t1 x1 y1 k) s3)))) s le
-          (fine_then s t (λ t1 s1. then_ (saved n calls left s1) (λ x1 s2. then_ (saved n calls right s2) (λ y1 s3. gives (tree.choice t1 x1 y1 k) s3))) h
+          fine_then s t (λ t1 s1. saved_choice k t1 left right (saved n calls left) (saved n calls right) s1) h
+          (fine_if (has_element left || has_element right) (tree.choice t.value left right k)
+          (λ s1. then_ (saved n calls left s1) (λ x1 s2. then_ (saved n calls right s2) (λ y1 s3. gives (tree.choice t.value x1 y1 k) s3))) t.state le1
           (fine_then t.state x (λ x1 s2. then_ (saved n calls right s2) (λ y1 s3. gives (tree.choice t.value x1 y1 k) s3)) g
           (fine_then x.state y (λ y1 s3. gives (tree.choice t.value x.value y1 k) s3) (fine_saved n calls right x.state (further t.state x g le1)) (fine_gives _ _))))
       fine_saved n calls (tree.cast to arg) s le = fine_then s (saved n calls arg s) (λ x s1. gives (tree.cast to x) s1) (fine_saved n calls arg s le) (fine_gives _ _)

@@ -20,7 +20,7 @@ use Rattle.piece_making.specs.Calls.{Call, variable, array}
 use Rattle.piece_making.specs.Assigning.{Change, change, store_at, store, assigned, bumped, bumped_behind, new_value, target_read, one, step}
 use Rattle.c_meaning.specs.PieceRuns.Values.{Store}
 use Rattle.c_meaning.specs.PieceRuns.Pieces.{Frame}
-use Rattle.c_expand.specs.Expressions.{Given, Callee, value_given, may_be_unused, set_unused, discarded, value_or_zero, arm, decided, to_bool, same, fork_of, is_or, forked, operated, chosen, expression, operands, targeted, argument, arguments}
+use Rattle.c_expand.specs.Expressions.{Given, Callee, value_given, is_call, may_be_unused, set_unused, discarded, comma_left, value_or_zero, arm, decided, to_bool, same, fork_of, is_or, forked, operated, chosen, expression, operands, targeted, argument, arguments}
 use Rattle.expand_runs.specs.Sound.{Objects, IsSound, AreSound, ArgumentSound, ArgumentsSound, Changes, AnyChanges, ArgumentChanges, ArgumentsChange}
 use Rattle.expand_runs.specs.Fitting.{HaveShape, CallsFit, AllFit, ArgumentFits, ArgumentsFit, Taken, Anything}
 use Rattle.expand_runs.proofs.Reading.{or_left, or_right}
@@ -189,6 +189,13 @@ module _ (f : Frame) (I : Store → Type 0) (low : ℕ) (own : (i : ℕ) → low
   pub discarded_fine : (b : Bool) (x : PureTree) (s : State) → low ≤ length s.variables → IsFine f I s (discarded b x s)
   discarded_fine b x s le = if_fine b (gives tt s) (set_unused x s) s (fine_gives f I tt s) (unused_fine x s le)
 
+  pub comma_left_fine : (n : ℕ) (left : CoreTree) (x : PureTree) (later : Effects) (s : State) → low ≤ length s.variables → IsFine f I s (comma_left n left x later s)
+  comma_left_fine n left x later s le =
+      let y = save n x later s in
+      let h = fine_save f I low own n x later s le in
+      if_fine (is_call left) (gives tt s) (then_ y (λ z s1. discarded (may_be_unused left) z s1)) s (fine_gives f I tt s)
+      (fine_then f I s y (λ z s1. discarded (may_be_unused left) z s1) h (discarded_fine (may_be_unused left) y.value y.state (further s y h le)))
+
   -- ---- expressions
 
   module _ (g : Callee) (c : Call) (F : ℕ → ArgumentTrees → Type 0) (callees : CalleesFine g c F) where
@@ -295,9 +302,9 @@ module _ (f : Frame) (I : Store → Type 0) (low : ℕ) (own : (i : ℕ) → low
           let q : Permits c (λ y. Changes y left ⊎ Changes y right) (either (effects left) (effects right)) = record { cells = p.cells; calls = p.calls; puts = p.puts } in
           let h = expression_fine left s le fit.0 (permits_left c _ (λ y. Changes y left) (effects left) (effects right) (λ y d. inl d) q) in
           let le1 = further s x h le in
-          let u = discarded (may_be_unused left) x.value x.state in
-          let d = discarded_fine (may_be_unused left) x.value x.state le1 in
-          fine_then f I s x (λ x s1. then_ (discarded (may_be_unused left) x s1) (λ u s2. expression g c right s2)) h
+          let u = comma_left c.file_variables left x.value (effects right) x.state in
+          let d = comma_left_fine c.file_variables left x.value (effects right) x.state le1 in
+          fine_then f I s x (λ x s1. then_ (comma_left c.file_variables left x (effects right) s1) (λ u s2. expression g c right s2)) h
           (fine_then f I x.state u (λ u s2. expression g c right s2) d
           (expression_fine right u.state (further x.state u d le1) fit.1 (permits_right c _ (λ y. Changes y right) (effects left) (effects right) (λ y d. inr d) q)))
 

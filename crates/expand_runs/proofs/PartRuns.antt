@@ -31,12 +31,12 @@ use Rattle.c_meaning.specs.CoreRuns.Expressions as ce
 use Rattle.c_meaning.specs.CoreRuns.Expressions.{CoreCalls}
 use Rattle.c_meaning.specs.PieceRuns.Values.{Store, computed, joined, value, with_variable}
 use Rattle.c_meaning.specs.PieceRuns.Pieces.{Frame, Way}
-use Rattle.c_expand.specs.Expressions.{Callee, may_be_unused, discarded, expression, operands, operated, forked}
+use Rattle.c_expand.specs.Expressions.{Callee, is_call, may_be_unused, discarded, comma_left, expression, operands, operated, forked}
 use Rattle.expand_runs.specs.Reading.{IsNumber, IsTyped, HasTypes, UnaryFits, BinaryFits}
 use Rattle.expand_runs.specs.Growing.{IsLater, IsWithin}
 use Rattle.expand_runs.specs.Showing.{Known, IsShown}
 use Rattle.expand_runs.specs.Sound.{Objects, IsSound, AreSound, Reads, Changes, AnyChanges}
-use Rattle.expand_runs.specs.Evaluating.{Matters}
+use Rattle.expand_runs.specs.Evaluating.{Matters, IsValue}
 use Rattle.expand_runs.specs.Worlds.{IsWorld, IsOver}
 use Rattle.expand_runs.proofs.Sames.{same_more}
 use Rattle.expand_runs.proofs.Rows.{run_of}
@@ -46,10 +46,10 @@ use Rattle.expand_runs.proofs.Typing.{joined_plain, converted_number, value_numb
 use Rattle.expand_runs.proofs.Showing.{shown_apart}
 use Rattle.expand_runs.proofs.Reading.{or_left}
 use Rattle.expand_runs.proofs.Fine.{Sets, fine_save}
-use Rattle.expand_runs.proofs.FineExpressions.{CalleesKeep, expression_fine, operands_fine, spoils_or, all_fit, any_fit, sound_fits, sounds_fit}
+use Rattle.expand_runs.proofs.FineExpressions.{CalleesKeep, expression_fine, operands_fine, comma_left_fine, spoils_or, all_fit, any_fit, sound_fits, sounds_fit}
 use Rattle.expand_runs.proofs.Changing.{changed_variable, any_variable}
 use Rattle.expand_runs.proofs.Evaluating.{on_same, read_then, computed_then}
-use Rattle.expand_runs.proofs.Operands.{variable_there, part_permitted, sets_above, OperandsDone}
+use Rattle.expand_runs.proofs.Operands.{variable_there, save_well, part_permitted, sets_above, OperandsDone}
 use Rattle.expand_runs.proofs.ExpressionParts.{Result, element_same, binary_same}
 use Rattle.expand_runs.proofs.OperandParts.{more_done}
 use Rattle.expand_runs.proofs.Stores.{Stored, scalar_stored}
@@ -61,6 +61,20 @@ pub operated_plain : (c : Call) (op : Binary) (k : CType) (at : Place) (x : Pure
     → operated c op k at x later right s ≡ then_ (save c.file_variables x later s) (λ left s1. then_ (right s1) (λ y s2. gives (tree.binary op left y k at) s2))
 operated_plain c op k at x later right s e =
     ap (λ b. then_ (save c.file_variables x later s) (λ left s1. if (b && acts later) then forked c op k at left right s1 else then_ (right s1) (λ y s2. gives (tree.binary op left y k at) s2))) e
+
+-- the value of an expression that is no call matters
+pub call_or_matters : (e : CoreTree) → is_call e ≡ false → Matters false e
+call_or_matters (core.number value kd) h = tt
+call_or_matters (core.scalar cell kd at) h = tt
+call_or_matters (core.element array subscripts kd at) h = tt
+call_or_matters (core.call callee args kd at) h = absurd (true≢false h)
+call_or_matters (core.unary op arg kd at) h = tt
+call_or_matters (core.binary op left right kd at) h = tt
+call_or_matters (core.choice test left right kd at colon) h = tt
+call_or_matters (core.cast to arg) h = tt
+call_or_matters (core.assign it op value at) h = tt
+call_or_matters (core.bump it up post at) h = tt
+call_or_matters (core.comma left right) h = tt
 
 module _ (unary_fits : UnaryFits) (binary_fits : BinaryFits) (f : Frame) (k : ℕ) (here : Here) (c : Call) (o : Objects) (Homes : Spot → Home → Type 0) (Lives : Spot → Type 0) (kinds : Known) (base : ℕ)
     (world : IsWorld f here c o Homes Lives kinds base) (cc : CoreCalls) (g : Callee) (callees : CalleesKeep f o g c) where
@@ -186,19 +200,28 @@ module _ (unary_fits : UnaryFits) (binary_fits : BinaryFits) (f : Frame) (k : �
   discard_later true x st = later_same st
   discard_later false x st = later_own (kind x) x st
 
-  -- a value that may be let go is that of a call, a change or a comma
-  unused_matters : (e : CoreTree) → may_be_unused e ≡ false → Matters false e
-  unused_matters (core.number value kd) h = tt
-  unused_matters (core.scalar cell kd at) h = tt
-  unused_matters (core.element array subscripts kd at) h = tt
-  unused_matters (core.call callee args kd at) h = absurd (true≢false h)
-  unused_matters (core.unary op arg kd at) h = tt
-  unused_matters (core.binary op left right kd at) h = tt
-  unused_matters (core.choice test left right kd at colon) h = tt
-  unused_matters (core.cast to arg) h = tt
-  unused_matters (core.assign it op value at) h = tt
-  unused_matters (core.bump it up post at) h = tt
-  unused_matters (core.comma left right) h = tt
+  comma_by : (b : Bool) (left : CoreTree) (x : PureTree) (later : Effects) (low : ℕ) (v : ℤ) (st : State) (s : Cells) (t : Store) → is_call left ≡ b → base ≤ low → low ≤ length st.variables
+      → IsWithin (if b then gives tt st else then_ (save c.file_variables x later st) (λ y s1. discarded (may_be_unused left) y s1)).state f
+      → IsShown f Homes Lives kinds s t → IsTyped f t → (Matters false left → IsValue f c (λ y. Reads y left) low (length st.variables) x (kind_of left) v t)
+      → (t1 : Store) × Goes f (if b then gives tt st else then_ (save c.file_variables x later st) (λ y s1. discarded (may_be_unused left) y s1)).pieces t t1 × IsShown f Homes Lives kinds s t1 × IsTyped f t1
+  unfolding then_
+  comma_by true left x later low v st s t e low_base low_st within shown typed there = (t, goes_nothing f t, shown, typed)
+  comma_by false left x later low v st s t e low_base low_st within shown typed there =
+      let sv = save c.file_variables x later st in
+      let u = discarded (may_be_unused left) sv.value sv.state in
+      let d = save_well f here c o Homes Lives kinds base world unary_fits binary_fits (λ y. Reads y left) low x (kind_of left) v later st s t low_base low_st shown typed (there (call_or_matters left e))
+      (within_before sv.state u.state f (discard_later (may_be_unused left) sv.value sv.state) within) in
+      let g = discard_goes (may_be_unused left) sv.value sv.state s d.after (le_trans low_base (le_trans low_st (save_later x later st).more)) within d.shown d.typed (λ z. (v, d.value.same, d.value.types)) in
+      (g.0, goes_behind f sv.pieces u.pieces t d.after g.0 d.goes g.1, g.2, g.3)
+
+  comma_left_goes : (left : CoreTree) (x : PureTree) (later : Effects) (low : ℕ) (v : ℤ) (st : State) (s : Cells) (t : Store) → base ≤ low → low ≤ length st.variables → IsWithin (comma_left c.file_variables left x later st).state f
+      → IsShown f Homes Lives kinds s t → IsTyped f t → (Matters false left → IsValue f c (λ y. Reads y left) low (length st.variables) x (kind_of left) v t)
+      → (t1 : Store) × Goes f (comma_left c.file_variables left x later st).pieces t t1 × IsShown f Homes Lives kinds s t1 × IsTyped f t1
+  comma_left_goes left x later low v st s t low_base low_st within shown typed there = comma_by (is_call left) left x later low v st s t refl low_base low_st within shown typed there
+
+  pub comma_left_later : (left : CoreTree) (x : PureTree) (later : Effects) (st : State) → IsLater st (comma_left c.file_variables left x later st).state
+  comma_left_later left x later st =
+      (comma_left_fine f (λ t. Unit {0}) 0 (λ i le t y u. tt) c.file_variables left x later st (omega arith)).later
 
   pub comma_runs : (used : Bool) (left right : CoreTree) (st : State) (s : Cells) (t : Store) (n : ℕ) → IsOver c base world.array_base world.seen st → IsWithin (expression g c (core.comma left right) st).state f
       → Same false k (Does false left st (expression g c left st)) (ce.expression cc false left here s n) (run_of f (expression g c left st).pieces t n)
@@ -209,13 +232,13 @@ module _ (unary_fits : UnaryFits) (binary_fits : BinaryFits) (f : Frame) (k : �
   comma_runs used left right st s t n over within h next =
       let low = over.low in
       let x = expression g c left st in
-      let u = discarded (may_be_unused left) x.value x.state in
+      let u = comma_left c.file_variables left x.value (effects right) x.state in
       let y = expression g c right u.state in
       let more = (any_later left st).more in
-      let dropped = discard_later (may_be_unused left) x.value x.state in
+      let dropped = comma_left_later left x.value (effects right) x.state in
       let more1 = dropped.more in
       let within1 = within_before u.state y.state f (any_later right u.state) within in
       comma_same unary_fits binary_fits f k here c o Homes Lives kinds base world used left right (length st.variables) (length u.state.variables) (length x.state.variables) (length y.state.variables) x.value y.value x.pieces u.pieces y.pieces
       (ce.expression cc false left here s n) (ce.expression cc true right here) t n (le_trans more more1) h
-      (λ v s1 t1 a. discard_goes (may_be_unused left) x.value x.state s1 t1 (le_trans low more) within1 a.done.shown a.done.typed (λ e. (v, (a.value (unused_matters left e)).same, (a.value (unused_matters left e)).types)))
-      (next u.state (over_later st u.state over (later_both st x.state u.state (any_later left st) (discard_later (may_be_unused left) x.value x.state))) within)
+      (λ v s1 t1 a. comma_left_goes left x.value (effects right) (length st.variables) v x.state s1 t1 low more within1 a.done.shown a.done.typed a.value)
+      (next u.state (over_later st u.state over (later_both st x.state u.state (any_later left st) dropped)) within)

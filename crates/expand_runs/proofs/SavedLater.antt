@@ -1,11 +1,11 @@
 -- Saving makes variables, and takes none away.
-use Rattle.std.proofs.Common.{ℕ, Bool, true, false, List, [], ◌∷◌, ◌++◌, ◌&&◌}
+use Rattle.std.proofs.Common.{ℕ, Bool, true, false, List, [], ◌∷◌, ◌++◌, ◌&&◌, ◌||◌}
 use Rattle.std.specs.Prelude.{nat_lt}
 use Rattle.pieces.specs.Trees as tree
 use Rattle.pieces.specs.Trees.{PureTree, PureTrees, row}
 use Rattle.pieces.specs.Kind.{kind}
 use Rattle.piece_making.specs.Making.{State, Part, gives, then_, set_own}
-use Rattle.piece_making.specs.Saving.{saved, all_saved, saved_if, may_skip_element}
+use Rattle.piece_making.specs.Saving.{has_element, is_logical, saved, all_saved, saved_if, saved_binary, saved_choice}
 use Rattle.expand_runs.specs.Growing.{IsLater}
 use Rattle.expand_runs.proofs.Growing.{later_same, later_then, later_own}
 
@@ -22,18 +22,19 @@ mutual
       (later_own k (tree.element array (row (all_saved n calls subscripts [] s).value) k at) (all_saved n calls subscripts [] s).state)
   saved_later n calls (tree.unary op arg k at) s = later_then s (saved n calls arg s) (λ x s1. gives (tree.unary op x k at) s1) (saved_later n calls arg s) (later_same _)
   saved_later n calls (tree.binary op left right k at) s =
-      later_if (may_skip_element (tree.binary op left right k at)) (tree.binary op left right k at)
-      (λ s0. then_ (saved n calls left s0) (λ x s1. then_ (saved n calls right s1) (λ y s2. gives (tree.binary op x y k at) s2))) s
-      (later_then s (saved n calls left s) (λ x s1. then_ (saved n calls right s1) (λ y s2. gives (tree.binary op x y k at) s2)) (saved_later n calls left s)
-      (later_then (saved n calls left s).state (saved n calls right (saved n calls left s).state) (λ y s2. gives (tree.binary op (saved n calls left s).value y k at) s2) (saved_later n calls right (saved n calls left s).state) (later_same _)))
+      let x = saved n calls left s in
+      let y = saved n calls right x.state in
+      later_then s x (λ x1 s1. saved_binary op k at x1 right (saved n calls right) s1) (saved_later n calls left s)
+      (later_if (is_logical op && has_element right) (tree.binary op x.value right k at) (λ s1. then_ (saved n calls right s1) (λ y1 s2. gives (tree.binary op x.value y1 k at) s2)) x.state
+      (later_then x.state y (λ y1 s2. gives (tree.binary op x.value y1 k at) s2) (saved_later n calls right x.state) (later_same _)))
   saved_later n calls (tree.choice test left right k) s =
       let t = saved n calls test s in
       let x = saved n calls left t.state in
       let y = saved n calls right x.state in
-      later_if (may_skip_element (tree.choice test left right k)) (tree.choice test left right k)
-      (λ s0. then_ (saved n calls test s0) (λ t s1. then_ (saved n calls left s1) (λ x s2. then_ (saved n calls right s2) (λ y s3. gives (tree.choice t x y k) s3)))) s
-      (later_then s t (λ t1 s1. then_ (saved n calls left s1) (λ x s2. then_ (saved n calls right s2) (λ y s3. gives (tree.choice t1 x y k) s3))) (saved_later n calls test s)
-      (later_then t.state x (λ x1 s2. then_ (saved n calls right s2) (λ y s3. gives (tree.choice t.value x1 y k) s3)) (saved_later n calls left t.state)
+      later_then s t (λ t1 s1. saved_choice k t1 left right (saved n calls left) (saved n calls right) s1) (saved_later n calls test s)
+      (later_if (has_element left || has_element right) (tree.choice t.value left right k)
+      (λ s1. then_ (saved n calls left s1) (λ x1 s2. then_ (saved n calls right s2) (λ y1 s3. gives (tree.choice t.value x1 y1 k) s3))) t.state
+      (later_then t.state x (λ x1 s2. then_ (saved n calls right s2) (λ y1 s3. gives (tree.choice t.value x1 y1 k) s3)) (saved_later n calls left t.state)
       (later_then x.state y (λ y1 s3. gives (tree.choice t.value x.value y1 k) s3) (saved_later n calls right x.state) (later_same _))))
   saved_later n calls (tree.cast to arg) s = later_then s (saved n calls arg s) (λ x s1. gives (tree.cast to x) s1) (saved_later n calls arg s) (later_same _)
 

@@ -15,7 +15,7 @@ use Rattle.pieces.specs.Trees as tree
 use Rattle.pieces.specs.Trees.{PureTree, PureTrees, row}
 use Rattle.pieces.specs.Kind.{kind}
 use Rattle.piece_making.specs.Making.{State, Part, gives, then_, emit, fresh, set_own}
-use Rattle.piece_making.specs.Saving.{has_element, saved, all_saved, saved_if, may_skip_element, is_logical}
+use Rattle.piece_making.specs.Saving.{has_element, saved, all_saved, saved_if, is_logical}
 use Rattle.hls_base.specs.Valued.{is, and_then}
 use Rattle.c_meaning.specs.PieceRuns.Values.{Store, with_variable, computed, joined, element_at, element_number, value, values}
 use Rattle.c_meaning.specs.PieceRuns.Pieces.{Frame}
@@ -202,7 +202,7 @@ module _ (f : Frame) (P : ℕ → Type 0) (n : ℕ) (calls : Bool) where
     is_there = λ e. (let v = c.is_there (or_left (has_element left) (has_element right) e) in first_value (value f.arrays left t) (λ x. joined op (kind left) x (kind right) at (value f.arrays right t)) v.0 v.1);
   }
 
-  pub right_there : (op : Binary) (left right : PureTree) (k : CType) (at : Place) (s : State) (t : Store) → may_skip_element (tree.binary op left right k at) ≡ false → CanSave (tree.binary op left right k at) s t → CanSave right s t
+  pub right_there : (op : Binary) (left right : PureTree) (k : CType) (at : Place) (s : State) (t : Store) → is_logical op && has_element right ≡ false → CanSave (tree.binary op left right k at) s t → CanSave right s t
   right_there op left right k at s t skips c = record {
     reads = c.reads.1;
     below = c.below;
@@ -220,12 +220,66 @@ module _ (f : Frame) (P : ℕ → Type 0) (n : ℕ) (calls : Bool) where
       not_both true b e g = absurd (true≢false (sym g ∙ e))
       not_both false b e g = refl
 
-  -- an operator that may skip an element is set as a whole
-  pub whole_saved : (k : CType) (x : PureTree) (s : State) (t : Store) → has_element x ≡ true → kind x ≡ k → ((v : ℤ) → value f.arrays x t ≡ is v → IsNumber k v) → CanSave x s t → IsWithin (set_own k x s).state f
-      → IsSaved f P n calls s x t (set_own k x s)
-  whole_saved k x s t element same numbers c within =
-      let v = c.is_there element in
-      own_saved k x s t v.0 v.1 (numbers v.0 v.1) same c.typed within
+  pub test_there : (test left right : PureTree) (k : CType) (s : State) (t : Store) → CanSave (tree.choice test left right k) s t → CanSave test s t
+  test_there test left right k s t c = record {
+    reads = c.reads.0;
+    below = c.below;
+    types = c.types.0;
+    typed = c.typed;
+    is_there = λ e.
+        let v = c.is_there (or_left (has_element test || has_element left) (has_element right) (or_left (has_element test) (has_element left) e)) in
+        first_value (value f.arrays test t) (λ y. and_then (if is_true y then value f.arrays left t else value f.arrays right t) (λ w. is (convert k w))) v.0 v.1;
+  }
+
+  -- ---- operators that are set as a whole, behind their first operand
+
+  set_behind : (a x : PureTree) (k : CType) (next : PureTree → PureTree) (s : State) (t : Store) (v : ℤ) → (h : IsSaved f P n calls s a t (saved n calls a s))
+      → value f.arrays (next (saved n calls a s).value) h.after ≡ value f.arrays x t → value f.arrays x t ≡ is v → IsNumber k v → kind (next (saved n calls a s).value) ≡ k → kind x ≡ k
+      → IsWithin (then_ (saved n calls a s) (λ y s1. set_own k (next y) s1)).state f
+      → IsSaved f P n calls s x t (then_ (saved n calls a s) (λ y s1. set_own k (next y) s1))
+  unfolding then_
+  set_behind a x k next s t v h same e number kind1 kind2 within =
+      let first = saved n calls a s in
+      let more = (saved_later n calls a s).more in
+      let y = next first.value in
+      let o = own_saved k y first.state h.after v (same ∙ e) number kind1 h.typed within in
+      record {
+        after = o.after;
+        goes = goes_behind f first.pieces (set_own k y first.state).pieces t h.after o.after h.goes o.goes;
+        variables = λ i lt. o.variables i (omega (arith, lt, more)) ∙ h.variables i lt;
+        elements = λ a1 i. o.elements a1 i ∙ h.elements a1 i;
+        typed = o.typed;
+        same = o.same ∙ same;
+        kept_kind = o.kept_kind ∙ kind1 ∙ sym kind2;
+        plain = o.plain;
+        reads = read_more (IsKept P n calls (length first.state.variables) (length (set_own k y first.state).state.variables)) (IsKept P n calls (length s.variables) (length (set_own k y first.state).state.variables))
+            (λ i r. kept_more (length first.state.variables) (length s.variables) _ _ i more (le_refl _) r) (set_own k y first.state).value o.reads;
+        types = o.types;
+      }
+
+  pub binary_set : (op : Binary) (left right : PureTree) (k : CType) (at : Place) (s : State) (t : Store) (v : ℤ) → (h : IsSaved f P n calls s left t (saved n calls left s))
+      → value f.arrays right h.after ≡ value f.arrays right t → value f.arrays (tree.binary op left right k at) t ≡ is v → IsNumber k v
+      → IsWithin (then_ (saved n calls left s) (λ x s1. set_own k (tree.binary op x right k at) s1)).state f
+      → IsSaved f P n calls s (tree.binary op left right k at) t (then_ (saved n calls left s) (λ x s1. set_own k (tree.binary op x right k at) s1))
+  binary_set op left right k at s t v h still e number within =
+      let y = (saved n calls left s).value in
+      set_behind left (tree.binary op left right k at) k (λ x. tree.binary op x right k at) s t v h
+      (ap (λ z. and_then (value f.arrays y h.after) (λ w. joined op z w (kind right) at (value f.arrays right h.after))) h.kept_kind
+      ∙ ap (λ r. and_then (value f.arrays y h.after) (λ w. joined op (kind left) w (kind right) at r)) still
+      ∙ ap (λ r. and_then r (λ w. joined op (kind left) w (kind right) at (value f.arrays right t))) h.same)
+      e number refl refl within
+
+  pub choice_set : (test left right : PureTree) (k : CType) (s : State) (t : Store) (v : ℤ) → (h : IsSaved f P n calls s test t (saved n calls test s))
+      → value f.arrays left h.after ≡ value f.arrays left t → value f.arrays right h.after ≡ value f.arrays right t → value f.arrays (tree.choice test left right k) t ≡ is v → IsNumber k v
+      → IsWithin (then_ (saved n calls test s) (λ x s1. set_own k (tree.choice x left right k) s1)).state f
+      → IsSaved f P n calls s (tree.choice test left right k) t (then_ (saved n calls test s) (λ x s1. set_own k (tree.choice x left right k) s1))
+  choice_set test left right k s t v h still still2 e number within =
+      let y = (saved n calls test s).value in
+      set_behind test (tree.choice test left right k) k (λ x. tree.choice x left right k) s t v h
+      (ap (λ r. and_then (value f.arrays y h.after) (λ w. and_then (if is_true w then value f.arrays left h.after else r) (λ z. is (convert k z)))) still2
+      ∙ ap (λ r. and_then (value f.arrays y h.after) (λ w. and_then (if is_true w then r else value f.arrays right t) (λ z. is (convert k z)))) still
+      ∙ ap (λ r. and_then r (λ w. and_then (if is_true w then value f.arrays left t else value f.arrays right t) (λ z. is (convert k z)))) h.same)
+      e number refl refl within
 
   pub choice_saved : (test left right : PureTree) (k : CType) (s : State) (t : Store) → ((i : ℕ) → P i → i < length s.variables)
       → (h : IsSaved f P n calls s test t (saved n calls test s))
@@ -364,12 +418,13 @@ module _ (f : Frame) (P : ℕ → Type 0) (n : ℕ) (calls : Bool) where
 
   -- ---- any value
 
-  pub if_saved : (whole : Bool) (x : PureTree) (parts : State → Part PureTree) (s : State) (t : Store)
-      → (whole ≡ true → IsWithin (set_own (kind x) x s).state f → IsSaved f P n calls s x t (set_own (kind x) x s))
-      → (whole ≡ false → IsWithin (parts s).state f → IsSaved f P n calls s x t (parts s))
-      → IsWithin (saved_if whole x parts s).state f → IsSaved f P n calls s x t (saved_if whole x parts s)
-  if_saved true x parts s t h g within = h refl within
-  if_saved false x parts s t h g within = g refl within
+  pub if_behind : (b : Bool) (x : PureTree) (first : Part PureTree) (whole parts : PureTree → State → Part PureTree) (s : State) (t : Store)
+      → (b ≡ true → IsWithin (then_ first whole).state f → IsSaved f P n calls s x t (then_ first whole))
+      → (b ≡ false → IsWithin (then_ first parts).state f → IsSaved f P n calls s x t (then_ first parts))
+      → IsWithin (then_ first (λ y s1. if b then whole y s1 else parts y s1)).state f → IsSaved f P n calls s x t (then_ first (λ y s1. if b then whole y s1 else parts y s1))
+  unfolding then_
+  if_behind true x first whole parts s t h g within = h refl within
+  if_behind false x first whole parts s t h g within = g refl within
 
   pub skips_binary : (a b c : Bool) → a && b ≡ true → c || b ≡ true
   skips_binary true b c e = or_right c b e

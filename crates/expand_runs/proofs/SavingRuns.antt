@@ -1,13 +1,13 @@
 -- The pieces that save a value go on, and what is left has the value that there was.
-use Rattle.std.proofs.Common.{ℕ, ◌∙◌, sym, refl, ap, ℤ, Bool, true≢false, ◌&&◌, ◌||◌, List, [], ◌∷◌, ◌++◌, arith, if◌then◌else◌}
+use Rattle.std.proofs.Common.{ℕ, ◌∙◌, sym, refl, ap, ℤ, Bool, true≢false, ◌&&◌, ◌||◌, List, [], ◌∷◌, ◌++◌, arith}
 use Rattle.std.specs.Prelude.{nat_lt}
 use Rattle.c_value.specs.Values.{convert}
-use Rattle.c_value.specs.Operators.{is_true, unary_value}
+use Rattle.c_value.specs.Operators.{unary_value}
 use Rattle.pieces.specs.Trees as tree
 use Rattle.pieces.specs.Trees.{PureTree, PureTrees, row}
 use Rattle.pieces.specs.Kind.{kind}
 use Rattle.piece_making.specs.Making.{State, gives, then_, set_own}
-use Rattle.piece_making.specs.Saving.{has_element, saved, all_saved, may_skip_element, is_logical}
+use Rattle.piece_making.specs.Saving.{has_element, saved, all_saved, is_logical}
 use Rattle.hls_base.specs.Valued.{is, and_then}
 use Rattle.c_meaning.specs.PieceRuns.Values.{Store, computed, element_at, element_number, value, values}
 use Rattle.c_meaning.specs.PieceRuns.Pieces.{Frame}
@@ -17,7 +17,7 @@ use Rattle.expand_runs.proofs.Reading.{value_agrees, values_agree, or_left, or_r
 use Rattle.expand_runs.proofs.Growing.{later_both, later_own, within_before}
 use Rattle.expand_runs.proofs.Typing.{first_value, value_number}
 use Rattle.expand_runs.proofs.SavedLater.{saved_later, all_later}
-use Rattle.expand_runs.proofs.SavingParts.{IsSaved, CanSave, CanSaveAll, AreSaved, still_saved, variable_saved, unary_saved, cast_saved, can_next, binary_saved, left_there, right_there, whole_saved, choice_saved, none_saved, more_saved, element_saved, if_saved, skips_binary, skips_choice}
+use Rattle.expand_runs.proofs.SavingParts.{IsSaved, CanSave, CanSaveAll, AreSaved, still_saved, variable_saved, unary_saved, cast_saved, can_next, binary_saved, left_there, right_there, test_there, binary_set, choice_set, choice_saved, none_saved, more_saved, element_saved, if_behind, skips_binary, skips_choice}
 
 module _ (unary_fits : UnaryFits) (binary_fits : BinaryFits) (f : Frame) (P : ℕ → Type 0) (n : ℕ) (calls : Bool) where
   mutual
@@ -41,10 +41,16 @@ module _ (unary_fits : UnaryFits) (binary_fits : BinaryFits) (f : Frame) (P : �
     saved_well (tree.binary op left right k at) s t c within =
         let x = tree.binary op left right k at in
         let first = saved n calls left s in
-        if_saved f P n calls (may_skip_element x) x (λ s0. then_ (saved n calls left s0) (λ x s1. then_ (saved n calls right s1) (λ y s2. gives (tree.binary op x y k at) s2))) s t
-        (λ e within. whole_saved f P n calls k x s t (skips_binary f P n calls (is_logical op) (has_element right) (has_element left) e) refl (λ v e. value_number unary_fits binary_fits f x t v c.typed c.types e) c within)
+        let whole = λ (y : PureTree) (s1 : State). set_own k (tree.binary op y right k at) s1 in
+        let there = left_there f P n calls op left right k at s t c in
+        if_behind f P n calls (is_logical op && has_element right) x first whole (λ y s1. then_ (saved n calls right s1) (λ z s2. gives (tree.binary op y z k at) s2)) s t
         (λ e within.
-        let h = saved_well left s t (left_there f P n calls op left right k at s t c) (within_before first.state (saved n calls right first.state).state f (saved_later n calls right first.state) within) in
+        let h = saved_well left s t there (within_before first.state (whole first.value first.state).state f (later_own k (tree.binary op first.value right k at) first.state) within) in
+        let v = c.is_there (skips_binary f P n calls (is_logical op) (has_element right) (has_element left) e) in
+        binary_set f P n calls op left right k at s t v.0 h (value_agrees f.arrays P t h.after (λ i p. h.variables i (c.below i p)) right c.reads.1 (λ z. h.elements)) v.1
+        (value_number unary_fits binary_fits f x t v.0 c.typed c.types v.1) within)
+        (λ e within.
+        let h = saved_well left s t there (within_before first.state (saved n calls right first.state).state f (saved_later n calls right first.state) within) in
         let g = saved_well right first.state h.after (can_next f P n calls left right s t (right_there f P n calls op left right k at s t e c) h) within in
         binary_saved f P n calls op left right k at s t c.types.0 c.below h g (value_agrees f.arrays P t h.after (λ i p. h.variables i (c.below i p)) right c.reads.1 (λ z. h.elements))) within
     saved_well (tree.choice test left right k) s t c within =
@@ -55,19 +61,17 @@ module _ (unary_fits : UnaryFits) (binary_fits : BinaryFits) (f : Frame) (P : �
         let later = saved_later n calls test s in
         let later2 = saved_later n calls left first.state in
         let later3 = saved_later n calls right second.state in
-        if_saved f P n calls (may_skip_element x) x
-        (λ s0. then_ (saved n calls test s0) (λ t1 s1. then_ (saved n calls left s1) (λ x s2. then_ (saved n calls right s2) (λ y s3. gives (tree.choice t1 x y k) s3)))) s t
-        (λ e within. whole_saved f P n calls k x s t (skips_choice f P n calls (has_element test) (has_element left) (has_element right) e) refl (λ v e. value_number unary_fits binary_fits f x t v c.typed c.types e) c within)
+        let whole = λ (y : PureTree) (s1 : State). set_own k (tree.choice y left right k) s1 in
+        let there = test_there f P n calls test left right k s t c in
+        if_behind f P n calls (has_element left || has_element right) x first whole
+        (λ t1 s1. then_ (saved n calls left s1) (λ y s2. then_ (saved n calls right s2) (λ z s3. gives (tree.choice t1 y z k) s3))) s t
         (λ e within.
-        let h = saved_well test s t (record {
-          reads = c.reads.0;
-          below = c.below;
-          types = c.types.0;
-          typed = c.typed;
-          is_there = λ z.
-              let v = c.is_there (or_left (has_element test || has_element left) (has_element right) (or_left (has_element test) (has_element left) z)) in
-              first_value (value f.arrays test t) (λ y. and_then (if is_true y then value f.arrays left t else value f.arrays right t) (λ w. is (convert k w))) v.0 v.1;
-        }) (within_before first.state third.state f (later_both first.state second.state third.state later2 later3) within) in
+        let h = saved_well test s t there (within_before first.state (whole first.value first.state).state f (later_own k (tree.choice first.value left right k) first.state) within) in
+        let v = c.is_there (skips_choice f P n calls (has_element test) (has_element left) (has_element right) e) in
+        choice_set f P n calls test left right k s t v.0 h (value_agrees f.arrays P t h.after (λ i p. h.variables i (c.below i p)) left c.reads.1 (λ z. h.elements))
+        (value_agrees f.arrays P t h.after (λ i p. h.variables i (c.below i p)) right c.reads.2 (λ z. h.elements)) v.1 (value_number unary_fits binary_fits f x t v.0 c.typed c.types v.1) within)
+        (λ e within.
+        let h = saved_well test s t there (within_before first.state third.state f (later_both first.state second.state third.state later2 later3) within) in
         let g = saved_well left first.state h.after (record {
           reads = c.reads.1;
           below = λ i p. (let a = c.below i p in let b = later.more in omega (arith, a, b));

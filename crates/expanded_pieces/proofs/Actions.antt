@@ -16,8 +16,8 @@ use Rattle.piece_making.specs.Making.{gives, emit}
 use Rattle.piece_making.specs.Objects.{local_array}
 use Rattle.piece_making.specs.Calls.{Call, point_in}
 use Rattle.piece_making.specs.Assigning.{Change, step, one, apply, new_value, target_read}
-use Rattle.c_expand.specs.Expressions.{Callee}
-use Rattle.c_expand.specs.Statements.{marked, valued, changed, action, actions, item_value, filled, initialised, scalar_declared, declared_as, declare, tested, stepped, result_variable, result_set, returned, is_call, subscripts_at}
+use Rattle.c_expand.specs.Expressions.{Callee, is_call}
+use Rattle.c_expand.specs.Statements.{marked, valued, changed, action, actions, item_value, filled, initialised, scalar_declared, declared_as, declare, tested, stepped, result_variable, result_set, returned, subscripts_at}
 use Rattle.ir_layout.specs.WellFormed.{Inside, has_number}
 use Rattle.expanded_pieces.specs.Lengths.{EachObject}
 use Rattle.expanded_pieces.proofs.Parts.{Needs, FitsThere, gives_fits, then_fits, emit_fits, set_fits, put_fits, mark_fits, array_fits, note_fits, declared_fits}

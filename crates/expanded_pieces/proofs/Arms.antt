@@ -8,7 +8,7 @@ use Rattle.pieces.specs.Trees.{PieceTree, piece_row}
 use Rattle.piece_making.specs.Making.{State, Part, then_, inside, inside_switch, label}
 use Rattle.ir_layout.specs.WellFormed.{Inside}
 use Rattle.passes.specs.Lowering.{is_named}
-use Rattle.lower_runs.specs.LoweredTrees.Fitting.{ArmPiecesFit, with_ends, ends_before_arm}
+use Rattle.pass_runs.specs.LowerRuns.LoweredTrees.Fitting.{ArmPiecesFit, with_ends, ends_before_arm}
 use Rattle.expanded_pieces.proofs.Ends.{arm_ends_more, arm_append}
 use Rattle.expanded_pieces.proofs.Parts.{Needs, Meets, EachArray, Fits, meets_more}
 

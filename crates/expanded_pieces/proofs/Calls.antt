@@ -23,8 +23,8 @@ use Rattle.c_expand.specs.Expressions.{Given, Callee}
 use Rattle.c_expand.specs.Statements.{statements}
 use Rattle.c_expand.specs.Expansion.{expansion, parameter, parameters, locals, homes_for, end_of, run_through, within, value_of, opened, opened_as, calls, is_array, is_kept, kept_scalar, kept_scalars, first_kept, file_home, file_homes, kept_behind, top_parameter, top_parameters, outermost, top_call, top_run, top_of, top_made, named, nothing}
 use Rattle.ir_layout.specs.WellFormed.{Inside}
-use Rattle.lower_runs.specs.LoweredTrees.Fitting.{PiecesFit, with_ends, ends_in}
-use Rattle.lower_runs.specs.Showing.{AreShort}
+use Rattle.pass_runs.specs.LowerRuns.LoweredTrees.Fitting.{PiecesFit, with_ends, ends_in}
+use Rattle.pass_runs.specs.LowerRuns.Showing.{AreShort}
 use Rattle.c_meaning.specs.PieceRuns.Values.{lengths_in}
 use Rattle.expanded_pieces.specs.Jumps.{AllJumpsFit, ProgramJumpsFit}
 use Rattle.expanded_pieces.specs.Lengths.{EachObject, EachFileObject, EachFunction}

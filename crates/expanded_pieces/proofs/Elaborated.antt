@@ -26,7 +26,7 @@ use Rattle.c_elaborate.specs.Objects.{object_elaborated}
 use Rattle.c_elaborate.specs.Scenes.{declared}
 use Rattle.c_elaborate.specs.Statements.{declarations, item, statement, else_statement, first_statements, statements}
 use Rattle.c_elaborate.specs.Programs.{file_object, function_of_item, functions_elaborated, program_elaborated}
-use Rattle.lower_runs.specs.Showing.{AreShort}
+use Rattle.pass_runs.specs.LowerRuns.Showing.{AreShort}
 use Rattle.expanded_pieces.specs.Jumps.{Begins, JumpsFit, ElseJumpsFit, AllJumpsFit}
 use Rattle.expanded_pieces.specs.Lengths.{EachObject, EachFileObject, EachFunction}
 use Rattle.expanded_pieces.specs.Beginning.{HasHead, LoopsBegin, ElseLoopsBegin, AllLoopsBegin, BodyLoopsBegin, ItemsLoopsBegin}

@@ -6,7 +6,7 @@ use Rattle.pieces.specs.Trees as tree
 use Rattle.pieces.specs.Trees.{PieceTree, PieceTrees, piece_row}
 use Rattle.ir_layout.specs.WellFormed.{Inside, has_number}
 use Rattle.passes.specs.Lowering.{is_named}
-use Rattle.lower_runs.specs.LoweredTrees.Fitting.{PieceFits, PiecesFit, ArmPiecesFit, with_ends, ends_in, ends_before_arm}
+use Rattle.pass_runs.specs.LowerRuns.LoweredTrees.Fitting.{PieceFits, PiecesFit, ArmPiecesFit, with_ends, ends_in, ends_before_arm}
 
 -- ---- numbers of ends
 

@@ -16,7 +16,7 @@ use Rattle.piece_making.specs.Making.{State, Part, gives, then_, emit, fresh}
 use Rattle.piece_making.specs.Saving.{save, is_logical}
 use Rattle.piece_making.specs.Calls.{Call, variable}
 use Rattle.piece_making.specs.Assigning.{Change, change, store_at, store, assigned, bumped, bumped_behind, new_value, target_read, one, step}
-use Rattle.c_expand.specs.Expressions.{Given, Callee, value_given, may_be_unused, set_unused, discarded, value_or_zero, arm, decided, to_bool, same, fork_of, is_or, forked, operated, chosen, expression, operands, targeted, argument, arguments}
+use Rattle.c_expand.specs.Expressions.{Given, Callee, value_given, is_call, may_be_unused, set_unused, discarded, comma_left, value_or_zero, arm, decided, to_bool, same, fork_of, is_or, forked, operated, chosen, expression, operands, targeted, argument, arguments}
 use Rattle.expanded_pieces.proofs.Parts.{Needs, FitIf, FitsThere, Within, gives_fits, then_at, then_fits, emit_fits, set_fits, put_fits, mark_fits, fresh_fits, own_fits, if_fits, save_fits, inside_fits}
 
 -- calls become pieces that fit anywhere
@@ -104,6 +104,11 @@ module _ (Q : List ℕ → Type 0) (n : Needs) where
   pub discarded_fits : (b : Bool) (x : PureTree) → FitsThere Q n (discarded b x)
   discarded_fits b x s = if_fits Q n b (gives tt s) (set_unused x s) s (gives_fits Q n tt s) (unused_fits x s)
 
+  comma_left_fits : (low : ℕ) (left : CoreTree) (x : PureTree) (later : Effects) → FitsThere Q n (comma_left low left x later)
+  comma_left_fits low left x later s =
+      if_fits Q n (is_call left) (gives tt s) (then_ (save low x later s) (λ y s1. discarded (may_be_unused left) y s1)) s (gives_fits Q n tt s)
+      (then_fits Q n s _ _ (save_fits Q n low x later s) (λ y s1. discarded_fits (may_be_unused left) y s1))
+
   -- ---- expressions
 
   module _ (g : Callee) (callees : CalleesFit Q g) (c : Call) where
@@ -126,7 +131,7 @@ module _ (Q : List ℕ → Type 0) (n : Needs) where
           then_fits Q n s _ _ (target_fits left (effects value) op at s) (λ t s1. then_fits Q n s1 _ _ (expression_fits value s1) (λ by s2. assigned_fits c t by s2))
       expression_fits (core.bump left up post at) s = then_fits Q n s _ _ (target_fits left no_effects (step up) at s) (λ t s1. bumped_fits c t post s1)
       expression_fits (core.comma left right) s =
-          then_fits Q n s _ _ (expression_fits left s) (λ x s1. then_fits Q n s1 _ _ (discarded_fits (may_be_unused left) x s1) (λ u s2. expression_fits right s2))
+          then_fits Q n s _ _ (expression_fits left s) (λ x s1. then_fits Q n s1 _ _ (comma_left_fits c.file_variables left x (effects right) s1) (λ u s2. expression_fits right s2))
 
       pub operands_fit : (xs : CoreTrees) (later : Effects) (before : List PureTree) → FitsThere Q n (operands g c xs later before)
       operands_fit core.none later before s = gives_fits Q n before s

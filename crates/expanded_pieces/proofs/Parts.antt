@@ -1,5 +1,5 @@
 -- Parts whose pieces fit, one behind another.
-use Rattle.std.proofs.Common.{◌≡◌, ℕ, ◌+◌, Bool, true, false, ◌&&◌, List, [], ◌∷◌, ◌++◌, length, refl, ap₂, arith, Option, Some, None, if◌then◌else◌}
+use Rattle.std.proofs.Common.{◌≡◌, ℕ, ◌+◌, Bool, true, false, ◌&&◌, ◌||◌, List, [], ◌∷◌, ◌++◌, length, refl, ap₂, arith, Option, Some, None, if◌then◌else◌}
 use Rattle.std.specs.Prelude.{nat_lt}
 use Rattle.std.proofs.lemmas.List.{length-append}
 use Rattle.hls_base.specs.declared.place.Place.{Place}
@@ -15,9 +15,9 @@ use Rattle.piece_making.specs.declared.effects.Effects.{Effects}
 use Rattle.piece_making.specs.declared.work.Slot.{Slot}
 use Rattle.piece_making.specs.Acting.{spoils}
 use Rattle.piece_making.specs.Making.{State, Part, Inner, gives, then_, emit, inside, fresh, fresh_result, add_array, new_slot, note_array, next_call, next_loop, declared, set_own}
-use Rattle.piece_making.specs.Saving.{saved, all_saved, saved_if, may_skip_element, save}
+use Rattle.piece_making.specs.Saving.{has_element, is_logical, saved, all_saved, saved_if, save}
 use Rattle.ir_layout.specs.WellFormed.{Inside, has_number}
-use Rattle.lower_runs.specs.LoweredTrees.Fitting.{PieceFits, PiecesFit, with_ends, ends_in}
+use Rattle.pass_runs.specs.LowerRuns.LoweredTrees.Fitting.{PieceFits, PiecesFit, with_ends, ends_in}
 use Rattle.expanded_pieces.proofs.Ends.{ends_more, fits_append}
 
 -- what pieces may need round them: a loop or switch to leave, a loop to go on with, and the end of a call behind them
@@ -150,13 +150,13 @@ module _ (Q : List ℕ → Type 0) (n : Needs) where
     saved_fits low calls (tree.element array subscripts k at) s = then_fits s _ _ (all_fits low calls subscripts [] s) (λ given s1. own_fits k (tree.element array (row given) k at) s1)
     saved_fits low calls (tree.unary op arg k at) s = then_fits s _ _ (saved_fits low calls arg s) (λ x s1. gives_fits (tree.unary op x k at) s1)
     saved_fits low calls (tree.binary op left right k at) s =
-        saved_if_fits (may_skip_element (tree.binary op left right k at)) (tree.binary op left right k at)
-        (λ s0. then_ (saved low calls left s0) (λ x s1. then_ (saved low calls right s1) (λ y s2. gives (tree.binary op x y k at) s2)))
-        (λ s0. then_fits s0 _ _ (saved_fits low calls left s0) (λ x s1. then_fits s1 _ _ (saved_fits low calls right s1) (λ y s2. gives_fits (tree.binary op x y k at) s2))) s
+        then_fits s _ _ (saved_fits low calls left s)
+        (λ x s1. saved_if_fits (is_logical op && has_element right) (tree.binary op x right k at) (λ s2. then_ (saved low calls right s2) (λ y s3. gives (tree.binary op x y k at) s3))
+        (λ s2. then_fits s2 _ _ (saved_fits low calls right s2) (λ y s3. gives_fits (tree.binary op x y k at) s3)) s1)
     saved_fits low calls (tree.choice test left right k) s =
-        saved_if_fits (may_skip_element (tree.choice test left right k)) (tree.choice test left right k)
-        (λ s0. then_ (saved low calls test s0) (λ t s1. then_ (saved low calls left s1) (λ x s2. then_ (saved low calls right s2) (λ y s3. gives (tree.choice t x y k) s3))))
-        (λ s0. then_fits s0 _ _ (saved_fits low calls test s0) (λ t s1. then_fits s1 _ _ (saved_fits low calls left s1) (λ x s2. then_fits s2 _ _ (saved_fits low calls right s2) (λ y s3. gives_fits (tree.choice t x y k) s3)))) s
+        then_fits s _ _ (saved_fits low calls test s)
+        (λ t s1. saved_if_fits (has_element left || has_element right) (tree.choice t left right k) (λ s2. then_ (saved low calls left s2) (λ x s3. then_ (saved low calls right s3) (λ y s4. gives (tree.choice t x y k) s4)))
+        (λ s2. then_fits s2 _ _ (saved_fits low calls left s2) (λ x s3. then_fits s3 _ _ (saved_fits low calls right s3) (λ y s4. gives_fits (tree.choice t x y k) s4))) s1)
     saved_fits low calls (tree.cast to arg) s = then_fits s _ _ (saved_fits low calls arg s) (λ x s1. gives_fits (tree.cast to x) s1)
 
     all_fits : (low : ℕ) (calls : Bool) (xs : PureTrees) (before : List PureTree) → FitsThere (all_saved low calls xs before)

@@ -14,7 +14,7 @@ use Rattle.piece_making.specs.Calls.{Call, point_in}
 use Rattle.c_expand.specs.Expressions.{Callee, expression}
 use Rattle.c_expand.specs.Statements.{marked, tested, stepped, loop_body, repeat, branch, labelled, statement, other_branch, statements}
 use Rattle.ir_layout.specs.WellFormed.{Inside, in_body, in_step, in_arm}
-use Rattle.lower_runs.specs.LoweredTrees.Fitting.{StepIsThere}
+use Rattle.pass_runs.specs.LowerRuns.LoweredTrees.Fitting.{StepIsThere}
 use Rattle.expanded_pieces.specs.Lengths.{EachObject}
 use Rattle.expanded_pieces.specs.Jumps.{Begins, JumpsFit, ElseJumpsFit, AllJumpsFit}
 use Rattle.expanded_pieces.proofs.Parts.{Needs, Meets, Fits, FitsThere, Within, gives_fits, then_at, then_fits, emit_fits, loop_fits, inside_fits}

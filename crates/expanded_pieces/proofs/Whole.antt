@@ -2,7 +2,7 @@
 use Rattle.c_elaborate.specs.Programs.{program_elaborated}
 use Rattle.c_expand.specs.Expansion.{expansion}
 use Rattle.passes.specs.Lowering.{scope_of}
-use Rattle.lower_runs.proofs.LoweredTrees.Fitting.{lowered_fits}
+use Rattle.pass_runs.proofs.LowerRuns.LoweredTrees.Fitting.{lowered_fits}
 use Rattle.expanded_pieces.specs.Laws.{ExpandedIsWellFormed, CheckedProgramsFit}
 use Rattle.expanded_pieces.proofs.Calls.{expanded_fit, expanded_short}
 use Rattle.expanded_pieces.proofs.Grammar.{grammar_begins}

@@ -11,9 +11,9 @@ use Rattle.c_expand.specs.Expansion.{expansion, top_of}
 use Rattle.pieces.specs.Trees.{PieceTrees}
 use Rattle.c_meaning.specs.PieceRuns.Pieces.{Frame}
 use Rattle.passes.specs.Lowering.Shapes.{first_point}
-use Rattle.lower_runs.specs.Suits.{Suits}
-use Rattle.lower_runs.specs.Holding.{IsThere, none_hidden}
-use Rattle.lower_runs.specs.Suiting.{BeginSuits}
+use Rattle.pass_runs.specs.LowerRuns.Suits.{Suits}
+use Rattle.pass_runs.specs.LowerRuns.Holding.{IsThere, none_hidden}
+use Rattle.pass_runs.specs.LowerRuns.Suiting.{BeginSuits}
 use Rattle.expanded_pieces.specs.Jumps.{ProgramJumpsFit}
 use Rattle.expanded_pieces.specs.BegunPieces.Beginning.{BeginsWell}
 use Rattle.expanded_pieces.specs.BegunPieces.Points.{KeepsBegun, begins_at, MarksDiffer}

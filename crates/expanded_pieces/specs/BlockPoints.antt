@@ -6,10 +6,10 @@ use Rattle.c_meaning.specs.PieceRuns.Pieces.{Frame}
 use Rattle.passes.specs.Lowering.Shapes.{first_point}
 use Rattle.passes.specs.Lowering.Blocks.{Scope, begun}
 use Rattle.passes.specs.Lowering.{last, lowered}
-use Rattle.lower_runs.specs.Holding.{none_hidden}
-use Rattle.lower_runs.specs.Suiting.{BeginSuits}
-use Rattle.convert_runs.specs.ConvertedTrees.Points as blocks
-use Rattle.convert_runs.specs.ConvertedTrees.Points.{live_points}
+use Rattle.pass_runs.specs.LowerRuns.Holding.{none_hidden}
+use Rattle.pass_runs.specs.LowerRuns.Suiting.{BeginSuits}
+use Rattle.pass_runs.specs.ConvertRuns.ConvertedTrees.Points as blocks
+use Rattle.pass_runs.specs.ConvertRuns.ConvertedTrees.Points.{live_points}
 use Rattle.expanded_pieces.specs.ApartPoints.Apart.{AreApart}
 use Rattle.expanded_pieces.specs.ApartPoints.Points.{all_points}
 

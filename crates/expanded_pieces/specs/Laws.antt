@@ -13,8 +13,8 @@ use Rattle.c_meaning.specs.Checks.Programs.{program_faults}
 use Rattle.c_elaborate.specs.Programs.{program_elaborated}
 use Rattle.pieces.specs.Resolved.Core.{CoreProgramTree}
 use Rattle.c_expand.specs.Expansion.{expansion}
-use Rattle.lower_runs.specs.LoweredTrees.Fitting.{PiecesFit}
-use Rattle.lower_runs.specs.Showing.{AreShort}
+use Rattle.pass_runs.specs.LowerRuns.LoweredTrees.Fitting.{PiecesFit}
+use Rattle.pass_runs.specs.LowerRuns.Showing.{AreShort}
 use Rattle.c_meaning.specs.PieceRuns.Values.{lengths_in}
 use Rattle.expanded_pieces.specs.Jumps.{ProgramJumpsFit}
 use Rattle.expanded_pieces.specs.Lengths.{ProgramLengthsFit}

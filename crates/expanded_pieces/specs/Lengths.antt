@@ -1,7 +1,7 @@
 -- What the lengths of all arrays of a program are.
 use Rattle.std.specs.Prelude.{ℕ, List, [], ◌∷◌}
 use Rattle.pieces.specs.Resolved.Core.{CoreObjectTree, FileObjectTree, CoreFunctionTree, CoreProgramTree}
-use Rattle.lower_runs.specs.Showing.{AreShort}
+use Rattle.pass_runs.specs.LowerRuns.Showing.{AreShort}
 
 abbrev pub EachObject : (List ℕ → Type 0) → List CoreObjectTree → Type 0
 EachObject Q [] = Unit {0}

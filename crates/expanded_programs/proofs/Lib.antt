@@ -12,3 +12,4 @@ pub mod TopFrames
 pub mod Ends
 pub mod Whole
 pub mod Examples
+pub mod ElaboratedPrograms

@@ -25,8 +25,8 @@ use Rattle.piece_making.specs.Acting.{spoils, acts, no_effects, either, effects,
 use Rattle.piece_making.specs.Leaving.{is_empty}
 use Rattle.piece_making.specs.Assigning.{Change, step, store, store_at, assigned, bumped}
 use Rattle.c_expand.specs.Expressions as e
-use Rattle.c_expand.specs.Expressions.{Given, Callee, discarded, set_unused, arm, decided, fork_of, forked, operated, chosen, expression, operands, targeted, argument, arguments}
-use Rattle.c_expand.specs.Statements.{is_call, marked, valued, changed, action, actions, item_value, filled, initialised, scalar_declared, declared_as, tested, stepped, loop_body, repeat, result_set, branch, labelled, statement, other_branch, statements}
+use Rattle.c_expand.specs.Expressions.{Given, Callee, comma_left, discarded, set_unused, arm, decided, fork_of, forked, operated, chosen, expression, operands, targeted, argument, arguments, is_call}
+use Rattle.c_expand.specs.Statements.{marked, valued, changed, action, actions, item_value, filled, initialised, scalar_declared, declared_as, tested, stepped, loop_body, repeat, result_set, branch, labelled, statement, other_branch, statements}
 use Rattle.c_expand.specs.Expansion.{parameter, parameters, locals, homes_for, run_through, within, opened_as, calls}
 
 -- no table, nothing kept, and not reached by the host
@@ -105,13 +105,15 @@ mutual
   adds_saved n b (tree.unary op arg k at) s = adds_then s (saved n b arg s) _ (adds_saved n b arg s) (stays _)
   adds_saved n b (tree.binary op left right k at) s =
       let x = saved n b left s in
-      adds_saved_if _ (tree.binary op left right k at) (λ s0. then_ (saved n b left s0) (λ x s1. then_ (saved n b right s1) (λ y s2. gives (tree.binary op x y k at) s2))) s
-      (adds_then s x _ (adds_saved n b left s) (adds_then x.state (saved n b right x.state) _ (adds_saved n b right x.state) (stays _)))
+      adds_then s x _ (adds_saved n b left s)
+      (adds_saved_if _ (tree.binary op x.value right k at) (λ s1. then_ (saved n b right s1) (λ y s2. gives (tree.binary op x.value y k at) s2)) x.state
+      (adds_then x.state (saved n b right x.state) _ (adds_saved n b right x.state) (stays _)))
   adds_saved n b (tree.choice test left right k) s =
       let t = saved n b test s in
       let x = saved n b left t.state in
-      adds_saved_if _ (tree.choice test left right k) (λ s0. then_ (saved n b test s0) (λ t s1. then_ (saved n b left s1) (λ x s2. then_ (saved n b right s2) (λ y s3. gives (tree.choice t x y k) s3)))) s
-      (adds_then s t _ (adds_saved n b test s) (adds_then t.state x _ (adds_saved n b left t.state) (adds_then x.state (saved n b right x.state) _ (adds_saved n b right x.state) (stays _))))
+      adds_then s t _ (adds_saved n b test s)
+      (adds_saved_if _ (tree.choice t.value left right k) (λ s1. then_ (saved n b left s1) (λ x1 s2. then_ (saved n b right s2) (λ y s3. gives (tree.choice t.value x1 y k) s3))) t.state
+      (adds_then t.state x _ (adds_saved n b left t.state) (adds_then x.state (saved n b right x.state) _ (adds_saved n b right x.state) (stays _))))
   adds_saved n b (tree.cast to arg) s = adds_then s (saved n b arg s) _ (adds_saved n b arg s) (stays _)
 
   adds_all_saved : (n : ℕ) (b : Bool) (xs : PureTrees) (before : List PureTree) (s : State) → AddsIn s (all_saved n b xs before s)
@@ -126,6 +128,11 @@ adds_save n x later s = adds_if (spoils later) (saved n later.calls x s) (gives 
 adds_discarded : (b : Bool) (x : PureTree) (s : State) → AddsIn s (discarded b x s)
 adds_discarded true x s = stays s
 adds_discarded false x s = adds_then s (set_own _ x s) _ (adds_own _ x s) (stays _)
+
+adds_comma_left : (n : ℕ) (left : CoreTree) (x : PureTree) (later : Effects) (s : State) → AddsIn s (comma_left n left x later s)
+adds_comma_left n left x later s =
+    let y = save n x later s in
+    adds_if (is_call left) (gives tt s) (then_ y (λ z s1. discarded (e.may_be_unused left) z s1)) s (stays s) (adds_then s y _ (adds_save n x later s) (adds_discarded (e.may_be_unused left) y.value y.state))
 
 -- ---- changes
 
@@ -216,8 +223,8 @@ module _ (f : Callee) (c : Call) (callees : (callee : ℕ) (given : List Given) 
         adds_then s t _ (targeted_adds left no_effects (step up) at s) (adds_bumped c t.value post t.state)
     expression_adds (core.comma left right) s =
         let x = expression f c left s in
-        let d = discarded (e.may_be_unused left) x.value x.state in
-        adds_then s x _ (expression_adds left s) (adds_then x.state d _ (adds_discarded (e.may_be_unused left) x.value x.state) (expression_adds right d.state))
+        let d = comma_left c.file_variables left x.value (effects right) x.state in
+        adds_then s x _ (expression_adds left s) (adds_then x.state d _ (adds_comma_left c.file_variables left x.value (effects right) x.state) (expression_adds right d.state))
 
     operands_add : (xs : CoreTrees) (later : Effects) (before : List PureTree) (s : State) → AddsIn s (operands f c xs later before s)
     operands_add core.none later before s = stays s

@@ -3,3 +3,4 @@ pub mod Calls
 pub mod Outlines
 pub mod Contents
 pub mod Laws
+pub mod ElaboratedPrograms

@@ -69,7 +69,7 @@ overlaps (tree.put array subscripts value at) = never
 overlaps (tree.fork test left right end) = never
 overlaps (tree.repeat_ id true before test body step end) = never
 overlaps (tree.repeat_ id false before test body step end) =
-    let w = piece_weights before + weight test + piece_weights body + piece_weights step in
+    let w = weight test + piece_weights body + piece_weights step in
     four _ (Decides-and _ _ (decides_itself (are_marks before)) (Decides-and (nat_le w 256) _ (decides_le w 256) (Decides-and _ _ (all_straight body) (all_straight step))))
 overlaps (tree.pick test labels body end) = never
 overlaps tree.break_ = never

@@ -11,14 +11,14 @@ use Rattle.passes.specs.Lowering.{last, lowered}
 use Rattle.passes.specs.Numbering.{numbered_sequence}
 use Rattle.passes.specs.Conversion.Merging.{is_only}
 use Rattle.passes.specs.Conversion.{converted_sequence}
-use Rattle.convert_runs.specs.Kept.{IsSameRun}
-use Rattle.convert_runs.specs.Typed.{Fits}
+use Rattle.pass_runs.specs.ConvertRuns.Kept.{IsSameRun}
+use Rattle.pass_runs.specs.ConvertRuns.Typed.{Fits}
 use Rattle.ir_layout.specs.WellFormed.{IsWellFormed}
-use Rattle.lower_runs.specs.LoweredTrees.Fitting.{PiecesFit}
-use Rattle.convert_runs.specs.ConvertedTrees.Points.{AreApart, stays_in}
-use Rattle.convert_runs.specs.LoweredConversions.Suiting.{widths_of, words_of, PiecesSuit, NoCallEnds}
-use Rattle.convert_runs.specs.LoweredConversions.PiecePoints.{points_in}
-use Rattle.convert_runs.specs.LoweredConversions.{body_blocks}
+use Rattle.pass_runs.specs.LowerRuns.LoweredTrees.Fitting.{PiecesFit}
+use Rattle.pass_runs.specs.ConvertRuns.ConvertedTrees.Points.{AreApart, stays_in}
+use Rattle.pass_runs.specs.ConvertRuns.LoweredConversions.Suiting.{widths_of, words_of, PiecesSuit, NoCallEnds}
+use Rattle.pass_runs.specs.ConvertRuns.LoweredConversions.PiecePoints.{points_in}
+use Rattle.pass_runs.specs.ConvertRuns.LoweredConversions.{body_blocks}
 
 -- the lowered tree of pieces that begin at a point, the numbered one, and the converted one, in which loops may be overlapped
 abbrev pub lowered_tree : Scope → PieceTrees → Point → SequenceTree

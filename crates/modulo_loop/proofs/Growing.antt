@@ -5,7 +5,8 @@ use Rattle.ir_core.specs.declared.body.Op.{Op}
 use Rattle.ir_core.specs.declared.stamp.Untimed.{Untimed}
 use Rattle.dep_graph.specs.declared.edge.Why.TheVariants as w
 use Rattle.unit_binding.specs.declared.binding.UnitOrder.{UnitOrder}
-use Rattle.modulo_loop.specs.Rules.{next_rules, again_rules, serves_next, unit_rules, store_rules_from, is_store}
+use Rattle.modulo_loop.specs.Rules.{next_rules, again_rules, serves_next, unit_rules, store_rules_from}
+use Rattle.dep_graph.specs.Meetings.{is_store}
 
 next_grows : (occupancy : ℕ) (ops : List ℕ) (q : ℕ) → suc q < length ops →
     next_rules occupancy (take (suc (suc q)) ops) ≡ next_rules occupancy (take (suc q) ops) ++ serves_next occupancy (slice_index ops q) (slice_index ops (suc q)) ∷ []

@@ -23,7 +23,10 @@ use Rattle.dep_graph.specs.Dependences as graph
 use Rattle.dep_graph.specs.ForwardBodies.{IsEarlier, IsForwardOp, AreForwardOps, IsForwardBody, IsForwardEdge}
 use Rattle.unit_binding.specs.declared.binding.UnitOrder.{UnitOrder}
 use Rattle.unit_binding.specs.Ranks.{RiseBy, IsOrderWithin, AreForwardOrders}
-use Rattle.modulo_loop.specs.Rules.{is_store, result_of, latency_at, latency_of, serves_next, next_rules, again_rules, unit_rules, known_source, known_first, known_rules, store_rules_from, store_rules, loop_rules, test_maker}
+use Rattle.modulo_loop.specs.Rules.{latency_at, latency_of, serves_next, next_rules, again_rules, unit_rules, known_source, known_first, known_rules, store_rules_from, store_rules, loop_rules}
+use Rattle.dep_graph.specs.Meetings.{is_store}
+use Rattle.dep_graph.specs.Offsets.{result_of}
+use Rattle.dep_graph.specs.Dependences.{test_maker}
 use Rattle.modulo_loop.specs.ForwardRules.{IsForwardLoop, IsRuleWithin, AreForwardRules}
 
 no_some : {A : Type 0} {x : A} → None ≡ Some x → ⊥
@@ -48,15 +51,6 @@ source_earlier k outs (s.Result j) h = h
 pub test_earlier : (k : ℕ) (outs : List Out) (test : Option Operand) → IsEarlier k (known_first outs test) → IsEarlier k (test_maker test)
 test_earlier k outs None h = tt
 test_earlier k outs (Some x) h = source_earlier k outs x.value h
-
-result_same : (value : Source) → offsets.result_of value ≡ result_of value
-result_same (s.Constant c) = refl
-result_same (s.Variable v) = refl
-result_same (s.Result j) = refl
-
-test_same : (test : Option Operand) → graph.test_maker test ≡ test_maker test
-test_same None = refl
-test_same (Some test) = result_same test.value
 
 store_is : (kind : OpKind) → is_store kind ≡ true → kind ≡ o.Store
 store_is o.Store e = refl
@@ -195,7 +189,7 @@ rules_forward body edges orders good same leads ordered =
     All-append (Fine rank count_) edges (unit_rules orders ++ (known ++ stores)) own
     (All-append (Fine rank count_) (unit_rules orders) (known ++ stores) (units_fine rank count_ orders ordered.within ordered.leading.1.each_order)
     (All-append (Fine rank count_) known stores (known_fine rank body good.forward (known_first body.outs.items body.test) good.known)
-    (tests_fine rank body good.forward (test_maker body.test) (test_same body.test) on))) in
+    (tests_fine rank body good.forward (test_maker body.test) refl on))) in
     record {
       within = All-weaker (Fine rank count_) (IsRuleWithin (count_ + 1)) (λ e h. h.0) (loop_rules body edges orders) all;
       rank = rank;

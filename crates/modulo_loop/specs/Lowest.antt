@@ -14,7 +14,10 @@ use Rattle.unit_binding.specs.declared.binding.Binding.{Binding}
 use Rattle.diff_solve.specs.Times.{Solves, IsBelowAll}
 use Rattle.unit_binding.specs.Copies.{IsTimedBody}
 use Rattle.modulo_loop.specs.declared.pipeline.Pipelined.{Pipelined}
-use Rattle.modulo_loop.specs.Rules.{loop_rules, constraints_at, latency_of, is_store, result_of, test_maker}
+use Rattle.modulo_loop.specs.Rules.{loop_rules, constraints_at, latency_of}
+use Rattle.dep_graph.specs.Meetings.{is_store}
+use Rattle.dep_graph.specs.Offsets.{result_of}
+use Rattle.dep_graph.specs.Dependences.{test_maker}
 
 -- from the beginning of an iteration an edge leads to each node
 abbrev pub IsStart : Edge → Type 0

@@ -1,8 +1,6 @@
 -- The constraints of a loop whose iterations overlap, as edges.
 use Rattle.std.specs.Prelude.{ℕ, suc, ◌+◌, ◌*◌, Bool, true, false, List, [], ◌∷◌, ◌++◌, map, length, slice_index, slice_get, Option, None, Some, pos, ◌-ℤ◌, ◌==◌, if◌then◌else◌}
 use Rattle.ir_core.specs.declared.body.Op.{Op}
-use Rattle.ir_core.specs.declared.body.OpKind.{OpKind}
-use Rattle.ir_core.specs.declared.body.OpKind.TheVariants as o
 use Rattle.ir_core.specs.declared.body.Operand.{Operand}
 use Rattle.ir_core.specs.declared.body.Out.{Out}
 use Rattle.ir_core.specs.declared.body.Body.{Body}
@@ -10,6 +8,9 @@ use Rattle.ir_core.specs.declared.body.Source.{Source}
 use Rattle.ir_core.specs.declared.body.Source.TheVariants as s
 use Rattle.ir_core.specs.declared.stamp.Untimed.{Untimed}
 use Rattle.hls_base.specs.declared.number.OpId.{OpId}
+use Rattle.dep_graph.specs.Dependences.{test_maker}
+use Rattle.dep_graph.specs.Meetings.{is_store}
+use Rattle.dep_graph.specs.Offsets.{result_of}
 use Rattle.dep_graph.specs.declared.edge.Edge.{Edge}
 use Rattle.dep_graph.specs.declared.edge.Why.TheVariants as w
 use Rattle.unit_binding.specs.declared.binding.UnitOrder.{UnitOrder}
@@ -23,16 +24,6 @@ latency_at (Some op) = latency op.kind op.bits
 abbrev pub latency_of : List (Op Untimed) → OpId → ℕ
 latency_of ops op = latency_at (slice_get ops op.0)
 
-abbrev pub is_store : OpKind → Bool
-is_store o.Store = true
-is_store kind = false
-
--- the operation whose result an operand names
-abbrev pub result_of : Source → Option OpId
-result_of (s.Result op) = Some op
-result_of (s.Variable v) = None
-result_of (s.Constant v) = None
-
 abbrev pub result_or : Option OpId → Option OpId → Option OpId
 result_or (Some op) other = Some op
 result_or None other = other
@@ -42,11 +33,6 @@ abbrev pub maker : ℕ → List Out → Option OpId
 maker variable [] = None
 maker variable (out ∷ outs) =
     if out.variable.0 == variable then result_or (result_of out.value.value) (maker variable outs) else maker variable outs
-
--- the operation that makes the test in its own iteration
-abbrev pub test_maker : Option Operand → Option OpId
-test_maker None = None
-test_maker (Some test) = result_of test.value
 
 -- the operation whose result must be known before the next iteration begins
 abbrev pub known_source : List Out → Source → Option OpId

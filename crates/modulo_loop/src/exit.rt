@@ -3,7 +3,10 @@ ghost use Rattle.std.specs.Prelude.{◌≡◌, ◌+◌, ◌-◌, ◌<◌, ◌≤
 ghost use Rattle.std.specs.List.{All};
 ghost use Rattle.modulo_loop.specs.Lowest as spec;
 
-use crate::rules::{is_store, latency_of, result_of, test_maker};
+use crate::rules::latency_of;
+use dep_graph::access::is_store;
+use dep_graph::counter::result_of;
+use dep_graph::edges::test_maker;
 use hls_base::number::OpId;
 use ir_core::body::{Body, Op, Out};
 use ir_core::stamp::Untimed;

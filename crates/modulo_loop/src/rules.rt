@@ -1,15 +1,17 @@
 //! The constraints of a loop, as edges.
-ghost use Rattle.std.specs.Prelude.{◌↔◌, IsTrue, ◌≡◌, ◌<◌, ◌≤◌, ◌^◌, ◌++◌, IfOk, OnOk, length};
+ghost use Rattle.std.specs.Prelude.{◌≡◌, ◌<◌, ◌≤◌, ◌^◌, ◌++◌, IfOk, OnOk, length};
 ghost use Rattle.std.specs.List.{All};
 ghost use Rattle.dep_graph.specs.ForwardBodies.{IsEarlier};
 ghost use Rattle.unit_binding.specs.Ranks.{IsOrderWithin};
 ghost use Rattle.modulo_loop.specs.ForwardRules.{IsForwardLoop};
 ghost use Rattle.modulo_loop.specs.Rules as spec;
 
+use dep_graph::access::is_store;
+use dep_graph::counter::result_of;
 use dep_graph::edge::{Edge, Why};
-use dep_graph::forward::{is_earlier, is_forward};
+use dep_graph::edges::test_maker;
 use hls_base::number::OpId;
-use ir_core::body::{Body, Op, OpKind, Operand, Out, Source};
+use ir_core::body::{Body, Op, Operand, Out, Source};
 use ir_core::stamp::Untimed;
 use ir_core::timing::latency;
 use std::alloc::{AllocError, Global};
@@ -29,25 +31,6 @@ pub fn latency_of(ops: &[Op<Untimed>], op: OpId) -> u32
     }
 }
 
-pub fn is_store(kind: OpKind) -> bool
-    ensures { result ≡ spec.is_store kind }
-{
-    match kind {
-        OpKind::Store => true,
-        _ => false,
-    }
-}
-
-/// The operation whose result an operand names.
-pub fn result_of(source: Source) -> Option<OpId>
-    ensures { result ≡ spec.result_of source }
-{
-    match source {
-        Source::Result(op) => Some(op),
-        _ => None,
-    }
-}
-
 /// The operation whose result a variable takes over.
 fn maker(variable: u32, outs: &[Out]) -> Option<OpId>
     ensures { result ≡ spec.maker variable outs.now }
@@ -62,16 +45,6 @@ fn maker(variable: u32, outs: &[Out]) -> Option<OpId>
     None
 }
 
-/// The operation that makes the test in its own iteration.
-pub fn test_maker(test: Option<Operand>) -> Option<OpId>
-    ensures { result ≡ spec.test_maker test }
-{
-    match test {
-        Some(test) => result_of(test.value),
-        None => None,
-    }
-}
-
 /// The operation whose result must be known before the next iteration begins.
 fn known_first(outs: &[Out], test: Option<Operand>) -> Option<OpId>
     ensures { result ≡ spec.known_first outs.now test }
@@ -84,13 +57,6 @@ fn known_first(outs: &[Out], test: Option<Operand>) -> Option<OpId>
         Source::Variable(variable) => maker(variable.0, outs),
         Source::Result(op) => Some(op),
     }
-}
-
-/// Whether the operations of a loop come behind those that they wait for, and are few, and one of them makes what must be known before the next iteration.
-pub fn is_forward_loop(body: &Body<Untimed>) -> bool
-    ensures { IsTrue result ↔ IsForwardLoop body.now }
-{
-    is_earlier(body.ops.len(), known_first(&body.outs, body.test)) && is_forward(body)
 }
 
 /// Adds that a unit serves each of its operations after the one before.

@@ -1,5 +1,5 @@
 -- Saved values, part by part.
-use Rattle.std.proofs.Common.{◌≡◌, ℕ, Bool, true, false, List, [], ◌∷◌, ◌++◌, length, map, ap, ◌∙◌, sym, subst}
+use Rattle.std.proofs.Common.{◌≡◌, ℕ, Bool, true, false, ◌&&◌, ◌||◌, List, [], ◌∷◌, ◌++◌, length, map, ap, ◌∙◌, sym, subst, if◌then◌else◌}
 use Rattle.std.proofs.lemmas.List.{map_push, nil_from_length}
 use Rattle.std.proofs.lemmas.Bool.{false≢true}
 use Rattle.hls_base.specs.declared.place.Place.{Place}
@@ -14,9 +14,9 @@ use Rattle.pieces.specs.Kind.{kind}
 use Rattle.pieces.specs.View.{pure_of, pures_of}
 use Rattle.pieces.specs.declared.pure_expr.Pure.{Pure}
 use Rattle.piece_making.specs.Making.{State, Part, gives, then_, set_own}
-use Rattle.piece_making.specs.Saving.{saved, all_saved, saved_if, may_skip_element}
+use Rattle.piece_making.specs.Saving.{has_element, is_logical, may_skip_element, saved, all_saved, saved_if, saved_binary, saved_choice}
 use Rattle.piece_making.specs.Stocks.{Stock, state_of, IsMade, IsTooHeavy}
-use Rattle.piece_making.proofs.Parts.{nothing_made, made_behind, heavy_at_once, heavy_behind}
+use Rattle.piece_making.proofs.Parts.{nothing_made, made_behind, heavy_at_once, heavy_behind, made_behind_nothing, heavy_behind_nothing, nothing_heavy}
 
 parts_made : (whole : Bool) (t : PureTree) (parts : State → Part PureTree) (s : State) (old new : Stock) (z : PureTree)
     → whole ≡ false → IsMade old new z (parts s) → IsMade old new z (saved_if whole t parts s)
@@ -28,24 +28,15 @@ parts_heavy : (whole : Bool) (t : PureTree) (parts : State → Part PureTree) (s
 parts_heavy false t parts s old r e h = h
 parts_heavy true t parts s old r e h = absurd (false≢true (sym e))
 
-abbrev binary_parts : ℕ → Bool → Binary → PureTree → PureTree → CType → Place → State → Part PureTree
-binary_parts n calls op left right k at s0 = then_ (saved n calls left s0) (λ x s1. then_ (saved n calls right s1) (λ y s2. gives (tree.binary op x y k at) s2))
+whole_made : (whole : Bool) (t : PureTree) (parts : State → Part PureTree) (s : State) (old new : Stock) (z : PureTree)
+    → whole ≡ true → IsMade old new z (set_own (kind t) t s) → IsMade old new z (saved_if whole t parts s)
+whole_made true t parts s old new z e h = h
+whole_made false t parts s old new z e h = absurd (false≢true e)
 
-abbrev choice_parts : ℕ → Bool → PureTree → PureTree → PureTree → CType → State → Part PureTree
-choice_parts n calls test left right k s0 =
-    then_ (saved n calls test s0) (λ t s1. then_ (saved n calls left s1) (λ x s2. then_ (saved n calls right s2) (λ y s3. gives (tree.choice t x y k) s3)))
-
--- an operator that may skip an element is set as a whole
-pub set_as_a_whole : (n : ℕ) (calls : Bool) (p : PureTree) (k : CType) (s : State) → may_skip_element p ≡ true → k ≡ kind p → saved n calls p s ≡ set_own k p s
-set_as_a_whole n calls (tree.number value k0) k s e f = absurd (false≢true e)
-set_as_a_whole n calls (tree.variable name k0) k s e f = absurd (false≢true e)
-set_as_a_whole n calls (tree.element array subscripts k0 at) k s e f = absurd (false≢true e)
-set_as_a_whole n calls (tree.unary op arg k0 at) k s e f = absurd (false≢true e)
-set_as_a_whole n calls (tree.binary op left right k0 at) k s e f =
-    ap (λ (w : Bool). saved_if w (tree.binary op left right k0 at) (binary_parts n calls op left right k0 at) s) e ∙ ap (λ (z : CType). set_own z (tree.binary op left right k0 at) s) (sym f)
-set_as_a_whole n calls (tree.choice test left right k0) k s e f =
-    ap (λ (w : Bool). saved_if w (tree.choice test left right k0) (choice_parts n calls test left right k0) s) e ∙ ap (λ (z : CType). set_own z (tree.choice test left right k0) s) (sym f)
-set_as_a_whole n calls (tree.cast to arg) k s e f = absurd (false≢true e)
+whole_heavy : (whole : Bool) (t : PureTree) (parts : State → Part PureTree) (s : State) (old : Stock) (r : Refusal)
+    → whole ≡ true → IsTooHeavy old r (set_own (kind t) t s) → IsTooHeavy old r (saved_if whole t parts s)
+whole_heavy true t parts s old r e h = h
+whole_heavy false t parts s old r e h = absurd (false≢true e)
 
 -- an operator of one operand
 pub unary_made : (n : ℕ) (calls : Bool) (p x z : PureTree) (op : Unary) (arg : PureTree) (k : CType) (at : Place) (old new : Stock)
@@ -72,58 +63,151 @@ pub cast_heavy : (n : ℕ) (calls : Bool) (p : PureTree) (to : CType) (arg : Pur
 cast_heavy n calls p to arg old r e h =
     subst (λ (q : PureTree). IsTooHeavy old r (saved n calls q (state_of old))) (sym e) (heavy_at_once _ _ _ _ h)
 
-pub binary_made : (n : ℕ) (calls : Bool) (p x y z : PureTree) (op : Binary) (left right : PureTree) (k : CType) (at : Place) (old mid new : Stock)
-    → p ≡ tree.binary op left right k at → may_skip_element p ≡ false → z ≡ tree.binary op x y k at
-    → IsMade old mid x (saved n calls left (state_of old)) → IsMade mid new y (saved n calls right (state_of mid)) → IsMade old new z (saved n calls p (state_of old))
-binary_made n calls p x y z op left right k at old mid new e g f h1 h2 =
-    subst (λ (q : PureTree). IsMade old new z (saved n calls q (state_of old))) (sym e)
-    (subst (λ (q : PureTree). IsMade old new q (saved n calls (tree.binary op left right k at) (state_of old))) (sym f)
-    (parts_made _ (tree.binary op left right k at) (binary_parts n calls op left right k at) (state_of old) _ _ _ (ap may_skip_element (sym e) ∙ g) (made_behind _ _ _ _ _ _ _ h1 (made_behind _ _ _ _ _ _ _ h2 (nothing_made _ _)))))
+-- ---- operators of two operands: in one that is set as a whole the second stays as it is
 
-pub binary_heavy : (n : ℕ) (calls : Bool) (p : PureTree) (op : Binary) (left right : PureTree) (k : CType) (at : Place) (old : Stock) (r : Refusal)
-    → p ≡ tree.binary op left right k at → may_skip_element p ≡ false
-    → IsTooHeavy old r (saved n calls left (state_of old)) → IsTooHeavy old r (saved n calls p (state_of old))
-binary_heavy n calls p op left right k at old r e g h =
-    subst (λ (q : PureTree). IsTooHeavy old r (saved n calls q (state_of old))) (sym e)
-    (parts_heavy _ (tree.binary op left right k at) (binary_parts n calls op left right k at) (state_of old) _ _ (ap may_skip_element (sym e) ∙ g) (heavy_at_once _ _ _ _ h))
+module _ (n : ℕ) (calls : Bool) (op : Binary) (k : CType) (at : Place) (right : PureTree) where
+  abbrev Second : Bool → Stock → Part PureTree
+  Second b mid = if b then gives right (state_of mid) else saved n calls right (state_of mid)
 
-pub binary_heavy_second : (n : ℕ) (calls : Bool) (p x : PureTree) (op : Binary) (left right : PureTree) (k : CType) (at : Place) (old mid : Stock) (r : Refusal)
-    → p ≡ tree.binary op left right k at → may_skip_element p ≡ false
-    → IsMade old mid x (saved n calls left (state_of old)) → IsTooHeavy mid r (saved n calls right (state_of mid)) → IsTooHeavy old r (saved n calls p (state_of old))
-binary_heavy_second n calls p x op left right k at old mid r e g h1 h2 =
-    subst (λ (q : PureTree). IsTooHeavy old r (saved n calls q (state_of old))) (sym e)
-    (parts_heavy _ (tree.binary op left right k at) (binary_parts n calls op left right k at) (state_of old) _ _ (ap may_skip_element (sym e) ∙ g) (heavy_behind _ _ _ _ _ _ h1 (heavy_at_once _ _ _ _ h2)))
+  abbrev Last : Bool → PureTree → Stock → Part PureTree
+  Last b v mid = if b then set_own k v (state_of mid) else gives v (state_of mid)
 
-pub choice_made : (n : ℕ) (calls : Bool) (p t x y z : PureTree) (test left right : PureTree) (k : CType) (old mid1 mid2 new : Stock)
-    → p ≡ tree.choice test left right k → may_skip_element p ≡ false → z ≡ tree.choice t x y k
-    → IsMade old mid1 t (saved n calls test (state_of old)) → IsMade mid1 mid2 x (saved n calls left (state_of mid1)) → IsMade mid2 new y (saved n calls right (state_of mid2))
-    → IsMade old new z (saved n calls p (state_of old))
-choice_made n calls p t x y z test left right k old mid1 mid2 new e g f h1 h2 h3 =
-    subst (λ (q : PureTree). IsMade old new z (saved n calls q (state_of old))) (sym e)
-    (subst (λ (q : PureTree). IsMade old new q (saved n calls (tree.choice test left right k) (state_of old))) (sym f)
-    (parts_made _ (tree.choice test left right k) (choice_parts n calls test left right k) (state_of old) _ _ _ (ap may_skip_element (sym e) ∙ g) (made_behind _ _ _ _ _ _ _ h1 (made_behind _ _ _ _ _ _ _ h2 (made_behind _ _ _ _ _ _ _ h3 (nothing_made _ _))))))
+  abbrev Rest : PureTree → Stock → Part PureTree
+  Rest x mid = saved_binary op k at x right (saved n calls right) (state_of mid)
 
-pub choice_heavy : (n : ℕ) (calls : Bool) (p test left right : PureTree) (k : CType) (old : Stock) (r : Refusal)
-    → p ≡ tree.choice test left right k → may_skip_element p ≡ false
-    → IsTooHeavy old r (saved n calls test (state_of old)) → IsTooHeavy old r (saved n calls p (state_of old))
-choice_heavy n calls p test left right k old r e g h =
-    subst (λ (q : PureTree). IsTooHeavy old r (saved n calls q (state_of old))) (sym e)
-    (parts_heavy _ (tree.choice test left right k) (choice_parts n calls test left right k) (state_of old) _ _ (ap may_skip_element (sym e) ∙ g) (heavy_at_once _ _ _ _ h))
+  rest_made : (b : Bool) (x y v z : PureTree) (mid mid2 new : Stock) → b ≡ is_logical op && has_element right
+      → IsMade mid mid2 y (Second b mid) → v ≡ tree.binary op x y k at → IsMade mid2 new z (Last b v mid2) → IsMade mid new z (Rest x mid)
+  rest_made true x y v z mid mid2 new e h f g =
+      whole_made (is_logical op && has_element right) (tree.binary op x right k at) (λ s1. then_ (saved n calls right s1) (λ y1 s2. gives (tree.binary op x y1 k at) s2)) (state_of mid) mid new z (sym e)
+      (made_behind_nothing mid mid2 new right y z (λ y1 s1. set_own k (tree.binary op x y1 k at) s1) h (subst (λ (q : PureTree). IsMade mid2 new z (set_own k q (state_of mid2))) f g))
+  rest_made false x y v z mid mid2 new e h f g =
+      parts_made (is_logical op && has_element right) (tree.binary op x right k at) (λ s1. then_ (saved n calls right s1) (λ y1 s2. gives (tree.binary op x y1 k at) s2)) (state_of mid) mid new z (sym e)
+      (made_behind _ _ _ _ _ _ _ h (subst (λ (q : PureTree). IsMade mid2 new z (gives q (state_of mid2))) f g))
 
-pub choice_heavy_second : (n : ℕ) (calls : Bool) (p t test left right : PureTree) (k : CType) (old mid : Stock) (r : Refusal)
-    → p ≡ tree.choice test left right k → may_skip_element p ≡ false
-    → IsMade old mid t (saved n calls test (state_of old)) → IsTooHeavy mid r (saved n calls left (state_of mid)) → IsTooHeavy old r (saved n calls p (state_of old))
-choice_heavy_second n calls p t test left right k old mid r e g h1 h2 =
-    subst (λ (q : PureTree). IsTooHeavy old r (saved n calls q (state_of old))) (sym e)
-    (parts_heavy _ (tree.choice test left right k) (choice_parts n calls test left right k) (state_of old) _ _ (ap may_skip_element (sym e) ∙ g) (heavy_behind _ _ _ _ _ _ h1 (heavy_at_once _ _ _ _ h2)))
+  second_heavy : (b : Bool) (x : PureTree) (mid : Stock) (r : Refusal) → b ≡ is_logical op && has_element right → IsTooHeavy mid r (Second b mid) → IsTooHeavy mid r (Rest x mid)
+  second_heavy true x mid r e h = nothing_heavy mid r right (Rest x mid) h
+  second_heavy false x mid r e h =
+      parts_heavy (is_logical op && has_element right) (tree.binary op x right k at) (λ s1. then_ (saved n calls right s1) (λ y1 s2. gives (tree.binary op x y1 k at) s2)) (state_of mid) mid r (sym e) (heavy_at_once _ _ _ _ h)
 
-pub choice_heavy_third : (n : ℕ) (calls : Bool) (p t x test left right : PureTree) (k : CType) (old mid1 mid2 : Stock) (r : Refusal)
-    → p ≡ tree.choice test left right k → may_skip_element p ≡ false
-    → IsMade old mid1 t (saved n calls test (state_of old)) → IsMade mid1 mid2 x (saved n calls left (state_of mid1)) → IsTooHeavy mid2 r (saved n calls right (state_of mid2))
-    → IsTooHeavy old r (saved n calls p (state_of old))
-choice_heavy_third n calls p t x test left right k old mid1 mid2 r e g h1 h2 h3 =
-    subst (λ (q : PureTree). IsTooHeavy old r (saved n calls q (state_of old))) (sym e)
-    (parts_heavy _ (tree.choice test left right k) (choice_parts n calls test left right k) (state_of old) _ _ (ap may_skip_element (sym e) ∙ g) (heavy_behind _ _ _ _ _ _ h1 (heavy_behind _ _ _ _ _ _ h2 (heavy_at_once _ _ _ _ h3))))
+  last_heavy : (b : Bool) (x y v : PureTree) (mid mid2 : Stock) (r : Refusal) → b ≡ is_logical op && has_element right
+      → IsMade mid mid2 y (Second b mid) → v ≡ tree.binary op x y k at → IsTooHeavy mid2 r (Last b v mid2) → IsTooHeavy mid r (Rest x mid)
+  last_heavy true x y v mid mid2 r e h f g =
+      whole_heavy (is_logical op && has_element right) (tree.binary op x right k at) (λ s1. then_ (saved n calls right s1) (λ y1 s2. gives (tree.binary op x y1 k at) s2)) (state_of mid) mid r (sym e)
+      (heavy_behind_nothing mid mid2 r right y (λ y1 s1. set_own k (tree.binary op x y1 k at) s1) h (subst (λ (q : PureTree). IsTooHeavy mid2 r (set_own k q (state_of mid2))) f g))
+  last_heavy false x y v mid mid2 r e h f g =
+      parts_heavy (is_logical op && has_element right) (tree.binary op x right k at) (λ s1. then_ (saved n calls right s1) (λ y1 s2. gives (tree.binary op x y1 k at) s2)) (state_of mid) mid r (sym e)
+      (heavy_behind _ _ _ _ _ _ h (subst (λ (q : PureTree). IsTooHeavy mid2 r (gives q (state_of mid2))) f g))
+
+module _ (n : ℕ) (calls : Bool) (p left right : PureTree) (op : Binary) (k : CType) (at : Place) (b : Bool) (is : p ≡ tree.binary op left right k at) (skips : b ≡ may_skip_element p) where
+  skips_so : b ≡ is_logical op && has_element right
+  skips_so = skips ∙ ap may_skip_element is
+
+  pub binary_made : (x y v z : PureTree) (old mid mid2 new : Stock) → IsMade old mid x (saved n calls left (state_of old))
+      → IsMade mid mid2 y (if b then gives right (state_of mid) else saved n calls right (state_of mid)) → v ≡ tree.binary op x y k at
+      → IsMade mid2 new z (if b then set_own k v (state_of mid2) else gives v (state_of mid2)) → IsMade old new z (saved n calls p (state_of old))
+  binary_made x y v z old mid mid2 new h g f d =
+      subst (λ (q : PureTree). IsMade old new z (saved n calls q (state_of old))) (sym is)
+      (made_behind _ _ _ _ _ _ _ h (rest_made n calls op k at right b x y v z mid mid2 new skips_so g f d))
+
+  pub binary_heavy : (old : Stock) (r : Refusal) → IsTooHeavy old r (saved n calls left (state_of old)) → IsTooHeavy old r (saved n calls p (state_of old))
+  binary_heavy old r h = subst (λ (q : PureTree). IsTooHeavy old r (saved n calls q (state_of old))) (sym is) (heavy_at_once _ _ _ _ h)
+
+  pub binary_heavy_second : (x : PureTree) (old mid : Stock) (r : Refusal) → IsMade old mid x (saved n calls left (state_of old))
+      → IsTooHeavy mid r (if b then gives right (state_of mid) else saved n calls right (state_of mid)) → IsTooHeavy old r (saved n calls p (state_of old))
+  binary_heavy_second x old mid r h g =
+      subst (λ (q : PureTree). IsTooHeavy old r (saved n calls q (state_of old))) (sym is)
+      (heavy_behind _ _ _ _ _ _ h (second_heavy n calls op k at right b x mid r skips_so g))
+
+  pub binary_heavy_last : (x y v : PureTree) (old mid mid2 : Stock) (r : Refusal) → IsMade old mid x (saved n calls left (state_of old))
+      → IsMade mid mid2 y (if b then gives right (state_of mid) else saved n calls right (state_of mid)) → v ≡ tree.binary op x y k at
+      → IsTooHeavy mid2 r (if b then set_own k v (state_of mid2) else gives v (state_of mid2)) → IsTooHeavy old r (saved n calls p (state_of old))
+  binary_heavy_last x y v old mid mid2 r h g f d =
+      subst (λ (q : PureTree). IsTooHeavy old r (saved n calls q (state_of old))) (sym is)
+      (heavy_behind _ _ _ _ _ _ h (last_heavy n calls op k at right b x y v mid mid2 r skips_so g f d))
+
+-- ---- a `?:`
+
+module _ (n : ℕ) (calls : Bool) (k : CType) (left right : PureTree) where
+  abbrev First : Bool → Stock → Part PureTree
+  First b mid = if b then gives left (state_of mid) else saved n calls left (state_of mid)
+
+  abbrev Other : Bool → Stock → Part PureTree
+  Other b mid = if b then gives right (state_of mid) else saved n calls right (state_of mid)
+
+  abbrev Set : Bool → PureTree → Stock → Part PureTree
+  Set b v mid = if b then set_own k v (state_of mid) else gives v (state_of mid)
+
+  abbrev Chosen : PureTree → Stock → Part PureTree
+  Chosen t mid = saved_choice k t left right (saved n calls left) (saved n calls right) (state_of mid)
+
+  chosen_made : (b : Bool) (t x y v z : PureTree) (mid mid2 mid3 new : Stock) → b ≡ has_element left || has_element right
+      → IsMade mid mid2 x (First b mid) → IsMade mid2 mid3 y (Other b mid2) → v ≡ tree.choice t x y k → IsMade mid3 new z (Set b v mid3) → IsMade mid new z (Chosen t mid)
+  chosen_made true t x y v z mid mid2 mid3 new e h g f d =
+      whole_made (has_element left || has_element right) (tree.choice t left right k) (λ s1. then_ (saved n calls left s1) (λ x1 s2. then_ (saved n calls right s2) (λ y1 s3. gives (tree.choice t x1 y1 k) s3))) (state_of mid) mid new z (sym e)
+      (made_behind_nothing mid mid2 new left x z (λ x1 s1. set_own k (tree.choice t x1 right k) s1) h
+      (made_behind_nothing mid2 mid3 new right y z (λ y1 s1. set_own k (tree.choice t x y1 k) s1) g (subst (λ (q : PureTree). IsMade mid3 new z (set_own k q (state_of mid3))) f d)))
+  chosen_made false t x y v z mid mid2 mid3 new e h g f d =
+      parts_made (has_element left || has_element right) (tree.choice t left right k) (λ s1. then_ (saved n calls left s1) (λ x1 s2. then_ (saved n calls right s2) (λ y1 s3. gives (tree.choice t x1 y1 k) s3))) (state_of mid) mid new z (sym e)
+      (made_behind _ _ _ _ _ _ _ h (made_behind _ _ _ _ _ _ _ g (subst (λ (q : PureTree). IsMade mid3 new z (gives q (state_of mid3))) f d)))
+
+  branch_heavy : (b : Bool) (t : PureTree) (mid : Stock) (r : Refusal) → b ≡ has_element left || has_element right → IsTooHeavy mid r (First b mid) → IsTooHeavy mid r (Chosen t mid)
+  branch_heavy true t mid r e h = nothing_heavy mid r left (Chosen t mid) h
+  branch_heavy false t mid r e h =
+      parts_heavy (has_element left || has_element right) (tree.choice t left right k) (λ s1. then_ (saved n calls left s1) (λ x1 s2. then_ (saved n calls right s2) (λ y1 s3. gives (tree.choice t x1 y1 k) s3))) (state_of mid) mid r (sym e) (heavy_at_once _ _ _ _ h)
+
+  other_heavy : (b : Bool) (t x : PureTree) (mid mid2 : Stock) (r : Refusal) → b ≡ has_element left || has_element right
+      → IsMade mid mid2 x (First b mid) → IsTooHeavy mid2 r (Other b mid2) → IsTooHeavy mid r (Chosen t mid)
+  other_heavy true t x mid mid2 r e h g =
+      whole_heavy (has_element left || has_element right) (tree.choice t left right k) (λ s1. then_ (saved n calls left s1) (λ x1 s2. then_ (saved n calls right s2) (λ y1 s3. gives (tree.choice t x1 y1 k) s3))) (state_of mid) mid r (sym e)
+      (heavy_behind_nothing mid mid2 r left x (λ x1 s1. set_own k (tree.choice t x1 right k) s1) h (nothing_heavy mid2 r right (set_own k (tree.choice t x right k) (state_of mid2)) g))
+  other_heavy false t x mid mid2 r e h g =
+      parts_heavy (has_element left || has_element right) (tree.choice t left right k) (λ s1. then_ (saved n calls left s1) (λ x1 s2. then_ (saved n calls right s2) (λ y1 s3. gives (tree.choice t x1 y1 k) s3))) (state_of mid) mid r (sym e) (heavy_behind _ _ _ _ _ _ h (heavy_at_once _ _ _ _ g))
+
+  set_heavy : (b : Bool) (t x y v : PureTree) (mid mid2 mid3 : Stock) (r : Refusal) → b ≡ has_element left || has_element right
+      → IsMade mid mid2 x (First b mid) → IsMade mid2 mid3 y (Other b mid2) → v ≡ tree.choice t x y k → IsTooHeavy mid3 r (Set b v mid3) → IsTooHeavy mid r (Chosen t mid)
+  set_heavy true t x y v mid mid2 mid3 r e h g f d =
+      whole_heavy (has_element left || has_element right) (tree.choice t left right k) (λ s1. then_ (saved n calls left s1) (λ x1 s2. then_ (saved n calls right s2) (λ y1 s3. gives (tree.choice t x1 y1 k) s3))) (state_of mid) mid r (sym e)
+      (heavy_behind_nothing mid mid2 r left x (λ x1 s1. set_own k (tree.choice t x1 right k) s1) h
+      (heavy_behind_nothing mid2 mid3 r right y (λ y1 s1. set_own k (tree.choice t x y1 k) s1) g (subst (λ (q : PureTree). IsTooHeavy mid3 r (set_own k q (state_of mid3))) f d)))
+  set_heavy false t x y v mid mid2 mid3 r e h g f d =
+      parts_heavy (has_element left || has_element right) (tree.choice t left right k) (λ s1. then_ (saved n calls left s1) (λ x1 s2. then_ (saved n calls right s2) (λ y1 s3. gives (tree.choice t x1 y1 k) s3))) (state_of mid) mid r (sym e)
+      (heavy_behind _ _ _ _ _ _ h (heavy_behind _ _ _ _ _ _ g (subst (λ (q : PureTree). IsTooHeavy mid3 r (gives q (state_of mid3))) f d)))
+
+module _ (n : ℕ) (calls : Bool) (p test left right : PureTree) (k : CType) (b : Bool) (is : p ≡ tree.choice test left right k) (skips : b ≡ may_skip_element p) where
+  skips_them : b ≡ has_element left || has_element right
+  skips_them = skips ∙ ap may_skip_element is
+
+  pub choice_made : (t x y v z : PureTree) (old mid mid2 mid3 new : Stock) → IsMade old mid t (saved n calls test (state_of old))
+      → IsMade mid mid2 x (if b then gives left (state_of mid) else saved n calls left (state_of mid))
+      → IsMade mid2 mid3 y (if b then gives right (state_of mid2) else saved n calls right (state_of mid2)) → v ≡ tree.choice t x y k
+      → IsMade mid3 new z (if b then set_own k v (state_of mid3) else gives v (state_of mid3)) → IsMade old new z (saved n calls p (state_of old))
+  choice_made t x y v z old mid mid2 mid3 new h0 h g f d =
+      subst (λ (q : PureTree). IsMade old new z (saved n calls q (state_of old))) (sym is)
+      (made_behind _ _ _ _ _ _ _ h0 (chosen_made n calls k left right b t x y v z mid mid2 mid3 new skips_them h g f d))
+
+  pub choice_heavy : (old : Stock) (r : Refusal) → IsTooHeavy old r (saved n calls test (state_of old)) → IsTooHeavy old r (saved n calls p (state_of old))
+  choice_heavy old r h = subst (λ (q : PureTree). IsTooHeavy old r (saved n calls q (state_of old))) (sym is) (heavy_at_once _ _ _ _ h)
+
+  pub choice_heavy_second : (t : PureTree) (old mid : Stock) (r : Refusal) → IsMade old mid t (saved n calls test (state_of old))
+      → IsTooHeavy mid r (if b then gives left (state_of mid) else saved n calls left (state_of mid)) → IsTooHeavy old r (saved n calls p (state_of old))
+  choice_heavy_second t old mid r h0 h =
+      subst (λ (q : PureTree). IsTooHeavy old r (saved n calls q (state_of old))) (sym is)
+      (heavy_behind _ _ _ _ _ _ h0 (branch_heavy n calls k left right b t mid r skips_them h))
+
+  pub choice_heavy_third : (t x : PureTree) (old mid mid2 : Stock) (r : Refusal) → IsMade old mid t (saved n calls test (state_of old))
+      → IsMade mid mid2 x (if b then gives left (state_of mid) else saved n calls left (state_of mid))
+      → IsTooHeavy mid2 r (if b then gives right (state_of mid2) else saved n calls right (state_of mid2)) → IsTooHeavy old r (saved n calls p (state_of old))
+  choice_heavy_third t x old mid mid2 r h0 h g =
+      subst (λ (q : PureTree). IsTooHeavy old r (saved n calls q (state_of old))) (sym is)
+      (heavy_behind _ _ _ _ _ _ h0 (other_heavy n calls k left right b t x mid mid2 r skips_them h g))
+
+  pub choice_heavy_last : (t x y v : PureTree) (old mid mid2 mid3 : Stock) (r : Refusal) → IsMade old mid t (saved n calls test (state_of old))
+      → IsMade mid mid2 x (if b then gives left (state_of mid) else saved n calls left (state_of mid))
+      → IsMade mid2 mid3 y (if b then gives right (state_of mid2) else saved n calls right (state_of mid2)) → v ≡ tree.choice t x y k
+      → IsTooHeavy mid3 r (if b then set_own k v (state_of mid3) else gives v (state_of mid3)) → IsTooHeavy old r (saved n calls p (state_of old))
+  choice_heavy_last t x y v old mid mid2 mid3 r h0 h g f d =
+      subst (λ (q : PureTree). IsTooHeavy old r (saved n calls q (state_of old))) (sym is)
+      (heavy_behind _ _ _ _ _ _ h0 (set_heavy n calls k left right b t x y v mid mid2 mid3 r skips_them h g f d))
 
 pub element_made : (n : ℕ) (calls : Bool) (p z : PureTree) (xs : List PureTree) (array : ArrayId) (subscripts : PureTrees) (k : CType) (at : Place) (value : PureTree) (old mid new : Stock)
     → p ≡ tree.element array subscripts k at → value ≡ tree.element array (row xs) k at

@@ -1,8 +1,9 @@
 //! Values that are read before something changes them.
-ghost use Rattle.std.specs.Prelude.{◌≡◌, [], map, false, IfOk};
+ghost use Rattle.std.specs.Prelude.{◌≡◌, [], map, IfOk, if◌then◌else◌};
 ghost use Rattle.hls_base.specs.Refusals.{IfRefused};
 ghost use Rattle.pieces.specs.Trees as tree;
 ghost use Rattle.pieces.specs.View.{pure_of, pures_of};
+ghost use Rattle.piece_making.specs.Making.{gives, set_own};
 ghost use Rattle.piece_making.specs.Saving.{has_element, may_skip_element, saved, all_saved, save};
 ghost use Rattle.piece_making.specs.Stocks.{IsMade, IsTooHeavy, state_of, stock};
 
@@ -15,7 +16,6 @@ use c_tree::operator::Binary;
 use hls_base::number::VarId;
 use hls_base::refusal::Fail;
 use pieces::pure_expr::Pure;
-use pieces::pure_kind::kind_of;
 use std::alloc::Global;
 
 /// Where values are saved: before calls, or before changes alone. The first `file_variables` variables are those of file scope.
@@ -26,7 +26,7 @@ pub struct Saver {
     pub calls: bool,
 }
 
-/// An operand behind which the evaluation has these effects: its elements, from left to right, are set into variables of their own. So is the outermost `&&`, `||` or `?:` that reads an element in an operand that may not be reached, and a scalar of file scope before a call.
+/// An operand behind which the evaluation has these effects. Its elements, from left to right, are set into variables of their own, and so are scalars of file scope before a call. A `&&`, `||` or `?:` that reads an element in an operand that may not be reached is set as a whole, behind its first operand.
 pub fn save(context: &Context, work: &mut Work, operand: Pure, later: Effects) -> Result<Pure, Fail>
     ensures made { IfOk result (λ p. IsMade (stock work.old) (stock work.new) (pure_of p) (save context.now.file_variables (pure_of operand) later (state_of (stock work.old)))) }
     ensures refused { IfRefused result (λ r. IsTooHeavy (stock work.old) r (save context.now.file_variables (pure_of operand) later (state_of (stock work.old)))) }
@@ -49,21 +49,7 @@ fn saved(saver: Saver, work: &mut Work, pure: Pure) -> Result<Pure, Fail>
     ensures made { IfOk result (λ p. IsMade (stock work.old) (stock work.new) (pure_of p) (saved saver.file_variables saver.calls (pure_of pure) (state_of (stock work.old)))) }
     ensures refused { IfRefused result (λ r. IsTooHeavy (stock work.old) r (saved saver.file_variables saver.calls (pure_of pure) (state_of (stock work.old)))) }
 {
-    if may_skip_element(&pure) {
-        let kind = kind_of(&pure);
-        work.set_own(kind, pure)
-    } else {
-        saved_parts(saver, work, pure)
-    }
-}
-
-/// The same of an expression that is not set as a whole.
-#[cycle(saving)]
-fn saved_parts(saver: Saver, work: &mut Work, pure: Pure) -> Result<Pure, Fail>
-    requires { may_skip_element (pure_of pure) ≡ false }
-    ensures made { IfOk result (λ p. IsMade (stock work.old) (stock work.new) (pure_of p) (saved saver.file_variables saver.calls (pure_of pure) (state_of (stock work.old)))) }
-    ensures refused { IfRefused result (λ r. IsTooHeavy (stock work.old) r (saved saver.file_variables saver.calls (pure_of pure) (state_of (stock work.old)))) }
-{
+    let whole = may_skip_element(&pure);
     match pure {
         Pure::Number { value, kind } => Ok(Pure::Number { value, kind }),
         Pure::Variable(own, kind) => saved_variable(saver, work, own, kind),
@@ -89,8 +75,9 @@ fn saved_parts(saver: Saver, work: &mut Work, pure: Pure) -> Result<Pure, Fail>
             at,
         } => {
             let left = saved_operand(saver, work, left)?;
-            let right = saved_operand(saver, work, right)?;
-            Ok(binary(saver.alloc, Operator { op, kind, at }, left, right)?)
+            let right = saved_unless(saver, work, whole, right)?;
+            let value = binary(saver.alloc, Operator { op, kind, at }, left, right)?;
+            set_if(work, whole, kind, value)
         }
         Pure::Choice {
             test,
@@ -99,14 +86,46 @@ fn saved_parts(saver: Saver, work: &mut Work, pure: Pure) -> Result<Pure, Fail>
             kind,
         } => {
             let test = saved_operand(saver, work, test)?;
-            let yes = saved_operand(saver, work, yes)?;
-            let no = saved_operand(saver, work, no)?;
-            Ok(choice(saver.alloc, kind, test, yes, no)?)
+            let yes = saved_unless(saver, work, whole, yes)?;
+            let no = saved_unless(saver, work, whole, no)?;
+            let value = choice(saver.alloc, kind, test, yes, no)?;
+            set_if(work, whole, kind, value)
         }
         Pure::Cast { to, arg } => {
             let arg = saved_operand(saver, work, arg)?;
             Ok(cast(saver.alloc, to, arg)?)
         }
+    }
+}
+
+/// An operand that may not be reached. It stays as it is in an operator that is set as a whole.
+#[cycle(saving)]
+fn saved_unless(
+    saver: Saver,
+    work: &mut Work,
+    stays: bool,
+    operand: Box<Pure>,
+) -> Result<Pure, Fail>
+    ensures made { IfOk result (λ p. IsMade (stock work.old) (stock work.new) (pure_of p) (if stays then gives (pure_of operand.value) (state_of (stock work.old)) else saved saver.file_variables saver.calls (pure_of operand.value) (state_of (stock work.old)))) }
+    ensures refused { IfRefused result (λ r. IsTooHeavy (stock work.old) r (if stays then gives (pure_of operand.value) (state_of (stock work.old)) else saved saver.file_variables saver.calls (pure_of operand.value) (state_of (stock work.old)))) }
+{
+    let operand = Box::into_inner(operand);
+    if stays {
+        Ok(operand)
+    } else {
+        saved(saver, work, operand)
+    }
+}
+
+/// An operator that is set as a whole, or one that stays in the expression.
+fn set_if(work: &mut Work, whole: bool, kind: CType, value: Pure) -> Result<Pure, Fail>
+    ensures made { IfOk result (λ p. IsMade (stock work.old) (stock work.new) (pure_of p) (if whole then set_own kind (pure_of value) (state_of (stock work.old)) else gives (pure_of value) (state_of (stock work.old)))) }
+    ensures refused { IfRefused result (λ r. IsTooHeavy (stock work.old) r (if whole then set_own kind (pure_of value) (state_of (stock work.old)) else gives (pure_of value) (state_of (stock work.old)))) }
+{
+    if whole {
+        work.set_own(kind, value)
+    } else {
+        Ok(value)
     }
 }
 

@@ -51,10 +51,10 @@ IsConvertible (tree.leave call) = ⊥
 IsConvertible (tree.land call end) = ⊥
 IsConvertible (tree.mark point) = ⊥
 
--- a loop of `for` or `while` that may be overlapped
+-- a loop of `for` or `while` that may be overlapped: nothing but marks stands before its test; test, body and step weigh at most 256 and are straight
 abbrev pub IsEligible : PieceTree → Type 0
 IsEligible (tree.repeat_ id true before test body step end) = ⊥
-IsEligible (tree.repeat_ id false before test body step end) = IsTrue (are_marks before) × (piece_weights before + weight test + piece_weights body + piece_weights step ≤ 256) × AreStraight body × AreStraight step
+IsEligible (tree.repeat_ id false before test body step end) = IsTrue (are_marks before) × (weight test + piece_weights body + piece_weights step ≤ 256) × AreStraight body × AreStraight step
 IsEligible (tree.set name value) = ⊥
 IsEligible (tree.put array subscripts value at) = ⊥
 IsEligible (tree.fork test left right end) = ⊥

@@ -5,7 +5,7 @@ ghost use Rattle.pieces.specs.Weight.{piece_weight, piece_weights};
 ghost use Rattle.pieces.specs.Shape.{IsStraight, AreStraight, is_mark, are_marks, IsConvertible, IsEligible};
 
 use crate::piece::Piece;
-use crate::weight::{rest_after_mark, rest_after_pieces, rest_after_pure, rest_after_pures};
+use crate::weight::{rest_after_mark, rest_after_pure, rest_after_pures};
 
 /// The greatest weight of a fork that may be converted.
 pub const GREATEST_FORK: u32 = 64;
@@ -23,7 +23,7 @@ pub fn is_convertible(fork: &Piece) -> bool
     }
 }
 
-/// Whether a piece is a loop of `for` or `while` that has only marks before its test, weighs at most 256 without the loop itself, and holds only `Set`, `Put`, marks and convertible forks.
+/// Whether a piece is a loop of `for` or `while` that has only marks before its test, whose test, body and step weigh at most 256 together, and hold only `Set`, `Put`, marks and convertible forks.
 pub fn is_eligible(repeat: &Piece) -> bool
     ensures { IsTrue result ↔ IsEligible (piece_of repeat.now) }
 {
@@ -38,8 +38,7 @@ pub fn is_eligible(repeat: &Piece) -> bool
         } => {
             !*post
                 && has_only_marks(before)
-                && rest_after_pieces(before, GREATEST_LOOP)
-                    .and_then(|room| rest_after_pure(test, room))
+                && rest_after_pure(test, GREATEST_LOOP)
                     .and_then(|room| rest_after_branch(body, room))
                     .and_then(|room| rest_after_branch(step, room))
                     .is_some()

@@ -11,5 +11,4 @@ pub(crate) mod pool;
 mod reads;
 pub mod registers;
 pub mod share;
-pub mod small_times;
 pub mod var_set;

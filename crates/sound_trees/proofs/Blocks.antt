@@ -22,12 +22,12 @@ use Rattle.passes.specs.Lowering.Shapes.{first_point}
 use Rattle.passes.specs.Lowering.Expressions.{emitted, emitted_all}
 use Rattle.passes.specs.Lowering.Blocks as lower
 use Rattle.passes.specs.Lowering.Blocks.{Scope, variable_type, element_type, begun, is_live, with_exit, with_ops, value_as, set, put, condition, ends_by_test, all_set, set_before, forking, ends_by_fork, Cases, case_or, cases, ends_by_cases}
-use Rattle.convert_runs.specs.Typed.{BlockIsTyped}
-use Rattle.convert_runs.specs.Blocks.{Once}
-use Rattle.convert_runs.specs.LoweredConversions.Suiting.{widths_of, words_of, PureSuits, PieceSuits, PiecesSuit}
-use Rattle.convert_runs.proofs.LoweredConversions.Adding.{grows_on, outs_on, tested_fine}
-use Rattle.convert_runs.proofs.LoweredConversions.Expressions.{emitted_fine, emitted_all_fine}
-use Rattle.convert_runs.proofs.LoweredConversions.Blocks.{exit_on, set_typed, put_typed, test_typed, fork_typed, cases_typed}
+use Rattle.pass_runs.specs.ConvertRuns.Typed.{BlockIsTyped}
+use Rattle.pass_runs.specs.ConvertRuns.Blocks.{Once}
+use Rattle.pass_runs.specs.ConvertRuns.LoweredConversions.Suiting.{widths_of, words_of, PureSuits, PieceSuits, PiecesSuit}
+use Rattle.pass_runs.proofs.ConvertRuns.LoweredConversions.Adding.{grows_on, outs_on, tested_fine}
+use Rattle.pass_runs.proofs.ConvertRuns.LoweredConversions.Expressions.{emitted_fine, emitted_all_fine}
+use Rattle.pass_runs.proofs.ConvertRuns.LoweredConversions.Blocks.{exit_on, set_typed, put_typed, test_typed, fork_typed, cases_typed}
 use Rattle.sound_trees.specs.Ready.{IsNear, AreNear, OutsAreNear, ExitIsNear, BlockIsReady}
 use Rattle.sound_trees.specs.Subscripts.{count, SubscriptsFit, PieceSubscriptsFit, PiecesSubscriptsFit}
 use Rattle.sound_trees.proofs.Adding.{Ready, Gives, added_gives, tested_gives, assigned_gives, balanced_gives}

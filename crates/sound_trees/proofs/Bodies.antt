@@ -10,8 +10,8 @@ use Rattle.passes.specs.Conversion.Joining.{Guard, renamed_out, joined_ops}
 use Rattle.passes.specs.Conversion.Merging.{Branches, branches_of, opened, branched, is_taken, choices, merged, joined, is_only, is_only_side, first_block, first_of}
 use Rattle.passes.specs.Conversion.{Scope, going_on, part_before, behind, converted_sequence, converted_behind, converted_shape, converted_side}
 use Rattle.passes.specs.Lowering.Copies.{fixed_behind, fixed_behind_shape, outs_set, parts_set, sequence_sets, shape_sets, side_sets}
-use Rattle.convert_runs.proofs.Finding.{fork_found}
-use Rattle.convert_runs.proofs.MergedBlocks.Selections.{names, chosen_set}
+use Rattle.pass_runs.proofs.ConvertRuns.Finding.{fork_found}
+use Rattle.pass_runs.proofs.ConvertRuns.MergedBlocks.Selections.{names, chosen_set}
 use Rattle.sound_trees.specs.Trees.{SequenceHas, PartsHave}
 use Rattle.sound_trees.specs.Ready.{BlockIsReady}
 use Rattle.sound_trees.specs.Loops.{PartsOwn, BodyOwns, AreComputed}

@@ -6,7 +6,7 @@ use Rattle.ir_core.specs.Trees.{branch, BlockTree, BodyTree, SequenceTree, seque
 use Rattle.passes.specs.Conversion.Merging.{Branches, branches_of, opened, merged, joined, is_only_side, first_block, first_of}
 use Rattle.passes.specs.Conversion.Overlapping.{iteration, loop_by, chosen_test, overlapped_test}
 use Rattle.passes.specs.Conversion.{Scope, going_on, part_before, behind, converted_sequence, converted_behind, converted_parts, converted_shape, converted_side, converted_arms}
-use Rattle.convert_runs.proofs.Finding.{fork_found, no_fork_found, loop_is_no_fork, only_alone, IsOverlapped, overlapped_found}
+use Rattle.pass_runs.proofs.ConvertRuns.Finding.{fork_found, no_fork_found, loop_is_no_fork, only_alone, IsOverlapped, overlapped_found}
 use Rattle.sound_trees.specs.Trees.{SequenceHas, PartsHave, ShapeHas, SideHas, ArmsHave}
 use Rattle.sound_trees.specs.Ready.{BlockIsReady}
 use Rattle.sound_trees.proofs.Merged.{opened_ready, joined_ready, BranchIsReady, merged_ready}

@@ -15,10 +15,10 @@ use Rattle.passes.specs.Conversion.Joining.{renamed, renamed_out, next_result, p
 use Rattle.passes.specs.Conversion.Merging.{Choice, opened, selected_bits, with_selection, with_selections}
 use Rattle.passes.specs.Lowering.Outs as lower
 use Rattle.passes.specs.Lowering.Copies.{is_fixed, is_fixed_source, fixed_in, outs_set}
-use Rattle.convert_runs.specs.Blocks.{Once}
-use Rattle.convert_runs.specs.Typed.{IsEarly}
-use Rattle.convert_runs.proofs.Opening.{same_number, turned_number, left_false, right_false}
-use Rattle.convert_runs.proofs.MergedBlocks.Selections.{names}
+use Rattle.pass_runs.specs.ConvertRuns.Blocks.{Once}
+use Rattle.pass_runs.specs.ConvertRuns.Typed.{IsEarly}
+use Rattle.pass_runs.proofs.ConvertRuns.Opening.{same_number, turned_number, left_false, right_false}
+use Rattle.pass_runs.proofs.ConvertRuns.MergedBlocks.Selections.{names}
 use Rattle.sound_trees.specs.Ready.{BlockIsReady}
 use Rattle.sound_trees.specs.Loops.{OutsAreOwn}
 use Rattle.sound_trees.proofs.Names.{set_same}

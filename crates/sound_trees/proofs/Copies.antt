@@ -11,10 +11,10 @@ use Rattle.ir_core.specs.Trees.{BlockTree, BodyTree, SequenceTree, sequence, Par
 use Rattle.passes.specs.Lowering.Operations.{added, plain}
 use Rattle.passes.specs.Lowering.Blocks.{Scope, type_of, variable_type}
 use Rattle.passes.specs.Lowering.Copies.{Fixed, Copied, needs_copy, own_operand, with_own, copied_out, copied_outs, copied_block, copied_parts, copied, fixed_in, fixed_behind, fixed_behind_shape, parts_set}
-use Rattle.convert_runs.specs.Typed.{HasBits, OutIsTyped, OpsAreTyped, OutsAreTyped}
-use Rattle.convert_runs.specs.LoweredConversions.Suiting.{widths_of, words_of}
-use Rattle.convert_runs.proofs.LoweredConversions.Adding.{Grows, stays, grows_on, has_on, outs_on, Fine, added_fine, nothing_fine, one_early}
-use Rattle.convert_runs.proofs.LoweredConversions.Blocks.{exit_on, append_typed}
+use Rattle.pass_runs.specs.ConvertRuns.Typed.{HasBits, OutIsTyped, OpsAreTyped, OutsAreTyped}
+use Rattle.pass_runs.specs.ConvertRuns.LoweredConversions.Suiting.{widths_of, words_of}
+use Rattle.pass_runs.proofs.ConvertRuns.LoweredConversions.Adding.{Grows, stays, grows_on, has_on, outs_on, Fine, added_fine, nothing_fine, one_early}
+use Rattle.pass_runs.proofs.ConvertRuns.LoweredConversions.Blocks.{exit_on, append_typed}
 use Rattle.sound_trees.specs.Trees.{SequenceHas, PartsHave}
 use Rattle.sound_trees.specs.Ready.{IsNear, OutsAreNear}
 use Rattle.sound_trees.proofs.Adding.{Ready, Gives, added_gives}

@@ -25,10 +25,10 @@ use Rattle.passes.specs.Lowering.Guards.{Guard, guarded, outside, only_where}
 use Rattle.passes.specs.Lowering.Outs.{held}
 use Rattle.passes.specs.Lowering.Blocks.{Scope}
 use Rattle.passes.specs.Lowering.Expressions.{Evaluated, Next, Subscripts, with_value, with_truth, under_guard, is_total, computed, operated, junction, joined, binary, unary, choice, cast_to, subscript, emitted, emitted_all, left_type, right_type}
-use Rattle.convert_runs.specs.Typed.{HasBits, OpsAreTyped, OutsAreTyped}
-use Rattle.convert_runs.specs.LoweredConversions.Suiting.{widths_of, words_of, PureSuits, EachSuits}
-use Rattle.convert_runs.proofs.LoweredConversions.Adding.{Grows, grows_on, has_on, outs_on, tested_fine, valued_fine, balanced_fine, GuardsTyped, guards_on, outside_typed, guarded_fine}
-use Rattle.convert_runs.proofs.LoweredConversions.Expressions.{EvalFine, NextFine, emitted_fine, emitted_all_fine}
+use Rattle.pass_runs.specs.ConvertRuns.Typed.{HasBits, OpsAreTyped, OutsAreTyped}
+use Rattle.pass_runs.specs.ConvertRuns.LoweredConversions.Suiting.{widths_of, words_of, PureSuits, EachSuits}
+use Rattle.pass_runs.proofs.ConvertRuns.LoweredConversions.Adding.{Grows, grows_on, has_on, outs_on, tested_fine, valued_fine, balanced_fine, GuardsTyped, guards_on, outside_typed, guarded_fine}
+use Rattle.pass_runs.proofs.ConvertRuns.LoweredConversions.Expressions.{EvalFine, NextFine, emitted_fine, emitted_all_fine}
 use Rattle.clock_runs.specs.Premises.{IsSoundAccess}
 use Rattle.sound_trees.specs.Ready.{IsNear, AreNear, IsNearIf, OutsAreNear, HasFew, IsChecked, OpIsReady}
 use Rattle.sound_trees.specs.Subscripts.{count, HasDimensions, SubscriptsFit, AllSubscriptsFit}

@@ -19,8 +19,8 @@ use Rattle.passes.specs.Conversion.Merging.{joined}
 use Rattle.passes.specs.Lowering.Outs as lower
 use Rattle.passes.specs.Lowering.Copies.{Fixed, is_computed, is_fixed, is_fixed_source, all_fixed, fixed_in, outs_set, with_ops}
 use Rattle.passes.specs.Lowering.Copies as copies
-use Rattle.convert_runs.specs.Typed.{IsEarly}
-use Rattle.convert_runs.proofs.Lists.{there, within, last_or}
+use Rattle.pass_runs.specs.ConvertRuns.Typed.{IsEarly}
+use Rattle.pass_runs.proofs.ConvertRuns.Lists.{there, within, last_or}
 use Rattle.sound_trees.specs.Ready.{HasFew, BlockIsReady, OpsAreReady}
 use Rattle.sound_trees.specs.Loops.{OutsAreOwn, AreComputed}
 use Rattle.sound_trees.proofs.Names.{set_same}

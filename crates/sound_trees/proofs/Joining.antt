@@ -15,8 +15,8 @@ use Rattle.passes.specs.Numbering as n
 use Rattle.passes.specs.Numbering.{Value, constant, operand_or}
 use Rattle.passes.specs.Conversion.Outs.{out, entry_value, held_or, with_out, with_outs}
 use Rattle.passes.specs.Conversion.Joining.{Guard, Joined, standing_for, renamed, renamed_op, renamed_out, renamed_exit, next_result, plain, bit_for, or_constant, bit_in, with_guard, with_taken, with_both, with_bit, needs_guard, with_op, guarded, staying, converted, first_word, by_word, joined_op, joined_ops}
-use Rattle.convert_runs.specs.Typed.{HasBits, OpIsTyped, OpsAreTyped}
-use Rattle.convert_runs.proofs.Joining.{TestHas, IsSound, renamed_has, guard_renamed, bit_sound, bit_grows, joined_sound}
+use Rattle.pass_runs.specs.ConvertRuns.Typed.{HasBits, OpIsTyped, OpsAreTyped}
+use Rattle.pass_runs.proofs.ConvertRuns.Joining.{TestHas, IsSound, renamed_has, guard_renamed, bit_sound, bit_grows, joined_sound}
 use Rattle.sound_trees.specs.Ready.{IsNear, AreNear, IsNearIf, OutsAreNear, ExitIsNear, OpIsReady, OpsAreReady}
 use Rattle.sound_trees.proofs.Adding.{ready_more}
 use Rattle.sound_trees.proofs.Renamed.{ready_as}

@@ -17,8 +17,8 @@ use Rattle.ir_core.specs.Trees.{ExitTree, next, branch, choose, break_, continue
 use Rattle.ir_layout.specs.Nodes.{EndTree, jumps, branches, chooses, returns, NodeTree, plain, looped, case_of, end_of, node_of}
 use Rattle.ir_layout.specs.Sizes.{sequence_size, side_size, parts_size, arms_size}
 use Rattle.ir_layout.specs.Layout.{Ahead, finish, onto, tested, by_case, Around, held_behind, unset, left_in, straight, end_for, laid_block, ahead_of_parts, behind_shape, before_parts, in_loop, in_switch, body_start, step_start, laid, laid_parts, laid_shape, laid_side, laid_arms}
-use Rattle.convert_runs.specs.Typed.{AreEarly, OutsAreTyped, ExitIsTyped}
-use Rattle.convert_runs.proofs.Joining.{has_early}
+use Rattle.pass_runs.specs.ConvertRuns.Typed.{AreEarly, OutsAreTyped, ExitIsTyped}
+use Rattle.pass_runs.proofs.ConvertRuns.Joining.{has_early}
 use Rattle.clock_runs.specs.Premises.{Each, IsOperand, IsOperandIf, AreSoundOps, IsSoundEnd, IsSoundNode}
 use Rattle.sound_trees.specs.Trees.{SequenceHas, PartsHave, ShapeHas, SideHas, ArmsHave}
 use Rattle.sound_trees.specs.Ready.{AreNear, OutsAreNear, ExitIsNear, BlockIsReady}

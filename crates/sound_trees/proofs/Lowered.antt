@@ -11,9 +11,9 @@ use Rattle.ir_core.specs.Trees.{break_, continue_, leave, BlockTree, BodyTree, S
 use Rattle.passes.specs.Lowering.Shapes.{is_eligible, are_straight, first_point, or_at, point_of}
 use Rattle.passes.specs.Lowering.Blocks.{Scope, begun, is_live, with_exit, set, put, ends_by_test}
 use Rattle.passes.specs.Lowering.{Rest, last, followed, parts_of, land_of, side_from, with_copies, own_step, stepped, is_named, lowered, lowered_piece, before_arm, arms}
-use Rattle.convert_runs.specs.LoweredConversions.Suiting.{words_of, PureSuits, PieceSuits, PiecesSuit}
-use Rattle.convert_runs.proofs.LoweredConversions.Blocks.{exit_typed}
-use Rattle.convert_runs.specs.LoweredConversions.Suiting as typing
+use Rattle.pass_runs.specs.ConvertRuns.LoweredConversions.Suiting.{words_of, PureSuits, PieceSuits, PiecesSuit}
+use Rattle.pass_runs.proofs.ConvertRuns.LoweredConversions.Blocks.{exit_typed}
+use Rattle.pass_runs.specs.ConvertRuns.LoweredConversions.Suiting as typing
 use Rattle.sound_trees.specs.Trees.{SequenceHas, PartsHave, ShapeHas, SideHas, ArmsHave}
 use Rattle.sound_trees.specs.Loops.{LoopIsReady, TestsAlone}
 use Rattle.sound_trees.specs.Subscripts.{SubscriptsFit, PieceSubscriptsFit, PiecesSubscriptsFit}
@@ -87,7 +87,7 @@ module _ (scope : Scope) (O : BodyTree → Type 0) where
   loop_ready : (post : Bool) (before : PieceTrees) (test : PureTree) (body step : PieceTrees) (at : Point) (s : SequenceTree) → PureSuits scope test → SubscriptsFit scope.arrays test → Has s → is_eligible post before (weight test) body step ≡ true
       → L (lowered scope before (λ b1. last (ends_by_test test b1)) (begun at)) (with_copies (is_eligible post before (weight test) body step) scope s)
   loop_ready post before test body step at s z w h e =
-      let heavy = nat_le (piece_weights before + weight test + piece_weights body + piece_weights step) 256 && (are_straight body && are_straight step) in
+      let heavy = nat_le (weight test + piece_weights body + piece_weights step) 256 && (are_straight body && are_straight step) in
       let marks = (both_true (are_marks before) heavy (both_true (not post) (are_marks before && heavy) e).1).0 in
       subst (λ c. L (lowered scope before (λ b1. last (ends_by_test test b1)) (begun at)) (with_copies c scope s)) (sym e) (record {
         tests = test_alone scope test before (begun at) marks (begun_ready scope false at) z w;

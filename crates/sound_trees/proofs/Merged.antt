@@ -8,10 +8,10 @@ use Rattle.ir_core.specs.Trees.{next, branch, BlockTree}
 use Rattle.passes.specs.Conversion.Outs.{entry_value, held}
 use Rattle.passes.specs.Conversion.Joining.{Guard, Joined, plain, renamed_out, next_result, joined_ops}
 use Rattle.passes.specs.Conversion.Merging.{Branches, Branched, Choice, opened, branched, is_taken, choices_for, choices, others, selected_bits, with_selection, with_selections, merged, joined}
-use Rattle.convert_runs.specs.Blocks.{IsOpen, BranchIsTyped}
-use Rattle.convert_runs.proofs.Opening.{opened_open}
-use Rattle.convert_runs.proofs.Joining.{Sound}
-use Rattle.convert_runs.proofs.Merged.{start_sound, joined_open, merged_open, test_has, taken_has, yes_part, no_part, yes_fine, yes_outs, yes_test, no_fine}
+use Rattle.pass_runs.specs.ConvertRuns.Blocks.{IsOpen, BranchIsTyped}
+use Rattle.pass_runs.proofs.ConvertRuns.Opening.{opened_open}
+use Rattle.pass_runs.proofs.ConvertRuns.Joining.{Sound}
+use Rattle.pass_runs.proofs.ConvertRuns.Merged.{start_sound, joined_open, merged_open, test_has, taken_has, yes_part, no_part, yes_fine, yes_outs, yes_test, no_fine}
 use Rattle.sound_trees.specs.Ready.{IsNear, OutsAreNear, ExitIsNear, OpsAreReady, BlockIsReady}
 use Rattle.sound_trees.proofs.Adding.{ready_more}
 use Rattle.sound_trees.proofs.Joining.{held_near, out_near, outs_near, IsJoined, outs_renamed, exit_renamed, all_joined}

@@ -7,8 +7,8 @@ use Rattle.ir_core.specs.declared.body.Out.{Out}
 use Rattle.passes.specs.Conversion.Outs.{is_set}
 use Rattle.passes.specs.Lowering.Outs.{operand_eq, held, without, own_out, with_out}
 use Rattle.passes.specs.Lowering.Copies.{outs_set}
-use Rattle.convert_runs.specs.Blocks.{Once}
-use Rattle.convert_runs.proofs.Opening.{turned_number, left_false, right_false}
+use Rattle.pass_runs.specs.ConvertRuns.Blocks.{Once}
+use Rattle.pass_runs.proofs.ConvertRuns.Opening.{turned_number, left_false, right_false}
 
 -- ---- the same variables
 

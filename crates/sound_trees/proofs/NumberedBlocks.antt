@@ -15,11 +15,11 @@ use Rattle.passes.specs.Numbering.Constants.{word_in, is_computed, computed_on, 
 use Rattle.passes.specs.Numbering.{Scope, Value, Kept, Numbered, constant, result_of, operand_or, standing_for, renamed, renamed_op, first_bits, earlier, with_out, with_earlier, with_word, makes_out, numbered_with, numbered_op, numbered_ops, nothing, ops_of, renamed_out, renamed_exit, numbered_block}
 use Rattle.passes.proofs.Equalities.{equal_alike}
 use Rattle.passes.proofs.NumberRuns.Finding.{Earlier, earlier_found}
-use Rattle.convert_runs.specs.Typed.{HasBits}
-use Rattle.convert_runs.proofs.Lists.{there, within, last_or}
-use Rattle.convert_runs.proofs.Fitting.{is_access, value_fits}
-use Rattle.convert_runs.proofs.Joining.{has_more, next_has}
-use Rattle.convert_runs.proofs.ConvertedTrees.Blocks.{block_typed}
+use Rattle.pass_runs.specs.ConvertRuns.Typed.{HasBits}
+use Rattle.pass_runs.proofs.ConvertRuns.Lists.{there, within, last_or}
+use Rattle.pass_runs.proofs.ConvertRuns.Fitting.{is_access, value_fits}
+use Rattle.pass_runs.proofs.ConvertRuns.Joining.{has_more, next_has}
+use Rattle.pass_runs.proofs.ConvertRuns.ConvertedTrees.Blocks.{block_typed}
 use Rattle.sound_trees.specs.Ready.{IsNear, AreNear, OutsAreNear, ExitIsNear, OpIsReady, OpsAreReady, BlockIsReady}
 use Rattle.sound_trees.proofs.Adding.{ready_more}
 use Rattle.sound_trees.proofs.Names.{SameNames, names_once}

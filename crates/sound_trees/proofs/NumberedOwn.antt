@@ -19,10 +19,10 @@ use Rattle.passes.proofs.Equalities.{equal_alike}
 use Rattle.passes.proofs.NumberRuns.Finding.{Earlier, earlier_found}
 use Rattle.passes.specs.Lowering.Outs.{held}
 use Rattle.passes.specs.Lowering.Copies.{Fixed, is_computed, is_fixed, is_fixed_source, all_fixed, fixed_in, outs_set, with_ops}
-use Rattle.convert_runs.specs.Typed.{IsEarly, AreEarly, OpsAreTyped, OutsAreTyped}
-use Rattle.convert_runs.proofs.Lists.{there, within, last_or}
-use Rattle.convert_runs.proofs.Joining.{has_early}
-use Rattle.convert_runs.proofs.Opening.{itself_number}
+use Rattle.pass_runs.specs.ConvertRuns.Typed.{IsEarly, AreEarly, OpsAreTyped, OutsAreTyped}
+use Rattle.pass_runs.proofs.ConvertRuns.Lists.{there, within, last_or}
+use Rattle.pass_runs.proofs.ConvertRuns.Joining.{has_early}
+use Rattle.pass_runs.proofs.ConvertRuns.Opening.{itself_number}
 use Rattle.sound_trees.specs.Ready.{HasFew, OpsAreReady, BlockIsReady}
 use Rattle.sound_trees.specs.Loops.{NamesOwn, OutsAreOwn}
 use Rattle.sound_trees.proofs.Fixed.{marks, beginning, marks_left, marks_end, marks_more, count_marks, same_variables, both_true, from_both, not_true, mark_says, fixed_at, three_fixed}

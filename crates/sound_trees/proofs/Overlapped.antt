@@ -16,13 +16,13 @@ use Rattle.passes.specs.Conversion.Outs.{entry_value, held_or, held, is_set, wit
 use Rattle.passes.specs.Conversion.Merging.{Branches, branches_of, opened, joined, first_of}
 use Rattle.passes.specs.Conversion.Overlapping.{is_test, carried_from, carried, carried_op, carried_out, iteration}
 use Rattle.passes.specs.Conversion.{Scope, going_on, part_before, behind, converted_sequence, converted_behind}
-use Rattle.convert_runs.specs.Blocks.{Once}
-use Rattle.convert_runs.specs.Typed.{IsEarly, ExitIsTyped}
-use Rattle.convert_runs.proofs.Finding.{no_fork_found}
-use Rattle.convert_runs.proofs.Joining.{has_early, all_sound}
-use Rattle.convert_runs.proofs.Merged.{start_sound}
-use Rattle.convert_runs.proofs.Opening.{turned_number, itself_number, same_number, left_false, right_false}
-use Rattle.convert_runs.proofs.Tests.{sets_nothing}
+use Rattle.pass_runs.specs.ConvertRuns.Blocks.{Once}
+use Rattle.pass_runs.specs.ConvertRuns.Typed.{IsEarly, ExitIsTyped}
+use Rattle.pass_runs.proofs.ConvertRuns.Finding.{no_fork_found}
+use Rattle.pass_runs.proofs.ConvertRuns.Joining.{has_early, all_sound}
+use Rattle.pass_runs.proofs.ConvertRuns.Merged.{start_sound}
+use Rattle.pass_runs.proofs.ConvertRuns.Opening.{turned_number, itself_number, same_number, left_false, right_false}
+use Rattle.pass_runs.proofs.ConvertRuns.Tests.{sets_nothing}
 use Rattle.dep_graph.specs.Offsets as graph
 use Rattle.dep_graph.specs.Offsets.{maker}
 use Rattle.clock_runs.specs.Premises.{Each, IsOperandAs, IsOperand, NamesResult, AreApart}

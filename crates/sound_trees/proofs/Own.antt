@@ -15,11 +15,11 @@ use Rattle.passes.specs.Lowering.Operations.{added, plain, result_of}
 use Rattle.passes.specs.Lowering.Outs.{operand_eq, held}
 use Rattle.passes.specs.Lowering.Blocks.{Scope, variable_type}
 use Rattle.passes.specs.Lowering.Copies.{Fixed, Copied, is_fixed, is_fixed_source, is_among, needs_copy, own_operand, with_own, copied_out, copied_outs, copied_block, copied_parts, copied, fixed_in, fixed_behind, fixed_behind_shape, outs_set, parts_set, shape_sets}
-use Rattle.convert_runs.specs.Typed.{IsEarly, OutsAreTyped}
-use Rattle.convert_runs.proofs.Lists.{last_or}
-use Rattle.convert_runs.proofs.Joining.{has_early}
-use Rattle.convert_runs.proofs.Opening.{left_false, right_false, itself_number, same_number}
-use Rattle.convert_runs.specs.LoweredConversions.Suiting.{widths_of, words_of}
+use Rattle.pass_runs.specs.ConvertRuns.Typed.{IsEarly, OutsAreTyped}
+use Rattle.pass_runs.proofs.ConvertRuns.Lists.{last_or}
+use Rattle.pass_runs.proofs.ConvertRuns.Joining.{has_early}
+use Rattle.pass_runs.proofs.ConvertRuns.Opening.{left_false, right_false, itself_number, same_number}
+use Rattle.pass_runs.specs.ConvertRuns.LoweredConversions.Suiting.{widths_of, words_of}
 use Rattle.sound_trees.specs.Trees.{SequenceHas, PartsHave}
 use Rattle.sound_trees.specs.Ready.{OutsAreNear}
 use Rattle.sound_trees.specs.Loops.{NamesOwn, BlockOwns, PartsOwn, BodyOwns}

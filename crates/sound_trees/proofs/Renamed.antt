@@ -10,7 +10,7 @@ use Rattle.ir_core.specs.Bodies.{OpTree, Shapes}
 use Rattle.passes.specs.Numbering.Constants as n
 use Rattle.passes.specs.Lowering.Copies as lower
 use Rattle.passes.specs.Conversion.Joining.{is_conversion}
-use Rattle.convert_runs.specs.Typed.{HasBits}
+use Rattle.pass_runs.specs.ConvertRuns.Typed.{HasBits}
 use Rattle.clock_runs.specs.Premises.{IsSoundAccess}
 use Rattle.sound_trees.specs.Ready.{IsNear, AreNear, IsNearIf, HasFew, AllHave, IsCheckedSum, IsChecked, OpIsReady}
 

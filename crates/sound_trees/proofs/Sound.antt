@@ -10,8 +10,8 @@ use Rattle.ir_core.specs.declared.body.Source.{Source}
 use Rattle.ir_core.specs.declared.body.Source.TheVariants as source
 use Rattle.ir_core.specs.Timing.{result_bits}
 use Rattle.ir_core.specs.Bodies.{OpTree, Shapes}
-use Rattle.convert_runs.specs.Typed.{IsEarly, AreEarly, HasBits, GuardIsTyped, OpIsTyped, OpsAreTyped}
-use Rattle.convert_runs.proofs.Joining.{has_early}
+use Rattle.pass_runs.specs.ConvertRuns.Typed.{IsEarly, AreEarly, HasBits, GuardIsTyped, OpIsTyped, OpsAreTyped}
+use Rattle.pass_runs.proofs.ConvertRuns.Joining.{has_early}
 use Rattle.clock_runs.specs.Premises.{Each, IsOperandAs, IsOperand, IsOperandIf, HasWidth, IsSoundAccess, IsSoundSum, IsSoundAs, IsSoundOp, AreSoundOps}
 use Rattle.sound_trees.specs.Ready.{IsNear, AreNear, IsNearIf, AllHave, IsCheckedSum, IsChecked, OpIsReady, OpsAreReady}
 use Rattle.sound_trees.proofs.Renamed.{length_map}

@@ -13,7 +13,7 @@ use Rattle.passes.specs.Conversion.{Scope, converted_sequence}
 use Rattle.passes.specs.Conversion.Merging.{opened, joined, first_of}
 use Rattle.passes.specs.Conversion.Overlapping.{iteration}
 use Rattle.ir_layout.specs.Layout.{finish, laid_out}
-use Rattle.convert_runs.specs.LoweredConversions.Suiting.{widths_of, words_of, PiecesSuit}
+use Rattle.pass_runs.specs.ConvertRuns.LoweredConversions.Suiting.{widths_of, words_of, PiecesSuit}
 use Rattle.sound_trees.specs.Trees.{SequenceHas}
 use Rattle.sound_trees.specs.Ready.{BlockIsReady}
 use Rattle.sound_trees.specs.Loops.{NumberedLoopIsReady, BodyIsSound}

@@ -13,7 +13,7 @@ use Rattle.passes.specs.Numbering.{numbered_sequence}
 use Rattle.passes.specs.Conversion.{converted_sequence}
 use Rattle.ir_layout.specs.Nodes.{node_of}
 use Rattle.ir_layout.specs.Layout.{laid_out}
-use Rattle.convert_runs.specs.LoweredConversions.Suiting.{widths_of, PiecesSuit}
+use Rattle.pass_runs.specs.ConvertRuns.LoweredConversions.Suiting.{widths_of, PiecesSuit}
 use Rattle.clock_runs.specs.Premises.{Each, IsSoundNode}
 use Rattle.sound_trees.specs.Subscripts.{PiecesSubscriptsFit}
 

@@ -6,8 +6,8 @@ use Rattle.ir_core.specs.declared.body.Operand.{Operand}
 use Rattle.ir_core.specs.declared.body.Out.{Out}
 use Rattle.ir_core.specs.Bodies.{OpTree, Shapes}
 use Rattle.ir_core.specs.Trees.{ExitTree, branch, choose, BlockTree}
-use Rattle.convert_runs.specs.Typed.{HasBits, BlockIsTyped}
-use Rattle.convert_runs.specs.Blocks.{Once}
+use Rattle.pass_runs.specs.ConvertRuns.Typed.{HasBits, BlockIsTyped}
+use Rattle.pass_runs.specs.ConvertRuns.Blocks.{Once}
 use Rattle.clock_runs.specs.Premises.{IsSoundAccess}
 
 -- ---- operands

@@ -1,5 +1,7 @@
+pub mod SourceRuns
 pub mod EndedLoops
 pub mod NodePoints
 pub mod Whole
 pub mod SourceCycles
 pub mod CompiledAnswers
+pub mod SourceDesigns

@@ -15,9 +15,9 @@ use Rattle.c_meaning.specs.PieceRuns.Values.{Store}
 use Rattle.c_meaning.specs.PieceRuns.Pieces.{Way, pieces_run}
 use Rattle.c_meaning.specs.PieceRuns.Runs.{frame_of, started, result_word, host_arrays, kept_of}
 use Rattle.expand_runs.specs.Reading.{IsTyped}
-use Rattle.elaborated_programs.specs.Inputs.{ProgramInputsFit}
-use Rattle.elaborated_programs.proofs.Tokens.{numbers_fit}
-use Rattle.source_runs.proofs.ElaboratedSubscripts.Programs.{checked_fit}
+use Rattle.expanded_programs.specs.ElaboratedPrograms.Inputs.{ProgramInputsFit}
+use Rattle.expanded_programs.proofs.ElaboratedPrograms.Tokens.{numbers_fit}
+use Rattle.source_answers.proofs.SourceRuns.ElaboratedSubscripts.Programs.{checked_fit}
 use Rattle.ir_core.specs.declared.cfg.Cfg.{Cfg}
 use Rattle.ir_core.specs.declared.stamp.Untimed.{Untimed}
 use Rattle.ir_core.specs.declared.timed.Timed.{Timed}
@@ -27,7 +27,7 @@ use Rattle.cycle_report.specs.PlainReport.{PlainLoop}
 use Rattle.report_rows.specs.Costs.{AreRowsOf}
 use Rattle.ir_core.specs.Bodies.{Words}
 use Rattle.timed_pieces.specs.FlatRuns.{Choice, IsFine, IsLaidOut}
-use Rattle.lower_runs.specs.Holding.{Holds, none_hidden, ArraysAreShort}
+use Rattle.pass_runs.specs.LowerRuns.Holding.{Holds, none_hidden, ArraysAreShort}
 use Rattle.expanded_pieces.specs.BegunPieces.Points.{begins_at}
 use Rattle.clock_ir.specs.ClockRuns.{timed_program, clock_run}
 use Rattle.clock_ir.specs.ClockRuns as clock
@@ -35,15 +35,15 @@ use Rattle.clock_runs.specs.Laws.{run_cycles}
 use Rattle.timed_pieces.specs.Laws.{HasTimes, node_count}
 use Rattle.sound_trees.specs.Subscripts.{PiecesSubscriptsFit}
 use Rattle.timed_pieces.proofs.SoundPrograms.Whole.{sound}
-use Rattle.source_runs.proofs.SourceTypes.Whole.{sources_fine}
-use Rattle.formula_cycles.proofs.Pieces.{formula_counts_pieces}
+use Rattle.source_answers.proofs.SourceRuns.SourceTypes.Whole.{sources_fine}
+use Rattle.timed_pieces.proofs.FormulaCycles.Pieces.{formula_counts_pieces}
 use Rattle.timed_pieces.specs.StartedWords.Contents.{Begins, host_words, file_words}
 use Rattle.timed_pieces.proofs.StartedWords.Starting.{started_words_hold}
 use Rattle.timed_pieces.proofs.StartedWords.Ending.{ended_words_show}
 use Rattle.compile_steps.specs.BegunPrograms.{HasEnds}
 use Rattle.compile_steps.proofs.BegunPrograms.Programs.{checked_begins}
-use Rattle.source_runs.specs.Laws.{IsFaultless, expanded, EndsAs, RunsAs}
-use Rattle.source_runs.proofs.Whole.{ends_as, ended_defined, same_answer, runs_as}
+use Rattle.source_answers.specs.SourceRuns.{IsFaultless, expanded, EndsAs, RunsAs}
+use Rattle.source_answers.proofs.SourceRuns.Whole.{ends_as, ended_defined, same_answer, runs_as}
 use Rattle.source_answers.specs.Laws.{HaveWidths, EndsWith, IsCounted, AnswersAs, SourceProgramsAnswer}
 
 -- ---- what last words show

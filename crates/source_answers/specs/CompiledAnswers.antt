@@ -6,7 +6,7 @@ use Rattle.hls_base.specs.declared.settings.Units.{Units}
 use Rattle.c_tree.specs.Tree.{ProgramTree}
 use Rattle.c_meaning.specs.Points.{tally_of}
 use Rattle.c_meaning.specs.Run.{c_run, ended, running}
-use Rattle.elaborated_programs.specs.Inputs.{ProgramInputsFit}
+use Rattle.expanded_programs.specs.ElaboratedPrograms.Inputs.{ProgramInputsFit}
 use Rattle.ir_core.specs.declared.cfg.Cfg.{Cfg}
 use Rattle.ir_core.specs.declared.stamp.Untimed.{Untimed}
 use Rattle.ir_lower.specs.Frames.{frame_view}
@@ -22,7 +22,7 @@ use Rattle.compile_steps.specs.Flat.{IsFlatOf}
 use Rattle.compile_steps.specs.Resets.{expanded_frame}
 use Rattle.compile_steps.specs.Reports.{IsTimed}
 use Rattle.timed_pieces.specs.StartedWords.Contents.{Begins}
-use Rattle.source_runs.specs.Laws.{IsFaultless, expanded}
+use Rattle.source_answers.specs.SourceRuns.{IsFaultless, expanded}
 use Rattle.source_answers.specs.Laws.{HaveWidths, EndsWith}
 
 -- From all words that begin with these inputs the clocked run answers what the run in C answers: where that ends, it ends with the same result, elements and contents of file scope, after exactly the cycles that the rows give for how often that passes each point, and no sooner; and it goes on for ever where that does.

@@ -10,7 +10,7 @@ use Rattle.pieces.specs.Program.{ExpandedTree}
 use Rattle.c_meaning.specs.PieceRuns.Values.{Store}
 use Rattle.c_meaning.specs.PieceRuns.Runs.{frame_of, started}
 use Rattle.expand_runs.specs.Reading.{IsTyped}
-use Rattle.elaborated_programs.specs.Inputs.{ProgramInputsFit}
+use Rattle.expanded_programs.specs.ElaboratedPrograms.Inputs.{ProgramInputsFit}
 use Rattle.ir_core.specs.declared.cfg.Cfg.{Cfg}
 use Rattle.ir_core.specs.declared.stamp.Untimed.{Untimed}
 use Rattle.ir_core.specs.declared.timed.Timed.{Timed}
@@ -19,9 +19,9 @@ use Rattle.cycle_report.specs.FormulaValue.{cycles}
 use Rattle.cycle_report.specs.PlainReport.{PlainLoop}
 use Rattle.report_rows.specs.Costs.{AreRowsOf}
 use Rattle.ir_core.specs.Bodies.{Words}
-use Rattle.convert_runs.specs.Typed.{Fits}
-use Rattle.convert_runs.specs.LoweredConversions.Suiting as typing
-use Rattle.lower_runs.specs.Suits.{scope_of}
+use Rattle.pass_runs.specs.ConvertRuns.Typed.{Fits}
+use Rattle.pass_runs.specs.ConvertRuns.LoweredConversions.Suiting as typing
+use Rattle.pass_runs.specs.LowerRuns.Suits.{scope_of}
 use Rattle.passes.specs.Lowering.Shapes.{first_point}
 use Rattle.timed_pieces.specs.FlatRuns.{Choice, IsLaidOut, has_node}
 use Rattle.expanded_pieces.specs.BegunPieces.Points.{begins_at}
@@ -29,10 +29,10 @@ use Rattle.clock_ir.specs.ClockRuns.{timed_program, clock_run}
 use Rattle.clock_ir.specs.ClockRuns as clock
 use Rattle.clock_runs.specs.Laws.{IsEnded, run_cycles}
 use Rattle.timed_pieces.specs.Laws.{HasTimes, node_count}
-use Rattle.formula_cycles.specs.Ends.{LoopsLeadToTheirEnds}
-use Rattle.formula_cycles.specs.Laws.{PassesKept}
+use Rattle.timed_pieces.specs.FormulaCycles.Ends.{LoopsLeadToTheirEnds}
+use Rattle.timed_pieces.specs.FormulaCycles.{PassesKept}
 use Rattle.timed_pieces.specs.StartedWords.Contents.{Begins, host_words, file_words}
-use Rattle.source_runs.specs.Laws.{IsFaultless, expanded}
+use Rattle.source_answers.specs.SourceRuns.{IsFaultless, expanded}
 
 -- what variables and memories of the program hold has their widths
 abbrev pub HaveWidths : ExpandedTree → Words → Type 0

@@ -10,7 +10,7 @@ use Rattle.c_meaning.specs.PieceRuns.Pieces.{Frame}
 use Rattle.timed_pieces.specs.FlatRuns.{Choice, IsFine, IsLaidOut, has_node}
 use Rattle.expanded_pieces.specs.ApartPoints.Apart.{AreApart}
 use Rattle.expanded_pieces.specs.ApartPoints.Points.{all_points}
-use Rattle.formula_cycles.specs.Laws.{PointsDiffer, PassesKept}
+use Rattle.timed_pieces.specs.FormulaCycles.{PointsDiffer, PassesKept}
 
 -- No point has two nodes in a program that is laid out from pieces among which no point stands twice.
 abbrev pub LaidOutPointsDiffer : Type 0

@@ -9,7 +9,7 @@ use Rattle.c_meaning.specs.Run.{c_run, ended, running}
 use Rattle.c_meaning.specs.PieceRuns.Values.{Store}
 use Rattle.c_meaning.specs.PieceRuns.Runs.{frame_of, started}
 use Rattle.expand_runs.specs.Reading.{IsTyped}
-use Rattle.elaborated_programs.specs.Inputs.{ProgramInputsFit}
+use Rattle.expanded_programs.specs.ElaboratedPrograms.Inputs.{ProgramInputsFit}
 use Rattle.ir_core.specs.declared.cfg.Cfg.{Cfg}
 use Rattle.ir_core.specs.declared.stamp.Untimed.{Untimed}
 use Rattle.ir_core.specs.declared.timed.Timed.{Timed}
@@ -18,15 +18,15 @@ use Rattle.cycle_report.specs.FormulaValue.{cycles}
 use Rattle.cycle_report.specs.PlainReport.{PlainLoop}
 use Rattle.report_rows.specs.Costs.{AreRowsOf}
 use Rattle.ir_core.specs.Bodies.{Words}
-use Rattle.convert_runs.specs.Typed.{Fits}
-use Rattle.convert_runs.specs.LoweredConversions.Suiting as typing
-use Rattle.lower_runs.specs.Suits.{scope_of}
-use Rattle.lower_runs.specs.Holding.{Holds, none_hidden}
+use Rattle.pass_runs.specs.ConvertRuns.Typed.{Fits}
+use Rattle.pass_runs.specs.ConvertRuns.LoweredConversions.Suiting as typing
+use Rattle.pass_runs.specs.LowerRuns.Suits.{scope_of}
+use Rattle.pass_runs.specs.LowerRuns.Holding.{Holds, none_hidden}
 use Rattle.timed_pieces.specs.FlatRuns.{Choice, IsLaidOut}
 use Rattle.clock_ir.specs.ClockRuns.{timed_program, clock_run}
 use Rattle.clock_runs.specs.Laws.{IsEnded}
 use Rattle.timed_pieces.specs.Laws.{HasTimes}
-use Rattle.source_runs.specs.Laws.{IsFaultless, expanded, EndsAs}
+use Rattle.source_answers.specs.SourceRuns.{IsFaultless, expanded, EndsAs}
 
 -- The clocked run from words that show where a run in C begins is that run: it ends where that ends, after exactly the cycles that these rows give for how often that passes each point, and goes on for ever where that does.
 pub record RunsInCycles (p : ProgramTree) (top : ℕ) (timed : Cfg Timed) (rows : List Cost) (kept : FileScope) (scalars : List ℕ) (arrays : List (List ℕ)) (t : Words) : Type 0 where

@@ -1,3 +1,5 @@
+pub mod SourceMachines
+pub mod KeptTables
 pub mod ValidFrames
 pub mod CompiledValidity
 pub mod AcceptedPrograms

@@ -12,7 +12,7 @@ use Rattle.ir_core.specs.declared.stamp.Untimed.{Untimed}
 use Rattle.passes.specs.Lowering.Shapes.{first_point}
 use Rattle.passes.specs.Lowering.Blocks.{begun}
 use Rattle.passes.specs.Lowering.{last, lowered}
-use Rattle.lower_runs.specs.Suits.{scope_of}
+use Rattle.pass_runs.specs.LowerRuns.Suits.{scope_of}
 use Rattle.ir_layout.specs.Sizes.{sequence_size}
 use Rattle.passes.specs.Totals.{operations, sequence_total}
 use Rattle.ir_lower.specs.Frames.{frame_view}
@@ -21,7 +21,7 @@ use Rattle.timed_pieces.specs.FlatRuns.{Choice, IsLaidOut}
 use Rattle.program_validity.specs.Programs.{is_valid}
 use Rattle.report_rows.specs.ForwardNodes.{HasForwardBody}
 use Rattle.program_sizes.specs.CompiledSizes.{IsSmallProgram}
-use Rattle.source_runs.specs.Laws.{IsFaultless, expanded}
+use Rattle.source_answers.specs.SourceRuns.{IsFaultless, expanded}
 
 -- Of each source without faults that weighs at most 8,192 once its calls are expanded: there is a point at which its pieces begin, and each program that is laid out from them, beside what stands beside them, is valid and small, so that there always are numbers enough, and each of its operations comes behind those that it waits for, so that it can be given times.
 abbrev pub AcceptedSourcesCompileToValid : Type 0

@@ -9,18 +9,18 @@ use Rattle.ir_core.specs.declared.stamp.Untimed.{Untimed}
 use Rattle.ir_lower.specs.Frames.{frame_view}
 use Rattle.compile_steps.specs.Resets.{expanded_frame}
 use Rattle.passes.specs.Lowering.Shapes.{first_point}
-use Rattle.lower_runs.specs.Suits.{scope_of}
-use Rattle.convert_runs.specs.LoweredConversions.Suiting.{PiecesSuit}
+use Rattle.pass_runs.specs.LowerRuns.Suits.{scope_of}
+use Rattle.pass_runs.specs.ConvertRuns.LoweredConversions.Suiting.{PiecesSuit}
 use Rattle.timed_pieces.specs.FlatRuns.{Choice, IsLaidOut}
 use Rattle.timed_pieces.specs.StartedWords.Contents.{ResultIsThere}
-use Rattle.formula_cycles.specs.Ends.{LoopsLeadToTheirEnds}
+use Rattle.timed_pieces.specs.FormulaCycles.Ends.{LoopsLeadToTheirEnds}
 use Rattle.sound_trees.specs.Subscripts.{PiecesSubscriptsFit}
 use Rattle.program_validity.specs.Frames.{is_frame}
 use Rattle.program_validity.specs.Programs.{is_valid}
 use Rattle.valid_trees.specs.ValidLowering.Proper.{PiecesAreProper}
 use Rattle.valid_trees.specs.ValidLayout.{HasNumbers}
 use Rattle.source_validity.specs.ValidFrames.{NamesAreFew}
-use Rattle.source_runs.specs.Laws.{IsFaultless, expanded}
+use Rattle.source_answers.specs.SourceRuns.{IsFaultless, expanded}
 
 -- The flat program that pieces are compiled to is valid: of pieces that are proper and have the types of what they name, beside a valid frame that is that of the expanded program, where there are numbers enough for its nodes and operations.
 abbrev pub LaidOutExpansionsAreValid : Type 0

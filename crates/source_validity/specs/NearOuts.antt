@@ -8,14 +8,14 @@ use Rattle.c_meaning.specs.PieceRuns.Runs.{frame_of}
 use Rattle.ir_core.specs.declared.cfg.Cfg.{Cfg}
 use Rattle.ir_core.specs.declared.stamp.Untimed.{Untimed}
 use Rattle.passes.specs.Lowering.Blocks.{Scope}
-use Rattle.convert_runs.specs.LoweredConversions.Suiting.{PiecesSuit}
+use Rattle.pass_runs.specs.ConvertRuns.LoweredConversions.Suiting.{PiecesSuit}
 use Rattle.ir_layout.specs.Nodes.{node_of}
 use Rattle.ir_layout.specs.Layout.{laid_out}
 use Rattle.sound_trees.specs.Subscripts.{PiecesSubscriptsFit}
 use Rattle.sound_trees.specs.Laws.{tree_in}
 use Rattle.timed_pieces.specs.FlatRuns.{Choice, IsLaidOut}
-use Rattle.source_runs.specs.Laws.{IsFaultless, expanded}
-use Rattle.source_machines.specs.SmallTimes.NearOuts.{OutsAreNear}
+use Rattle.source_answers.specs.SourceRuns.{IsFaultless, expanded}
+use Rattle.source_validity.specs.SourceMachines.SmallTimes.NearOuts.{OutsAreNear}
 
 -- The outs and tests are near in the flat program that pieces are compiled to, which have the types of what they name and as many subscripts as dimensions.
 abbrev pub LaidOutOutsAreNear : Type 0

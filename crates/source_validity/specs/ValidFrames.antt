@@ -6,7 +6,7 @@ use Rattle.ir_core.specs.declared.cfg.Frame.{Frame}
 use Rattle.ir_lower.specs.Frames.{frame_view}
 use Rattle.pieces.specs.Program.{ArrayTree, ExpandedTree}
 use Rattle.c_meaning.specs.PieceRuns.Runs.{frame_of}
-use Rattle.lower_runs.specs.Holding.{IsThere}
+use Rattle.pass_runs.specs.LowerRuns.Holding.{IsThere}
 use Rattle.compile_steps.specs.Resets.{expanded_frame}
 use Rattle.timed_pieces.specs.StartedWords.Contents.{KeptAreThere}
 use Rattle.timed_pieces.specs.StartedWords.FirstWords.{HasFirstContents}

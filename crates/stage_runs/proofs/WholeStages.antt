@@ -14,15 +14,15 @@ use Rattle.ir_core.specs.declared.cfg.Memory.{Memory}
 use Rattle.ir_core.specs.declared.stamp.Untimed.{Untimed}
 use Rattle.ir_lower.specs.Frames.{FrameView, memory_view}
 use Rattle.passes.specs.Lowering.{scope_of}
-use Rattle.convert_runs.specs.LoweredConversions.Suiting.{PiecesSuit}
+use Rattle.pass_runs.specs.ConvertRuns.LoweredConversions.Suiting.{PiecesSuit}
 use Rattle.flat_programs.specs.There.{SequenceThere}
 use Rattle.flat_programs.specs.Laws.{LayoutIsWhole}
 use Rattle.flat_programs.specs.Machine.Rest.{memory_dims}
 use Rattle.valid_trees.specs.WholeTrees.{LoweredIsThere, NumberedIsThere, ConvertedIsThere}
 use Rattle.clock_machine.specs.Starts.{IsNamed}
-use Rattle.source_machines.specs.Laws.{IsFrameOf, SourceFramesAreNamed}
-use Rattle.source_runs.specs.Laws.{IsFaultless}
-use Rattle.source_runs.specs.SourceTypes.{SourcesHaveFinePieces}
+use Rattle.source_validity.specs.SourceMachines.{IsFrameOf, SourceFramesAreNamed}
+use Rattle.source_answers.specs.SourceRuns.{IsFaultless}
+use Rattle.source_answers.specs.SourceRuns.SourceTypes.{SourcesHaveFinePieces}
 use Rattle.compile_steps.specs.Flat.{variable_widths, tree_of, numbered_of}
 use Rattle.compile_steps.specs.Resets.{array_memory}
 use Rattle.stage_runs.specs.declared.stage.StageName.{StageName}

@@ -7,7 +7,7 @@ use Rattle.pieces.specs.Program.{ExpandedTree}
 use Rattle.ir_core.specs.declared.cfg.Cfg.{Cfg}
 use Rattle.ir_core.specs.declared.stamp.Untimed.{Untimed}
 use Rattle.flat_programs.specs.Machine.Rest.{IsWhole}
-use Rattle.source_runs.specs.Laws.{IsFaultless}
+use Rattle.source_answers.specs.SourceRuns.{IsFaultless}
 use Rattle.stage_runs.specs.declared.stage.StageName.{StageName}
 use Rattle.stage_runs.specs.Stages.{IsStageOf}
 

@@ -22,11 +22,11 @@ use Rattle.piece_making.specs.Making.{State, gives, emit}
 use Rattle.piece_making.specs.Objects.{local_array, array_like}
 use Rattle.piece_making.specs.Calls.{Call, point_in}
 use Rattle.piece_making.specs.Assigning.{Change, step, one, apply, new_value, target_read}
-use Rattle.c_expand.specs.Expressions.{Callee, expression}
-use Rattle.c_expand.specs.Statements.{marked, valued, changed, action, actions, item_value, filled, initialised, scalar_declared, declared_as, declare, tested, stepped, result_variable, result_set, returned, is_call, subscripts_at, at_least_one}
+use Rattle.c_expand.specs.Expressions.{Callee, expression, is_call}
+use Rattle.c_expand.specs.Statements.{marked, valued, changed, action, actions, item_value, filled, initialised, scalar_declared, declared_as, declare, tested, stepped, result_variable, result_set, returned, subscripts_at, at_least_one}
 use Rattle.expanded_programs.specs.Statements.Scopes.{Setting, Reach, IsArray, IsSoundIn, TestSound, ReturnSound, ActionsSound, ItemsSound, InitSound, objects_in, reach}
 use Rattle.expanded_programs.specs.Statements.Each.{IfThere, EachItem, InInit, EachAction}
-use Rattle.lower_runs.specs.Holding.{IsThere}
+use Rattle.pass_runs.specs.LowerRuns.Holding.{IsThere}
 use Rattle.typed_pieces.specs.Typed.{IsTyped, AreTyped}
 use Rattle.typed_pieces.specs.Types.{HasTypes}
 use Rattle.typed_pieces.specs.Worlds.{World, Knows, Makes, Anything, Value, HasArray, IsNoted, frame_at}

@@ -18,7 +18,7 @@ use Rattle.c_expand.specs.Expansion.{end_of, run_through, within, value_of, open
 use Rattle.c_expand.specs.Expansion as expansion
 use Rattle.expanded_programs.specs.Statements.Scopes.{Setting, enter}
 use Rattle.expanded_programs.specs.Calls.Programs.{setting_of, at_start, IsProgramSound}
-use Rattle.lower_runs.specs.OperatorWords.Words.{IsType}
+use Rattle.pass_runs.specs.LowerRuns.OperatorWords.Words.{IsType}
 use Rattle.typed_pieces.specs.Typed.{PieceTyped}
 use Rattle.typed_pieces.specs.Types.{ProgramHasTypes}
 use Rattle.typed_pieces.specs.Worlds.{World, Later, Makes, Anything, IsValue, frame_at}

@@ -19,7 +19,7 @@ use Rattle.c_elaborate.specs.Statements.{value_pattern, label_pattern, declarati
 use Rattle.c_elaborate.proofs.ElaborateRuns.Expressions.{same_kind}
 use Rattle.c_elaborate.proofs.ElaborateRuns.Lifetimes.{labels_all}
 use Rattle.c_meaning.proofs.Ranges.{pattern_below}
-use Rattle.lower_runs.proofs.OperatorWords.Resizing.{count_is}
+use Rattle.pass_runs.proofs.LowerRuns.OperatorWords.Resizing.{count_is}
 use Rattle.ir_core.specs.Value.{count_of}
 use Rattle.valid_trees.specs.ValidLowering.Proper.{WordFits}
 use Rattle.typed_pieces.specs.Types.{CasesFit, ElseCasesFit, AllCasesFit}

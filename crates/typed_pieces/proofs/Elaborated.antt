@@ -24,7 +24,7 @@ use Rattle.c_elaborate.specs.Statements.{init_elaborated, declarations, item, st
 use Rattle.c_elaborate.specs.Programs.{file_object, file_names, objects_of_params, function_elaborated, function_of_item, functions_elaborated, signature_of, signatures}
 use Rattle.c_elaborate.proofs.ElaborateRuns.Lifetimes.{labels_all}
 use Rattle.expanded_programs.specs.Statements.Each.{IfThere, EachItem, InInit, EachAction, InStmt, InElse, InStmts}
-use Rattle.lower_runs.specs.OperatorWords.Words.{IsType}
+use Rattle.pass_runs.specs.LowerRuns.OperatorWords.Words.{IsType}
 use Rattle.typed_pieces.specs.Types.{HasTypes, TargetHasTypes, EachHasTypes, ArgumentHasTypes, ArgumentsHaveTypes, AllCasesFit, FunctionHasTypes}
 use Rattle.typed_pieces.specs.Sources.{TreeHasTypes, TargetTreeHasTypes, TreesHaveTypes, IfTreeHasTypes, ActionsHaveTypes, InitHasTypes, InitsHaveTypes, IfInitHasTypes, ObjectsHaveTypes, StmtHasTypes, ElseHasTypes, FirstHasTypes, StmtsHaveTypes, IfType, IfBodyHasTypes, ParamsHaveTypes, ItemsHaveTypes}
 use Rattle.typed_pieces.specs.Laws.{ElaboratedHasTypes}

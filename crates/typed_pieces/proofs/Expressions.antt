@@ -16,7 +16,7 @@ use Rattle.piece_making.specs.Making.{State}
 use Rattle.piece_making.specs.Calls.{Call, array}
 use Rattle.piece_making.specs.Assigning.{Change, step}
 use Rattle.c_expand.specs.Expressions as e
-use Rattle.c_expand.specs.Expressions.{Given, Callee, may_be_unused, expression, operands, targeted, argument, arguments}
+use Rattle.c_expand.specs.Expressions.{Given, Callee, expression, operands, targeted, argument, arguments}
 use Rattle.expand_runs.specs.Sound.{Objects, IsSound, AreSound, ArgumentSound, ArgumentsSound, IsTarget}
 use Rattle.typed_pieces.specs.Typed.{AreTyped}
 use Rattle.typed_pieces.specs.Types.{HasTypes, EachHasTypes, ArgumentHasTypes, ArgumentsHaveTypes}
@@ -25,7 +25,7 @@ use Rattle.typed_pieces.specs.Standing.{Names, IsGivenFor, AreGiven, CallsTyped}
 use Rattle.typed_pieces.proofs.Typing.{number_typed, element_typed, unary_typed, cast_typed, word_below, row_more}
 use Rattle.typed_pieces.proofs.Parts.{later_both, typed_later, each_later, array_later, then_makes, gives_makes, known}
 use Rattle.typed_pieces.proofs.Saved.{save_makes}
-use Rattle.typed_pieces.proofs.Changes.{TargetAs, IsChange, change_later, operated_makes, chosen_makes, discarded_makes, assigned_makes, bumped_makes}
+use Rattle.typed_pieces.proofs.Changes.{TargetAs, IsChange, change_later, operated_makes, chosen_makes, comma_left_makes, assigned_makes, bumped_makes}
 
 abbrev count_of : CoreTrees → ℕ
 count_of core.none = 0
@@ -106,7 +106,7 @@ module _ (o : Objects) (c : Call) (Scene : (s : State) → World s → Type 0) (
         (λ t1 s1 w1 l v. known (bumped_makes o c Scene N t1 post s1 w1 (N.stays s w s1 w1 scene l) v.change) (λ s2 w2 l2 q. record { typed = q.typed; type = q.type ∙ v.type }))
     expression_makes (core.comma left right) s w scene h t =
         then_makes (expression_makes left s w scene h.0 t.0)
-        (λ x s1 w1 l v. then_makes (discarded_makes (may_be_unused left) x s1 w1 v.typed) (λ u s2 w2 l2 a. expression_makes right s2 w2 (N.stays s w s2 w2 scene (later_both l l2)) h.1 t.1))
+        (λ x s1 w1 l v. then_makes (comma_left_makes c.file_variables left x (effects right) s1 w1 v.typed) (λ u s2 w2 l2 a. expression_makes right s2 w2 (N.stays s w s2 w2 scene (later_both l l2)) h.1 t.1))
 
     pub operands_make : (xs : CoreTrees) (later : Effects) (before : List PureTree) (s : State) (w : World s) → Scene s w → AreSound o xs → EachHasTypes xs → AreTyped (frame_at s) (row before) → Makes (OperandsAt (length before + count_of xs)) s w (operands g c xs later before s)
     operands_make core.none later before s w scene h t b = gives_makes (record { typed = b; count = omega arith })

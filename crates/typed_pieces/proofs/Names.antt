@@ -11,8 +11,8 @@ use Rattle.piece_making.specs.declared.work.Slot.{Slot}
 use Rattle.piece_making.specs.Making.{State, noted}
 use Rattle.piece_making.specs.Calls.{Call, homes_in, read_of, variable_in, array_in}
 use Rattle.expanded_programs.specs.Statements.Scopes.{Setting, Reach, IsScalar, IsArray, ScalarIn, VariableIn, ArrayIn, objects_in}
-use Rattle.lower_runs.specs.OperatorWords.Words.{IsType}
-use Rattle.lower_runs.specs.Holding.{IsThere}
+use Rattle.pass_runs.specs.LowerRuns.OperatorWords.Words.{IsType}
+use Rattle.pass_runs.specs.LowerRuns.Holding.{IsThere}
 use Rattle.typed_pieces.specs.Worlds.{World, Later, IsValue, HasArray, IsNoted, frame_at}
 use Rattle.typed_pieces.specs.Standing.{Names, FileFits, OwnFits, Stands}
 use Rattle.typed_pieces.proofs.Typing.{number_typed, variable_typed}

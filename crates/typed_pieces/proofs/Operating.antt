@@ -9,7 +9,7 @@ use Rattle.c_tree.specs.declared.operator.Binary.{Binary}
 use Rattle.c_tree.specs.declared.operator.Binary.TheVariants as b
 use Rattle.c_value.specs.Values.{int_type, promoted, wider, common}
 use Rattle.c_value.specs.Operators.{unary_kind, binary_kind}
-use Rattle.lower_runs.specs.OperatorWords.Words.{IsType}
+use Rattle.pass_runs.specs.LowerRuns.OperatorWords.Words.{IsType}
 
 if_type : (c : Bool) (j k : CType) → IsType j → IsType k → IsType (if c then j else k)
 if_type true j k h g = h

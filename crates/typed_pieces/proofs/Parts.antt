@@ -15,7 +15,7 @@ use Rattle.piece_making.specs.Making.{State, Part, gives, then_, emit, inside, i
 use Rattle.expand_runs.specs.Growing.{Begins}
 use Rattle.expand_runs.proofs.Growing.{begins_more, last_one, slots_here, slots_there, slots_length}
 use Rattle.expanded_programs.proofs.Calls.Lists.{get_last, get_before}
-use Rattle.lower_runs.specs.OperatorWords.Words.{IsType}
+use Rattle.pass_runs.specs.LowerRuns.OperatorWords.Words.{IsType}
 use Rattle.valid_trees.specs.ValidLowering.Proper.{WordFits, LabelsFit}
 use Rattle.typed_pieces.specs.Typed.{IsTyped, AreTyped, PieceTyped, PiecesTyped}
 use Rattle.typed_pieces.specs.Worlds.{ArraysHaveLengths, World, Later, Knows, Makes, MakesLater, Anything, Value, Inside, HasArray, IsNoted, frame_at}

@@ -4,8 +4,8 @@ use Rattle.pieces.specs.Trees as tree
 use Rattle.pieces.specs.Trees.{PureTree, PureTrees, PieceTree, PieceTrees}
 use Rattle.pieces.specs.Kind.{kind}
 use Rattle.c_meaning.specs.PieceRuns.Pieces.{Frame}
-use Rattle.lower_runs.specs.Suits.{Suits, EachSuits}
-use Rattle.lower_runs.specs.Holding.{none_hidden}
+use Rattle.pass_runs.specs.LowerRuns.Suits.{Suits, EachSuits}
+use Rattle.pass_runs.specs.LowerRuns.Holding.{none_hidden}
 use Rattle.valid_trees.specs.ValidLowering.Proper.{IsOfOperator}
 use Rattle.valid_trees.proofs.ValidLowering.Types.{proper}
 use Rattle.typed_pieces.specs.Typed.{PieceTyped, PiecesTyped}

@@ -1,5 +1,5 @@
 -- Saved values are typed.
-use Rattle.std.proofs.Common.{◌∙◌, ℕ, Bool, true, false, ◌&&◌, refl, ap, ap₂, List, [], ◌∷◌, ◌++◌}
+use Rattle.std.proofs.Common.{◌∙◌, ℕ, Bool, true, false, ◌&&◌, ◌||◌, refl, ap, ap₂, List, [], ◌∷◌, ◌++◌}
 use Rattle.std.specs.Prelude.{nat_lt}
 use Rattle.c_value.specs.Operators.{unary_kind, binary_kind}
 use Rattle.pieces.specs.Trees as tree
@@ -8,7 +8,7 @@ use Rattle.pieces.specs.Kind.{kind}
 use Rattle.piece_making.specs.declared.effects.Effects.{Effects}
 use Rattle.piece_making.specs.Acting.{spoils}
 use Rattle.piece_making.specs.Making.{State, Part, gives, then_}
-use Rattle.piece_making.specs.Saving.{saved, all_saved, saved_if, may_skip_element, save}
+use Rattle.piece_making.specs.Saving.{has_element, is_logical, saved, all_saved, saved_if, save}
 use Rattle.typed_pieces.specs.Typed.{IsTyped, AreTyped}
 use Rattle.typed_pieces.specs.Worlds.{World, Knows, Makes, Value, frame_at}
 use Rattle.typed_pieces.proofs.Typing.{unary_typed, binary_typed, choice_typed, cast_typed, element_typed, kind_type, row_more}
@@ -34,16 +34,16 @@ mutual
       then_makes (saved_makes n calls arg s w (h.0.2, h.1))
       (λ x s1 w1 l v. gives_makes (record { typed = unary_typed (frame_at s1) op x k at h.0.0 (ap (unary_kind op) v.type ∙ h.0.1) v.typed; type = refl }))
   saved_makes n calls (tree.binary op left right k at) s w h =
-      saved_if_makes (may_skip_element (tree.binary op left right k at)) (tree.binary op left right k at)
-      (λ s0. then_ (saved n calls left s0) (λ x s1. then_ (saved n calls right s1) (λ y s2. gives (tree.binary op x y k at) s2))) s w h
-      (then_makes (saved_makes n calls left s w (h.0.2, h.1.0))
-      (λ x s1 w1 l v. then_makes (saved_makes n calls right s1 w1 (typed_later l right (h.0.3, h.1.1)))
+      then_makes (saved_makes n calls left s w (h.0.2, h.1.0))
+      (λ x s1 w1 l v. saved_if_makes (is_logical op && has_element right) (tree.binary op x right k at) (λ s2. then_ (saved n calls right s2) (λ y s3. gives (tree.binary op x y k at) s3)) s1 w1
+      (binary_typed (frame_at s1) op x right k at h.0.0 (ap (λ z. binary_kind op z (kind right)) v.type ∙ h.0.1) v.typed (typed_later l right (h.0.3, h.1.1)))
+      (then_makes (saved_makes n calls right s1 w1 (typed_later l right (h.0.3, h.1.1)))
       (λ y s2 w2 l2 u. gives_makes (record { typed = binary_typed (frame_at s2) op x y k at h.0.0 (ap₂ (binary_kind op) v.type u.type ∙ h.0.1) (typed_later l2 x v.typed) u.typed; type = refl }))))
   saved_makes n calls (tree.choice test left right k) s w h =
-      saved_if_makes (may_skip_element (tree.choice test left right k)) (tree.choice test left right k)
-      (λ s0. then_ (saved n calls test s0) (λ t s1. then_ (saved n calls left s1) (λ x s2. then_ (saved n calls right s2) (λ y s3. gives (tree.choice t x y k) s3)))) s w h
-      (then_makes (saved_makes n calls test s w (h.0.1, h.1.0))
-      (λ t s1 w1 l v. then_makes (saved_makes n calls left s1 w1 (typed_later l left (h.0.2, h.1.1)))
+      then_makes (saved_makes n calls test s w (h.0.1, h.1.0))
+      (λ t s1 w1 l v. saved_if_makes (has_element left || has_element right) (tree.choice t left right k) (λ s2. then_ (saved n calls left s2) (λ x s3. then_ (saved n calls right s3) (λ y s4. gives (tree.choice t x y k) s4))) s1 w1
+      (choice_typed (frame_at s1) t left right k h.0.0 v.typed (typed_later l left (h.0.2, h.1.1)) (typed_later l right (h.0.3, h.1.2)))
+      (then_makes (saved_makes n calls left s1 w1 (typed_later l left (h.0.2, h.1.1)))
       (λ x s2 w2 l2 u. then_makes (saved_makes n calls right s2 w2 (typed_later l2 right (typed_later l right (h.0.3, h.1.2))))
       (λ y s3 w3 l3 q. gives_makes (record { typed = choice_typed (frame_at s3) t x y k h.0.0 (typed_later l3 t (typed_later l2 t v.typed)) (typed_later l3 x u.typed) q.typed; type = refl })))))
   saved_makes n calls (tree.cast to arg) s w h =

@@ -15,12 +15,12 @@ use Rattle.pieces.specs.Program.{ArrayTree}
 use Rattle.c_meaning.specs.PieceRuns.Pieces.{Frame, kind_in, kind_at}
 use Rattle.expand_runs.specs.Growing.{Begins}
 use Rattle.expand_runs.specs.Reading.{IsNumber}
-use Rattle.lower_runs.specs.OperatorWords.Words.{IsType}
-use Rattle.lower_runs.proofs.OperatorWords.Results.{word_of}
-use Rattle.lower_runs.proofs.OperatorWords.Resizing.{count_is}
-use Rattle.lower_runs.proofs.OperatorWords.Conversions.{converted_number, natural_below}
-use Rattle.lower_runs.specs.Suits.{scope_of}
-use Rattle.convert_runs.specs.LoweredConversions.Suiting.{PieceSuits}
+use Rattle.pass_runs.specs.LowerRuns.OperatorWords.Words.{IsType}
+use Rattle.pass_runs.proofs.LowerRuns.OperatorWords.Results.{word_of}
+use Rattle.pass_runs.proofs.LowerRuns.OperatorWords.Resizing.{count_is}
+use Rattle.pass_runs.proofs.LowerRuns.OperatorWords.Conversions.{converted_number, natural_below}
+use Rattle.pass_runs.specs.LowerRuns.Suits.{scope_of}
+use Rattle.pass_runs.specs.ConvertRuns.LoweredConversions.Suiting.{PieceSuits}
 use Rattle.typed_pieces.specs.Typed.{IsTyped, AreTyped, PieceTyped, PiecesTyped}
 use Rattle.typed_pieces.specs.Laws.{TypedPiecesSuit}
 use Rattle.typed_pieces.specs.Worlds.{HasArray}

@@ -11,8 +11,8 @@ use Rattle.c_meaning.specs.PieceRuns.Pieces.{Frame}
 use Rattle.c_meaning.specs.PieceRuns.Runs.{frame_of}
 use Rattle.c_expand.specs.Expansion.{expansion}
 use Rattle.expanded_programs.specs.Calls.Programs.{IsProgramSound}
-use Rattle.lower_runs.specs.Suits.{scope_of}
-use Rattle.convert_runs.specs.LoweredConversions.Suiting.{PiecesSuit}
+use Rattle.pass_runs.specs.LowerRuns.Suits.{scope_of}
+use Rattle.pass_runs.specs.ConvertRuns.LoweredConversions.Suiting.{PiecesSuit}
 use Rattle.typed_pieces.specs.Typed.{PiecesTyped}
 use Rattle.typed_pieces.specs.Operators.{PiecesOperate}
 use Rattle.typed_pieces.specs.Types.{ProgramHasTypes}

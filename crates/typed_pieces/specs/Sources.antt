@@ -6,7 +6,7 @@ use Rattle.c_token.specs.declared.token.TokenKind.TheVariants as k
 use Rattle.c_tree.specs.Terminals.{Terminal}
 use Rattle.c_tree.specs.Tree as tree
 use Rattle.c_tree.specs.Tree.{Tree, TargetTree, Trees, ActionTree, InitTree, InitTrees, ObjectTree, StmtTree, ElseTree, FirstTree, StmtTrees, ParamTree, FunctionTree, ItemTree, ProgramTree}
-use Rattle.lower_runs.specs.OperatorWords.Words.{IsType}
+use Rattle.pass_runs.specs.LowerRuns.OperatorWords.Words.{IsType}
 
 -- constants and casts
 abbrev mutual

@@ -17,8 +17,8 @@ use Rattle.c_expand.specs.Expressions as e
 use Rattle.c_expand.specs.Expressions.{Given, Callee, value_or_zero}
 use Rattle.expand_runs.specs.Sound.{Objects}
 use Rattle.expanded_programs.specs.Statements.Scopes.{Setting, Reach, IsScalar, IsArray}
-use Rattle.lower_runs.specs.OperatorWords.Words.{IsType}
-use Rattle.lower_runs.specs.Holding.{IsThere}
+use Rattle.pass_runs.specs.LowerRuns.OperatorWords.Words.{IsType}
+use Rattle.pass_runs.specs.LowerRuns.Holding.{IsThere}
 use Rattle.typed_pieces.specs.Typed.{IsTyped}
 use Rattle.typed_pieces.specs.Worlds.{World, Later, Knows, Makes, IsValue, HasArray, IsNoted, frame_at}
 

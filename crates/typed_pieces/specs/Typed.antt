@@ -7,10 +7,10 @@ use Rattle.pieces.specs.Trees.{PureTree, PureTrees, PieceTree, PieceTrees}
 use Rattle.pieces.specs.Kind.{kind}
 use Rattle.pieces.specs.Program.{ArrayTree}
 use Rattle.c_meaning.specs.PieceRuns.Pieces.{Frame}
-use Rattle.lower_runs.specs.Suits.{Suits, EachSuits, scope_of}
-use Rattle.convert_runs.specs.LoweredConversions.Suiting as scoped
-use Rattle.convert_runs.specs.LoweredConversions.Suiting.{PureSuits}
-use Rattle.lower_runs.specs.Holding.{none_hidden, IsThere}
+use Rattle.pass_runs.specs.LowerRuns.Suits.{Suits, EachSuits, scope_of}
+use Rattle.pass_runs.specs.ConvertRuns.LoweredConversions.Suiting as scoped
+use Rattle.pass_runs.specs.ConvertRuns.LoweredConversions.Suiting.{PureSuits}
+use Rattle.pass_runs.specs.LowerRuns.Holding.{none_hidden, IsThere}
 use Rattle.valid_trees.specs.ValidLowering.Proper.{LabelsFit}
 
 -- each node is of a type of C, which is that of the variable, of the array or of what the operator gives

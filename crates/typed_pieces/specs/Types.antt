@@ -5,7 +5,7 @@ use Rattle.c_value.specs.Values.{int_type, promoted}
 use Rattle.pieces.specs.Resolved.Core as core
 use Rattle.pieces.specs.Resolved.Core.{CoreTree, CoreTargetTree, CoreTrees, ArgumentTree, ArgumentTrees, CoreStmtTree, CoreStmtTrees, CoreElseTree, FileObjectTree, CoreObjectTree, CoreFunctionTree, CoreProgramTree}
 use Rattle.c_meaning.specs.CoreRuns.Kinds.{kind_of}
-use Rattle.lower_runs.specs.OperatorWords.Words.{IsType}
+use Rattle.pass_runs.specs.LowerRuns.OperatorWords.Words.{IsType}
 use Rattle.expanded_programs.specs.Statements.Each.{InStmts}
 use Rattle.valid_trees.specs.ValidLowering.Proper.{WordFits}
 

@@ -5,7 +5,7 @@ use Rattle.ir_core.specs.declared.body.Out.{Out}
 use Rattle.ir_core.specs.declared.body.Source.{Source}
 use Rattle.ir_core.specs.declared.body.Source.TheVariants as source
 use Rattle.ir_core.specs.Bodies.{OpTree}
-use Rattle.convert_runs.specs.Typed.{HasBits}
+use Rattle.pass_runs.specs.ConvertRuns.Typed.{HasBits}
 use Rattle.program_validity.specs.Widths.{is_width}
 use Rattle.program_validity.specs.Operands.{is_at}
 use Rattle.valid_trees.specs.Shapes.{FrameShape, words_in}

@@ -11,7 +11,7 @@ use Rattle.pieces.specs.Trees.{PieceTrees}
 use Rattle.pieces.specs.Program.{ArrayTree}
 use Rattle.passes.specs.Lowering.Blocks.{Scope, begun}
 use Rattle.passes.specs.Lowering.{last, lowered}
-use Rattle.convert_runs.specs.LoweredConversions.Suiting.{widths_of, PiecesSuit}
+use Rattle.pass_runs.specs.ConvertRuns.LoweredConversions.Suiting.{widths_of, PiecesSuit}
 use Rattle.valid_trees.specs.Shapes.{MemoryShape, FrameShape}
 use Rattle.valid_trees.specs.Trees.{TreeIsValid}
 use Rattle.valid_trees.specs.ValidLowering.Proper.{IsOfOperator, PiecesAreProper}

@@ -10,7 +10,7 @@ use Rattle.passes.specs.Conversion.{converted_sequence}
 use Rattle.passes.specs.Lowering.Blocks.{Scope, begun}
 use Rattle.passes.specs.Lowering.{last, lowered}
 use Rattle.flat_programs.specs.There.{SequenceThere}
-use Rattle.convert_runs.specs.LoweredConversions.Suiting.{widths_of, PiecesSuit}
+use Rattle.pass_runs.specs.ConvertRuns.LoweredConversions.Suiting.{widths_of, PiecesSuit}
 
 -- The variables that blocks set, and the memories that operations take, are there: what laying out takes for granted.
 abbrev pub NumberedIsThere : Type 0

@@ -30,7 +30,7 @@ use Rattle.c_expand.specs.declared.operators.Step.{Step}
 use Rattle.c_expand.specs.declared.operators.Step.TheVariants as st
 use Rattle.c_expand.specs.Callees.{callee_of, call_at, given_of}
 use Rattle.c_expand.specs.Chains.{link, links}
-use Rattle.c_expand.specs.Expressions.{expression, operands, targeted, may_be_unused, array_given, argument, discarded}
+use Rattle.c_expand.specs.Expressions.{expression, operands, targeted, array_given, argument, comma_left, discarded}
 use Rattle.c_expand.specs.Statements.{scalar_declared, initialised, filled, item_value, statement, statements, other_branch, tested, result_set, result_variable, action, changed, valued}
 use Rattle.c_expand.specs.declared.here.Here.{Here}
 use Rattle.c_expand.specs.Loops.{LoopTree, repeat_of, test_of}
@@ -163,8 +163,8 @@ operators::chosen-returns-clause-refused t c =
     ap core_of c.in-Choice.is ∙ (choice_core _ _ _ _ _ _ ∙ same_choice _ _ _ _ _ _ _ _ _ (sym c.deref.ensures) (sym c.deref-2.ensures) (sym c.deref-3.ensures)) in
     IfRefused-weaker c.selected.result _ _ (λ r h. choice_heavy (callee_of c.args.here) (call_at c.args.here) _ _ _ _ _ _ _ (stock c.args.work.now) seen _ _ _ c.in_ok-test.ensures.made h) c.selected.ensures.refused
 
-pub operators::linked-returns-in_err-discard-in-Comma-clause-refused : goal.operators::linked-returns-in_err-discard-in-Comma-clause-refused
-operators::linked-returns-in_err-discard-in-Comma-clause-refused t c = through _ c.in_err-discard-in-Comma.field-0.0 _ _ c.from_residual-in_err-discard-in-Comma.ensures.1 (λ y e. e) c.in_err-discard-in-Comma.ensures.refused (λ r h. as_heavy (λ (step : Step) s. link (callee_of c.args.here) (call_at c.args.here) step (pure_of c.args.part) s) _ _ _ _ c.in-Comma.is (heavy_at_once _ _ _ _ h))
+pub operators::linked-returns-in_err-comma_left-in-Comma-clause-refused : goal.operators::linked-returns-in_err-comma_left-in-Comma-clause-refused
+operators::linked-returns-in_err-comma_left-in-Comma-clause-refused t c = through _ c.in_err-comma_left-in-Comma.field-0.0 _ _ c.from_residual-in_err-comma_left-in-Comma.ensures.1 (λ y e. e) c.in_err-comma_left-in-Comma.ensures.refused (λ r h. as_heavy (λ (step : Step) s. link (callee_of c.args.here) (call_at c.args.here) step (pure_of c.args.part) s) _ _ _ _ c.in-Comma.is (heavy_at_once _ _ _ _ (heavy_as _ _ _ _ (ap (λ (l : Effects). comma_left (call_at c.args.here).file_variables (core_of c.in-Comma.left.now) (pure_of c.args.part) l (state_of (stock c.args.work.now))) c.effects_of-later.ensures) h)))
 
 pub operators::linked-returns-in_ok-unary-in-Unary-clause-made : goal.operators::linked-returns-in_ok-unary-in-Unary-clause-made
 operators::linked-returns-in_ok-unary-in-Unary-clause-made t c = as_made (λ (step : Step) s. link (callee_of c.args.here) (call_at c.args.here) step (pure_of c.args.part) s) _ _ _ _ _ c.in-Unary.is (given _ _ _ c.in_ok-unary-in-Unary.ensures)
@@ -184,11 +184,11 @@ operators::linked-returns-in-Assign-clause-made t c = IfOk-weaker c.assigned.res
 pub operators::linked-returns-in-Assign-clause-refused : goal.operators::linked-returns-in-Assign-clause-refused
 operators::linked-returns-in-Assign-clause-refused t c = IfRefused-weaker c.assigned.result _ _ (λ r h. as_heavy (λ (step : Step) s. link (callee_of c.args.here) (call_at c.args.here) step (pure_of c.args.part) s) _ _ _ _ c.in-Assign.is h) c.assigned.ensures.refused
 
-pub operators::linked-returns-in_ok-discard-in-Comma-clause-made : goal.operators::linked-returns-in_ok-discard-in-Comma-clause-made
-operators::linked-returns-in_ok-discard-in-Comma-clause-made t c = IfOk-weaker c.expression.result _ _ (λ v h. as_made (λ (step : Step) s. link (callee_of c.args.here) (call_at c.args.here) step (pure_of c.args.part) s) _ _ _ _ _ c.in-Comma.is (made_behind _ _ _ _ _ _ _ c.in_ok-discard-in-Comma.ensures.made h)) c.expression.ensures.made
+pub operators::linked-returns-in_ok-comma_left-in-Comma-clause-made : goal.operators::linked-returns-in_ok-comma_left-in-Comma-clause-made
+operators::linked-returns-in_ok-comma_left-in-Comma-clause-made t c = IfOk-weaker c.expression.result _ _ (λ v h. as_made (λ (step : Step) s. link (callee_of c.args.here) (call_at c.args.here) step (pure_of c.args.part) s) _ _ _ _ _ c.in-Comma.is (made_behind _ _ _ _ _ _ _ (made_as _ _ _ _ _ (ap (λ (l : Effects). comma_left (call_at c.args.here).file_variables (core_of c.in-Comma.left.now) (pure_of c.args.part) l (state_of (stock c.args.work.now))) c.effects_of-later.ensures) c.in_ok-comma_left-in-Comma.ensures.made) h)) c.expression.ensures.made
 
-pub operators::linked-returns-in_ok-discard-in-Comma-clause-refused : goal.operators::linked-returns-in_ok-discard-in-Comma-clause-refused
-operators::linked-returns-in_ok-discard-in-Comma-clause-refused t c = IfRefused-weaker c.expression.result _ _ (λ r h. as_heavy (λ (step : Step) s. link (callee_of c.args.here) (call_at c.args.here) step (pure_of c.args.part) s) _ _ _ _ c.in-Comma.is (heavy_behind _ _ _ _ _ _ c.in_ok-discard-in-Comma.ensures.made h)) c.expression.ensures.refused
+pub operators::linked-returns-in_ok-comma_left-in-Comma-clause-refused : goal.operators::linked-returns-in_ok-comma_left-in-Comma-clause-refused
+operators::linked-returns-in_ok-comma_left-in-Comma-clause-refused t c = IfRefused-weaker c.expression.result _ _ (λ r h. as_heavy (λ (step : Step) s. link (callee_of c.args.here) (call_at c.args.here) step (pure_of c.args.part) s) _ _ _ _ c.in-Comma.is (heavy_behind _ _ _ _ _ _ (made_as _ _ _ _ _ (ap (λ (l : Effects). comma_left (call_at c.args.here).file_variables (core_of c.in-Comma.left.now) (pure_of c.args.part) l (state_of (stock c.args.work.now))) c.effects_of-later.ensures) c.in_ok-comma_left-in-Comma.ensures.made) h)) c.expression.ensures.refused
 
 pub expressions::element_of-returns-in_err-subscripts-clause-refused : goal.expressions::element_of-returns-in_err-subscripts-clause-refused
 expressions::element_of-returns-in_err-subscripts-clause-refused t c = through _ c.in_err-subscripts.field-0.0 _ _ c.from_residual-in_err-subscripts.ensures.1 (λ y e. e) c.in_err-subscripts.ensures.refused (λ r h. heavy_at_once _ _ _ _ h)
@@ -325,8 +325,8 @@ expressions::expression-chain-preserved t c =
     ∙ ap (λ (e : CoreExpr). core.comma (core_of c.deref-part-in-Comma.result.now) (core_of e)) (sym c.deref-in-Comma-2.ensures))) in
     record {
       no_deeper = omega (arith, c.chain.invariant.no_deeper, ap size-CoreExpr c.deref-part-in-Comma.ensures, ap size-CoreExpr c.in-Comma.is, sized-Comma c.in-Comma.left c.in-Comma.right);
-      leads = chain_turn (callee_of c.args.here) (call_at c.args.here) _ _ (st.Comma c.may_be_unused-unused.result c.deref-in-Comma-2.result) _ _ _ _ _
-          ((ap (λ (e : CoreTree). expression (callee_of c.args.here) (call_at c.args.here) e (state_of (stock c.chain.work))) seen) ∙ comma_is (callee_of c.args.here) (call_at c.args.here) _ _ _ _ (c.may_be_unused-unused.ensures ∙ ap (λ (e : CoreExpr). may_be_unused (core_of e)) (c.deref-in-Comma.ensures ∙ sym c.deref-part-in-Comma.ensures)))
+      leads = chain_turn (callee_of c.args.here) (call_at c.args.here) _ _ (st.Comma c.deref-in-Comma.result c.deref-in-Comma-2.result) _ _ _ _ _
+          ((ap (λ (e : CoreTree). expression (callee_of c.args.here) (call_at c.args.here) e (state_of (stock c.chain.work))) seen) ∙ comma_is (callee_of c.args.here) (call_at c.args.here) (core_of c.deref-part-in-Comma.result.now) (core_of c.deref-in-Comma-2.result.now) (core_of c.deref-in-Comma.result.now) (state_of (stock c.chain.work)) (ap core_of (c.deref-in-Comma.ensures ∙ sym c.deref-part-in-Comma.ensures)))
           c.in_ok-push-in-Comma.ensures.items c.chain.invariant.leads;
     }
 

@@ -15,7 +15,7 @@ use Rattle.pieces.specs.Program.{ArrayTree, ExpandedTree}
 use Rattle.piece_making.specs.Making.{variable_number}
 use Rattle.c_meaning.specs.PieceRuns.Runs as pr
 use Rattle.c_meaning.specs.PieceRuns.Runs.{frame_of}
-use Rattle.lower_runs.specs.Holding.{IsThere}
+use Rattle.pass_runs.specs.LowerRuns.Holding.{IsThere}
 use Rattle.c_elaborate.specs.Homes.{Each}
 use Rattle.c_elaborate.proofs.ElaborateRuns.Lists.{each-append, each-get}
 use Rattle.c_elaborate.proofs.ElaborateRuns.Sizes.{left_nil}
@@ -26,9 +26,9 @@ use Rattle.expanded_programs.specs.Outlines.{keeps_from, kept_kinds, files_of, h
 use Rattle.expanded_programs.proofs.Outlines.{call_part, result_part}
 use Rattle.expanded_programs.proofs.TopStores.{params, kept_count, outlined, made, later_result, kept_types, params_types, all_arrays}
 use Rattle.expanded_pieces.proofs.Whole.{checked_fit}
-use Rattle.elaborated_programs.proofs.Files.{constants_filled}
-use Rattle.elaborated_programs.proofs.Inputs.{inputs_there}
-use Rattle.elaborated_programs.proofs.Whole.{elaborated_sound}
+use Rattle.expanded_programs.proofs.ElaboratedPrograms.Files.{constants_filled}
+use Rattle.expanded_programs.proofs.ElaboratedPrograms.Inputs.{inputs_there}
+use Rattle.expanded_programs.proofs.ElaboratedPrograms.Whole.{elaborated_sound}
 use Rattle.timed_pieces.specs.StartedWords.Contents.{ResultIsThere, KeptAreThere}
 use Rattle.timed_pieces.specs.StartedWords.FirstWords.{Differ, AreApart, FillVariables, FillHosts, HasContents, HasFirstContents}
 use Rattle.compile_steps.specs.BegunPrograms.{HasEnds, FillKept, FilesFill, InputsFill, SoundProgramsBegin, SoundInputsFill, CheckedProgramsBegin, CheckedInputsFill}

@@ -16,7 +16,7 @@ use Rattle.c_meaning.specs.PieceRuns.Runs as pr
 use Rattle.c_meaning.specs.PieceRuns.Runs.{frame_of, type_in}
 use Rattle.c_expand.specs.Expansion as ex
 use Rattle.c_expand.specs.Expansion.{is_array, is_kept}
-use Rattle.lower_runs.specs.Holding.{IsThere}
+use Rattle.pass_runs.specs.LowerRuns.Holding.{IsThere}
 use Rattle.expand_runs.specs.Laws.{AreWords, FillObjects, kept_objects}
 use Rattle.expanded_programs.specs.Outlines.{keeps_from, kept_kinds, tops_from, scalar_kinds}
 use Rattle.expanded_programs.proofs.Entries.{HasFrom, from_first, from_rest}

@@ -16,7 +16,7 @@ use Rattle.ir_core.specs.Bodies.{Shapes}
 use Rattle.ir_core.specs.Trees.{BlockTree, SequenceTree, sequence, PartTrees, no_part, more_parts, ShapeTree}
 use Rattle.passes.specs.Lowering.Blocks.{begun}
 use Rattle.passes.specs.Lowering.{scope_of, last}
-use Rattle.lower_runs.proofs.LowerControl.Rests.{first_of, last_rest, lowered_rest}
+use Rattle.pass_runs.proofs.LowerRuns.LowerControl.Rests.{first_of, last_rest, lowered_rest}
 use Rattle.passes.specs.Numbering as numbering
 use Rattle.passes.specs.Numbering.{numbered_sequence}
 use Rattle.passes.specs.Conversion.Merging.{Branches, branches_of, branched, is_taken, Choice, choices, with_selection, with_selections, merged, joined, opened}

@@ -1,5 +1,5 @@
 -- What expressions become is counted, where calls are.
-use Rattle.std.proofs.Common.{Bool, ◌&&◌, List, [], ◌∷◌, ◌++◌, Option, if◌then◌else◌}
+use Rattle.std.proofs.Common.{ℕ, Bool, ◌&&◌, List, [], ◌∷◌, ◌++◌, Option, if◌then◌else◌}
 use Rattle.hls_base.specs.declared.place.Place.{Place}
 use Rattle.hls_base.specs.declared.number.VarId.{VarId}
 use Rattle.c_token.specs.declared.ctype.CType.{CType}
@@ -16,7 +16,7 @@ use Rattle.piece_making.specs.Making.{State, Part, gives, then_, emit, fresh, se
 use Rattle.piece_making.specs.Saving.{save, is_logical}
 use Rattle.piece_making.specs.Calls.{Call, array}
 use Rattle.piece_making.specs.Assigning.{Change, change, store_at, store, assigned, bumped, bumped_behind, apply, new_value, target_read, one, step}
-use Rattle.c_expand.specs.Expressions.{Given, Callee, value_given, may_be_unused, set_unused, discarded, value_or_zero, arm, decided, to_bool, same, fork_of, is_or, forked, operated, chosen, expression, operands, targeted, argument, arguments}
+use Rattle.c_expand.specs.Expressions.{Given, Callee, value_given, is_call, may_be_unused, set_unused, discarded, comma_left, value_or_zero, arm, decided, to_bool, same, fork_of, is_or, forked, operated, chosen, expression, operands, targeted, argument, arguments}
 use Rattle.expand_runs.specs.Counting.{IsCounted, CalleesCount}
 use Rattle.expand_runs.proofs.PieceCounts.Parts.{counted_gives, counted_then, counted_if, counted_emit, counted_inside, counted_fresh, counted_own, counted_save}
 
@@ -103,6 +103,12 @@ bumped_counted c t post s = counted_if post (bumped_behind c t s) (assigned c t 
 pub discarded_counted : (b : Bool) (x : PureTree) (s : State) → IsCounted s (discarded b x s)
 discarded_counted b x s = counted_if b (gives tt s) (set_unused x s) s (counted_gives tt s) (counted_then s (set_own (kind x) x s) (λ own s1. gives tt s1) (counted_own (kind x) x s) (counted_gives _ _))
 
+comma_left_counted : (n : ℕ) (left : CoreTree) (x : PureTree) (later : Effects) (s : State) → IsCounted s (comma_left n left x later s)
+comma_left_counted n left x later s =
+    let y = save n x later s in
+    counted_if (is_call left) (gives tt s) (then_ y (λ z s1. discarded (may_be_unused left) z s1)) s (counted_gives tt s)
+    (counted_then s y (λ z s1. discarded (may_be_unused left) z s1) (counted_save n x later s) (discarded_counted (may_be_unused left) y.value y.state))
+
 -- ---- expressions
 
 module _ (g : Callee) (c : Call) (callees : CalleesCount g c) where
@@ -143,9 +149,9 @@ module _ (g : Callee) (c : Call) (callees : CalleesCount g c) where
         counted_then s t (λ t s1. bumped c t post s1) (target_behind cell subscripts k place no_effects (step up) at s (operands_counted subscripts no_effects [] s)) (bumped_counted c t.value post t.state)
     expression_counted (core.comma left right) s =
         let x = expression g c left s in
-        let u = discarded (may_be_unused left) x.value x.state in
-        counted_then s x (λ x s1. then_ (discarded (may_be_unused left) x s1) (λ u s2. expression g c right s2)) (expression_counted left s)
-        (counted_then x.state u (λ u s2. expression g c right s2) (discarded_counted (may_be_unused left) x.value x.state) (expression_counted right u.state))
+        let u = comma_left c.file_variables left x.value (effects right) x.state in
+        counted_then s x (λ x s1. then_ (comma_left c.file_variables left x (effects right) s1) (λ u s2. expression g c right s2)) (expression_counted left s)
+        (counted_then x.state u (λ u s2. expression g c right s2) (comma_left_counted c.file_variables left x.value (effects right) x.state) (expression_counted right u.state))
 
     operands_counted : (xs : CoreTrees) (later : Effects) (before : List PureTree) (s : State) → IsCounted s (operands g c xs later before s)
     operands_counted core.none later before s = counted_gives before s

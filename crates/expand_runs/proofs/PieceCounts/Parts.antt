@@ -1,5 +1,5 @@
 -- Parts one after another, of which each is counted.
-use Rattle.std.proofs.Common.{ℕ, Bool, true, false, ◌&&◌, List, [], ◌∷◌, ◌++◌, refl, ap₂, arith, if◌then◌else◌, Option, Some, None}
+use Rattle.std.proofs.Common.{ℕ, Bool, true, false, ◌&&◌, ◌||◌, List, [], ◌∷◌, ◌++◌, refl, ap₂, arith, if◌then◌else◌, Option, Some, None}
 use Rattle.std.specs.Prelude.{nat_lt}
 use Rattle.std.proofs.lemmas.List.{length-append}
 use Rattle.hls_base.specs.declared.number.ArrayId.{ArrayId}
@@ -12,7 +12,7 @@ use Rattle.piece_making.specs.declared.work.Slot.{Slot}
 use Rattle.piece_making.specs.declared.effects.Effects.{Effects}
 use Rattle.piece_making.specs.Acting.{spoils}
 use Rattle.piece_making.specs.Making.{State, Part, gives, then_, emit, declared, inside, fresh, fresh_result, set_own, add_array, new_slot, note_array, next_call, next_loop}
-use Rattle.piece_making.specs.Saving.{saved, all_saved, may_skip_element, save}
+use Rattle.piece_making.specs.Saving.{has_element, is_logical, saved, all_saved, saved_binary, saved_choice, save}
 use Rattle.expand_runs.specs.Counting.{IsCounted}
 
 pub counted_gives : {A : Type 0} (x : A) (s : State) → IsCounted s (gives x s)
@@ -94,19 +94,21 @@ mutual
   counted_saved n calls (tree.unary op arg k at) s = counted_then s (saved n calls arg s) (λ x s1. gives (tree.unary op x k at) s1) (counted_saved n calls arg s) (counted_gives _ _)
   counted_saved n calls (tree.binary op left right k at) s =
       let x = saved n calls left s in
-      let whole = tree.binary op left right k at in
-      counted_if (may_skip_element whole) (set_own (kind whole) whole s) (then_ (saved n calls left s) (λ x1 s1. then_ (saved n calls right s1) (λ y s2. gives (tree.binary op x1 y k at) s2))) s (counted_own (kind whole) whole s)
-      (counted_then s x (λ x1 s1. then_ (saved n calls right s1) (λ y s2. gives (tree.binary op x1 y k at) s2)) (counted_saved n calls left s)
-      (counted_then x.state (saved n calls right x.state) (λ y s2. gives (tree.binary op x.value y k at) s2) (counted_saved n calls right x.state) (counted_gives _ _)))
+      let y = saved n calls right x.state in
+      let whole = tree.binary op x.value right k at in
+      let next = λ (y1 : PureTree) (s2 : State). gives (tree.binary op x.value y1 k at) s2 in
+      counted_then s x (λ x1 s1. saved_binary op k at x1 right (saved n calls right) s1) (counted_saved n calls left s)
+      (counted_if (is_logical op && has_element right) (set_own (kind whole) whole x.state) (then_ y next) x.state (counted_own (kind whole) whole x.state)
+      (counted_then x.state y next (counted_saved n calls right x.state) (counted_gives _ _)))
   counted_saved n calls (tree.choice test left right k) s =
       let t = saved n calls test s in
       let x = saved n calls left t.state in
       let y = saved n calls right x.state in
-      let whole = tree.choice test left right k in
-      let next = λ (t1 : PureTree) (s1 : State). then_ (saved n calls left s1) (λ x1 s2. then_ (saved n calls right s2) (λ y1 s3. gives (tree.choice t1 x1 y1 k) s3)) in
-      counted_if (may_skip_element whole) (set_own (kind whole) whole s) (then_ t next) s (counted_own (kind whole) whole s)
-      (counted_then s t next (counted_saved n calls test s)
-      (counted_then t.state x (λ x1 s2. then_ (saved n calls right s2) (λ y1 s3. gives (tree.choice t.value x1 y1 k) s3)) (counted_saved n calls left t.state)
+      let whole = tree.choice t.value left right k in
+      let next = λ (x1 : PureTree) (s2 : State). then_ (saved n calls right s2) (λ y1 s3. gives (tree.choice t.value x1 y1 k) s3) in
+      counted_then s t (λ t1 s1. saved_choice k t1 left right (saved n calls left) (saved n calls right) s1) (counted_saved n calls test s)
+      (counted_if (has_element left || has_element right) (set_own (kind whole) whole t.state) (then_ x next) t.state (counted_own (kind whole) whole t.state)
+      (counted_then t.state x next (counted_saved n calls left t.state)
       (counted_then x.state y (λ y1 s3. gives (tree.choice t.value x.value y1 k) s3) (counted_saved n calls right x.state) (counted_gives _ _))))
   counted_saved n calls (tree.cast to arg) s = counted_then s (saved n calls arg s) (λ x s1. gives (tree.cast to x) s1) (counted_saved n calls arg s) (counted_gives _ _)
 

@@ -17,8 +17,8 @@ use Rattle.piece_making.specs.Leaving.{is_empty}
 use Rattle.piece_making.specs.Objects.{local_array, array_like, array_weight}
 use Rattle.piece_making.specs.Calls.{Call}
 use Rattle.piece_making.specs.Assigning.{step, one, apply}
-use Rattle.c_expand.specs.Expressions.{Callee, expression, targeted, discarded}
-use Rattle.c_expand.specs.Statements.{marked, valued, changed, action, actions, item_value, filled, initialised, scalar_declared, declared_as, tested, stepped, loop_body, repeat, result_variable, result_set, returned, branch, statement, other_branch, statements, is_call, subscripts_at}
+use Rattle.c_expand.specs.Expressions.{Callee, expression, targeted, discarded, is_call}
+use Rattle.c_expand.specs.Statements.{marked, valued, changed, action, actions, item_value, filled, initialised, scalar_declared, declared_as, tested, stepped, loop_body, repeat, result_variable, result_set, returned, branch, statement, other_branch, statements, subscripts_at}
 use Rattle.expand_runs.specs.Counting.{IsCounted, CalleesCount, IsUnlabelled, ElseUnlabelled, AreUnlabelled}
 use Rattle.expand_runs.proofs.PieceCounts.Parts.{counted_gives, counted_then, counted_if, counted_emit, counted_declared, counted_inside, counted_array, counted_note, counted_loop}
 use Rattle.expand_runs.proofs.PieceCounts.Expressions.{expression_counted, target_counted, apply_counted, discarded_counted}

@@ -17,7 +17,7 @@ use Rattle.piece_making.specs.Making.{State, Part, Inner, gives, then_, emit, in
 use Rattle.piece_making.specs.Saving.{save, is_logical}
 use Rattle.piece_making.specs.Calls.{Call, point_in}
 use Rattle.piece_making.specs.Assigning.{step}
-use Rattle.c_expand.specs.Expressions.{Given, Callee, may_be_unused, set_unused, discarded, value_or_zero, arm, decided, to_bool, same, fork_of, is_or, forked, operated, chosen, expression, operands, targeted, argument, arguments}
+use Rattle.c_expand.specs.Expressions.{Given, Callee, is_call, may_be_unused, set_unused, discarded, comma_left, value_or_zero, arm, decided, to_bool, same, fork_of, is_or, forked, operated, chosen, expression, operands, targeted, argument, arguments}
 use Rattle.expanded_pieces.specs.ApartPoints.Apart.{AreApart}
 use Rattle.expanded_pieces.specs.ApartPoints.Points.{all_points}
 use Rattle.expanded_pieces.specs.ApartPoints.Places.{places, target_places, all_places, given_places, argument_places}
@@ -38,6 +38,11 @@ unused_quiet x s = quiet_then (set_own (kind x) x s) _ (own_quiet (kind x) x s) 
 
 pub discarded_quiet : (b : Bool) (x : PureTree) → QuietThere (discarded b x)
 discarded_quiet b x s = quiet_if b (gives tt s) (set_unused x s) refl (unused_quiet x s)
+
+pub comma_left_quiet : (low : ℕ) (left : CoreTree) (x : PureTree) (later : Effects) → QuietThere (comma_left low left x later)
+comma_left_quiet low left x later s =
+    quiet_if (is_call left) (gives tt s) (then_ (save low x later s) (λ y s1. discarded (may_be_unused left) y s1)) refl
+    (quiet_then (save low x later s) _ (save_quiet low x later s) (λ y s1. discarded_quiet (may_be_unused left) y s1))
 
 pub arm_differs_end : point.Arm ≢ point.End
 arm_differs_end e = cc
@@ -196,8 +201,8 @@ module _ (c : Call) where
       expression_stands (core.comma left right) a s =
           let parts = split (places left) (places right) a in
           let x = expression g c left s in
-          let u = discarded (may_be_unused left) x.value x.state in
-          stands_both x _ c.path (places left) (places right) a (expression_stands left parts.left s) (stands_behind u _ c.path (places right) (discarded_quiet (may_be_unused left) x.value x.state) (expression_stands right parts.right u.state))
+          let u = comma_left c.file_variables left x.value (effects right) x.state in
+          stands_both x _ c.path (places left) (places right) a (expression_stands left parts.left s) (stands_behind u _ c.path (places right) (comma_left_quiet c.file_variables left x.value (effects right) x.state) (expression_stands right parts.right u.state))
 
       pub operands_stand : (xs : CoreTrees) (later : Effects) (before : List PureTree) → AreApart (all_places xs) → StandsThere (all_places xs) (operands g c xs later before)
       operands_stand core.none later before a s = stand_none c.path

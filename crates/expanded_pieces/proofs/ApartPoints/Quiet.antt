@@ -1,5 +1,5 @@
 -- Parts that make no points, and parts whose points stand at places of the call.
-use Rattle.std.proofs.Common.{◌≡◌, ◌∙◌, ℕ, Bool, true, false, ◌&&◌, refl, sym, ap, ap₂, subst, append_assoc, append-nil, List, [], ◌∷◌, ◌++◌, Option, Some, None, if◌then◌else◌}
+use Rattle.std.proofs.Common.{◌≡◌, ◌∙◌, ℕ, Bool, true, false, ◌&&◌, ◌||◌, refl, sym, ap, ap₂, subst, append_assoc, append-nil, List, [], ◌∷◌, ◌++◌, Option, Some, None, if◌then◌else◌}
 use Rattle.std.specs.Prelude.{nat_lt}
 use Rattle.hls_base.specs.declared.place.Place.{Place}
 use Rattle.hls_base.specs.declared.number.VarId.{VarId}
@@ -16,7 +16,7 @@ use Rattle.piece_making.specs.declared.work.Slot.{Slot}
 use Rattle.piece_making.specs.Acting.{spoils}
 use Rattle.piece_making.specs.Calls.{Call, variable, array}
 use Rattle.piece_making.specs.Making.{State, Part, gives, then_, emit, inside, inside_switch, label, fresh, fresh_result, add_array, new_slot, note_array, next_call, next_loop, declared, set_own}
-use Rattle.piece_making.specs.Saving.{saved, all_saved, saved_if, may_skip_element, save}
+use Rattle.piece_making.specs.Saving.{has_element, is_logical, saved, all_saved, saved_if, save}
 use Rattle.piece_making.specs.Assigning.{Change, store_at, store, apply, assigned, bumped, bumped_behind, new_value, target_read, one}
 use Rattle.expanded_pieces.specs.ApartPoints.Apart.{AreApart}
 use Rattle.expanded_pieces.specs.ApartPoints.Points.{all_points, own_points}
@@ -144,13 +144,13 @@ mutual
   saved_quiet low calls (tree.element array subscripts k at) s = quiet_then (all_saved low calls subscripts [] s) _ (all_quiet low calls subscripts [] s) (λ given s1. own_quiet k (tree.element array (row given) k at) s1)
   saved_quiet low calls (tree.unary op arg k at) s = quiet_then (saved low calls arg s) _ (saved_quiet low calls arg s) (λ x s1. refl)
   saved_quiet low calls (tree.binary op left right k at) s =
-      saved_if_quiet (may_skip_element (tree.binary op left right k at)) (tree.binary op left right k at)
-      (λ s0. then_ (saved low calls left s0) (λ x s1. then_ (saved low calls right s1) (λ y s2. gives (tree.binary op x y k at) s2)))
-      (λ s0. quiet_then (saved low calls left s0) _ (saved_quiet low calls left s0) (λ x s1. quiet_then (saved low calls right s1) _ (saved_quiet low calls right s1) (λ y s2. refl))) s
+      quiet_then (saved low calls left s) _ (saved_quiet low calls left s)
+      (λ x s1. saved_if_quiet (is_logical op && has_element right) (tree.binary op x right k at) (λ s2. then_ (saved low calls right s2) (λ y s3. gives (tree.binary op x y k at) s3))
+      (λ s2. quiet_then (saved low calls right s2) _ (saved_quiet low calls right s2) (λ y s3. refl)) s1)
   saved_quiet low calls (tree.choice test left right k) s =
-      saved_if_quiet (may_skip_element (tree.choice test left right k)) (tree.choice test left right k)
-      (λ s0. then_ (saved low calls test s0) (λ t s1. then_ (saved low calls left s1) (λ x s2. then_ (saved low calls right s2) (λ y s3. gives (tree.choice t x y k) s3))))
-      (λ s0. quiet_then (saved low calls test s0) _ (saved_quiet low calls test s0) (λ t s1. quiet_then (saved low calls left s1) _ (saved_quiet low calls left s1) (λ x s2. quiet_then (saved low calls right s2) _ (saved_quiet low calls right s2) (λ y s3. refl)))) s
+      quiet_then (saved low calls test s) _ (saved_quiet low calls test s)
+      (λ t s1. saved_if_quiet (has_element left || has_element right) (tree.choice t left right k) (λ s2. then_ (saved low calls left s2) (λ x s3. then_ (saved low calls right s3) (λ y s4. gives (tree.choice t x y k) s4)))
+      (λ s2. quiet_then (saved low calls left s2) _ (saved_quiet low calls left s2) (λ x s3. quiet_then (saved low calls right s3) _ (saved_quiet low calls right s3) (λ y s4. refl))) s1)
   saved_quiet low calls (tree.cast to arg) s = quiet_then (saved low calls arg s) _ (saved_quiet low calls arg s) (λ x s1. refl)
 
   all_quiet : (low : ℕ) (calls : Bool) (xs : PureTrees) (before : List PureTree) → QuietThere (all_saved low calls xs before)

@@ -18,8 +18,8 @@ use Rattle.piece_making.specs.Leaving.{is_empty}
 use Rattle.piece_making.specs.Objects.{local_array, array_weight, array_like}
 use Rattle.piece_making.specs.Calls.{Call, point_in}
 use Rattle.piece_making.specs.Assigning.{step, one}
-use Rattle.c_expand.specs.Expressions.{Callee, expression, targeted}
-use Rattle.c_expand.specs.Statements.{marked, is_call, valued, changed, action, actions, subscripts_at, item_value, filled, initialised, scalar_declared, declared_as, declare, tested, stepped, loop_body, repeat, result_variable, result_set, returned, branch, labelled, statement, other_branch, statements}
+use Rattle.c_expand.specs.Expressions.{Callee, expression, targeted, is_call}
+use Rattle.c_expand.specs.Statements.{marked, valued, changed, action, actions, subscripts_at, item_value, filled, initialised, scalar_declared, declared_as, declare, tested, stepped, loop_body, repeat, result_variable, result_set, returned, branch, labelled, statement, other_branch, statements}
 use Rattle.expanded_pieces.specs.ApartPoints.Apart.{AreApart}
 use Rattle.expanded_pieces.specs.ApartPoints.Points.{all_points, own_points}
 use Rattle.expanded_pieces.specs.ApartPoints.Places.{places, target_places, optional_places, item_places, init_places, action_places, actions_places, stmt_places, else_places, body_places}

@@ -17,8 +17,8 @@ use Rattle.piece_making.specs.Making.{State, Part, gives, emit}
 use Rattle.piece_making.specs.Objects.{local_array}
 use Rattle.piece_making.specs.Calls.{Call, point_in}
 use Rattle.piece_making.specs.Assigning.{Change, step, one, apply, new_value, target_read}
-use Rattle.c_expand.specs.Expressions.{Callee}
-use Rattle.c_expand.specs.Statements.{marked, valued, changed, action, actions, item_value, filled, initialised, scalar_declared, declared_as, declare, tested, stepped, result_variable, result_set, returned, is_call, subscripts_at}
+use Rattle.c_expand.specs.Expressions.{Callee, is_call}
+use Rattle.c_expand.specs.Statements.{marked, valued, changed, action, actions, item_value, filled, initialised, scalar_declared, declared_as, declare, tested, stepped, result_variable, result_set, returned, subscripts_at}
 use Rattle.expanded_pieces.proofs.Expressions.{CalleesFit}
 use Rattle.expanded_pieces.specs.BegunPieces.Reads.{ReadsNone, EachReadsNone}
 use Rattle.expanded_pieces.proofs.BegunPieces.Parts.{There, any, then_there, gives_begun, emit_begun, set_begun, put_begun, mark_begun, array_begun, note_begun, declared_begun, if_begun}

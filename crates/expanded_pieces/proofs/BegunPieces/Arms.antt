@@ -8,7 +8,7 @@ use Rattle.pieces.specs.Trees as tree
 use Rattle.pieces.specs.Trees.{PieceTree, piece_row}
 use Rattle.piece_making.specs.Making.{State, Part, then_, emit, inside, inside_switch, label}
 use Rattle.passes.specs.Lowering.{is_named, piece_count}
-use Rattle.lower_runs.specs.Suiting.{TargetsThere}
+use Rattle.pass_runs.specs.LowerRuns.Suiting.{TargetsThere}
 use Rattle.expanded_pieces.proofs.Arms.{named_append, named_first, named_second}
 use Rattle.expanded_pieces.proofs.BegunPieces.Hiding.{same_number}
 use Rattle.expanded_pieces.proofs.BegunPieces.Ends.{AllEnds, IsNot, all_ends, ends_append, own_ends, own_all}

@@ -22,7 +22,7 @@ use Rattle.c_expand.specs.Expressions as given
 use Rattle.c_expand.specs.Expressions.{Given, Callee}
 use Rattle.c_expand.specs.Statements.{statements}
 use Rattle.c_expand.specs.Expansion.{parameter, parameters, locals, homes_for, end_of, run_through, within, value_of, opened, opened_as, calls, outermost, top_call}
-use Rattle.lower_runs.specs.Holding.{none_hidden}
+use Rattle.pass_runs.specs.LowerRuns.Holding.{none_hidden}
 use Rattle.expanded_pieces.specs.Jumps.{AllJumpsFit}
 use Rattle.expanded_pieces.proofs.Expressions.{CalleesFit}
 use Rattle.expanded_pieces.proofs.Calls.{any_object, calls_fit}

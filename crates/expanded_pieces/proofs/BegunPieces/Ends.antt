@@ -7,8 +7,8 @@ use Rattle.pieces.specs.Trees as tree
 use Rattle.pieces.specs.Trees.{PieceTree, PieceTrees, piece_row}
 use Rattle.ir_layout.specs.WellFormed.{has_number}
 use Rattle.passes.specs.Lowering.{is_named}
-use Rattle.lower_runs.specs.LoweredTrees.Fitting.{ends_in, ends_before_arm}
-use Rattle.lower_runs.specs.Suiting.{IsApart, AreApart}
+use Rattle.pass_runs.specs.LowerRuns.LoweredTrees.Fitting.{ends_in, ends_before_arm}
+use Rattle.pass_runs.specs.LowerRuns.Suiting.{IsApart, AreApart}
 
 -- something of the number of each call that ends in a piece
 abbrev mutual

@@ -9,7 +9,7 @@ use Rattle.c_value.specs.Values.{int_type}
 use Rattle.pieces.specs.declared.piece.CallId.{CallId}
 use Rattle.pieces.specs.Trees as tree
 use Rattle.pieces.specs.Trees.{PureTree, PieceTrees, piece_row}
-use Rattle.lower_runs.specs.Holding.{none_hidden}
+use Rattle.pass_runs.specs.LowerRuns.Holding.{none_hidden}
 use Rattle.expanded_pieces.specs.BegunPieces.Beginning.{BeginsWell}
 use Rattle.expanded_pieces.specs.BegunPieces.Points.{begin_points, dropped_points, begins_at, MarksDiffer}
 

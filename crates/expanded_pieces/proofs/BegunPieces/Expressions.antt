@@ -22,9 +22,9 @@ use Rattle.piece_making.specs.Saving.{save, is_logical}
 use Rattle.piece_making.specs.Calls.{Call, home_of, read_of, scalar, variable, point_in}
 use Rattle.piece_making.specs.Assigning.{Change, change, store_at, store, assigned, bumped, bumped_behind, new_value, computed, read_at, target_read, one, step}
 use Rattle.c_expand.specs.Expressions as given
-use Rattle.c_expand.specs.Expressions.{Given, Callee, value_given, may_be_unused, set_unused, discarded, value_or_zero, arm, decided, to_bool, same, fork_of, is_or, forked, operated, chosen, expression, operands, targeted, argument, arguments}
-use Rattle.lower_runs.specs.LoweredTrees.Fitting.{PiecesFit}
-use Rattle.lower_runs.specs.Suiting.{shut, with_hidden}
+use Rattle.c_expand.specs.Expressions.{Given, Callee, value_given, is_call, may_be_unused, set_unused, discarded, comma_left, value_or_zero, arm, decided, to_bool, same, fork_of, is_or, forked, operated, chosen, expression, operands, targeted, argument, arguments}
+use Rattle.pass_runs.specs.LowerRuns.LoweredTrees.Fitting.{PiecesFit}
+use Rattle.pass_runs.specs.LowerRuns.Suiting.{shut, with_hidden}
 use Rattle.expanded_pieces.proofs.Parts.{FitsThere}
 use Rattle.expanded_pieces.proofs.Statements.{nothing}
 use Rattle.expanded_pieces.proofs.Expressions.{CalleesFit, expression_fits}
@@ -197,6 +197,11 @@ module _ (kept : Point → Bool) (hidden : ℕ → Bool) (c : Call) where
   pub discarded_begun : (b : Bool) (x : PureTree) → Reads x → There kept hidden c any (discarded b x)
   discarded_begun b x v s r = if_begun kept hidden s.calls b (gives tt s) (set_unused x s) s (gives_begun kept hidden s.calls tt tt s) (unused_begun x v s r)
 
+  comma_left_begun : (low : ℕ) (left : CoreTree) (x : PureTree) (later : Effects) → Reads x → There kept hidden c any (comma_left low left x later)
+  comma_left_begun low left x later v s r =
+      if_begun kept hidden s.calls (is_call left) (gives tt s) (then_ (save low x later s) (λ y s1. discarded (may_be_unused left) y s1)) s (gives_begun kept hidden s.calls tt tt s)
+      (then_there kept hidden c s r _ _ (save_begun kept hidden c low x later v s r) (λ y w s1 r1. discarded_begun (may_be_unused left) y w s1 r1))
+
 -- a target whose subscripts read nothing that is hidden
 abbrev pub TargetReads : (ℕ → Bool) → Change → Type 0
 TargetReads hidden t = EachReadsNone hidden t.subscripts
@@ -229,7 +234,7 @@ module _ (kept : Point → Bool) (g : Callee) (callees : CalleesBegin kept g) (f
     expression_begun (core.bump left up post at) hidden s r = then_there kept hidden c s r _ _ (target_begun left no_effects (step up) at hidden s r) (λ t v s1 r1. bumped_begun kept hidden c t post v s1 r1)
     expression_begun (core.comma left right) hidden s r =
         then_there kept hidden c s r _ _ (expression_begun left hidden s r)
-        (λ x v s1 r1. then_there kept hidden c s1 r1 _ _ (discarded_begun kept hidden c (may_be_unused left) x v s1 r1) (λ u w s2 r2. expression_begun right hidden s2 r2))
+        (λ x v s1 r1. then_there kept hidden c s1 r1 _ _ (comma_left_begun kept hidden c c.file_variables left x (effects right) v s1 r1) (λ u w s2 r2. expression_begun right hidden s2 r2))
 
     pub operands_begun : (xs : CoreTrees) (later : Effects) (before : List PureTree) (hidden : ℕ → Bool) → AllRead hidden before → There kept hidden c (AllRead hidden) (operands g c xs later before)
     operands_begun core.none later before hidden b s r = gives_begun kept hidden s.calls before b s

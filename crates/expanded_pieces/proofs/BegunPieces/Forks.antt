@@ -13,8 +13,8 @@ use Rattle.pieces.specs.Trees.{PureTree, PieceTree, piece_row}
 use Rattle.piece_making.specs.Making.{State, Part, Inner, gives, then_, emit, inside, fresh}
 use Rattle.piece_making.specs.Calls.{Call, point_in}
 use Rattle.c_expand.specs.Expressions.{arm, decided, fork_of}
-use Rattle.lower_runs.specs.LoweredTrees.Fitting.{PiecesFit}
-use Rattle.lower_runs.specs.Suiting.{shut, with_hidden}
+use Rattle.pass_runs.specs.LowerRuns.LoweredTrees.Fitting.{PiecesFit}
+use Rattle.pass_runs.specs.LowerRuns.Suiting.{shut, with_hidden}
 use Rattle.expanded_pieces.proofs.Parts.{FitsThere, then_fits, set_fits, mark_fits}
 use Rattle.expanded_pieces.proofs.Statements.{nothing, meets_nothing}
 use Rattle.expanded_pieces.specs.BegunPieces.Reads.{ReadsNone}

@@ -5,8 +5,8 @@ use Rattle.std.proofs.lemmas.Bool.Decides.{eqb_tells}
 use Rattle.hls_base.specs.declared.number.VarId.{VarId}
 use Rattle.pieces.specs.Trees as tree
 use Rattle.pieces.specs.Trees.{PureTree, PureTrees, PieceTree, PieceTrees, piece_row, row}
-use Rattle.lower_runs.specs.Showing.{without_number}
-use Rattle.lower_runs.specs.Suiting.{with_hidden, hidden_behind, hidden_at_end}
+use Rattle.pass_runs.specs.LowerRuns.Showing.{without_number}
+use Rattle.pass_runs.specs.LowerRuns.Suiting.{with_hidden, hidden_behind, hidden_at_end}
 use Rattle.expanded_pieces.specs.BegunPieces.Reads.{ReadsNone, EachReadsNone}
 
 -- what is hidden here is hidden there

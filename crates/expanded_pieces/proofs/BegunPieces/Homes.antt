@@ -14,7 +14,7 @@ use Rattle.piece_making.specs.Objects.{local, local_of, host_array, file_array, 
 use Rattle.c_expand.specs.Expressions as given
 use Rattle.c_expand.specs.Expressions.{Given}
 use Rattle.c_expand.specs.Expansion.{parameter, parameters, locals, is_array, is_kept, kept_scalar, kept_scalars, first_kept, file_home, file_homes, kept_behind, top_parameter, top_parameters}
-use Rattle.lower_runs.specs.Holding.{none_hidden}
+use Rattle.pass_runs.specs.LowerRuns.Holding.{none_hidden}
 
 -- ---- parts without pieces
 

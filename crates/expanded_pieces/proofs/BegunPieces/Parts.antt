@@ -1,5 +1,5 @@
 -- Parts whose pieces are well, one behind another.
-use Rattle.std.proofs.Common.{◌≡◌, ◌<◌, ◌≤◌, ℕ, ◌+◌, Bool, true, false, ◌&&◌, List, [], ◌∷◌, ◌++◌, length, refl, ap, ap₂, sym, subst, arith, le_refl, Option, Some, None, if◌then◌else◌}
+use Rattle.std.proofs.Common.{◌≡◌, ◌<◌, ◌≤◌, ℕ, ◌+◌, Bool, true, false, ◌&&◌, ◌||◌, List, [], ◌∷◌, ◌++◌, length, refl, ap, ap₂, sym, subst, arith, le_refl, Option, Some, None, if◌then◌else◌}
 use Rattle.std.specs.Prelude.{nat_lt}
 use Rattle.std.proofs.lemmas.List.{length-append}
 use Rattle.hls_base.specs.declared.place.Place.{Place}
@@ -18,7 +18,7 @@ use Rattle.piece_making.specs.declared.frame.Home.TheVariants as home
 use Rattle.piece_making.specs.Acting.{spoils}
 use Rattle.piece_making.specs.Calls.{Call, home_of}
 use Rattle.piece_making.specs.Making.{State, Part, Inner, gives, then_, emit, inside, fresh, fresh_result, add_array, new_slot, note_array, next_call, next_loop, declared, set_own}
-use Rattle.piece_making.specs.Saving.{saved, all_saved, saved_if, may_skip_element, save}
+use Rattle.piece_making.specs.Saving.{has_element, is_logical, saved, all_saved, saved_if, save}
 use Rattle.expanded_pieces.specs.BegunPieces.Reads.{ReadsNone, EachReadsNone}
 use Rattle.expanded_pieces.proofs.BegunPieces.Hiding.{AllRead, row_reads, all_read_more, each_below, reads_below}
 use Rattle.expanded_pieces.proofs.BegunPieces.Ends.{EachEnd, AllEnds, OwnEnd, OwnEnds, IsNot, all_ends, ends_append, own_ends, own_all}
@@ -200,14 +200,14 @@ module _ (kept : Point → Bool) (hidden : ℕ → Bool) where
           then_there s r _ _ (all_begun low calls subscripts [] q tt s r) (λ given v s1 r1. own_begun k (tree.element array (row given) k at) (row_reads hidden given v) s1 r1)
       saved_begun low calls (tree.unary op arg k at) q s r = then_there s r _ _ (saved_begun low calls arg q s r) (λ x v s1 r1. gives_begun s1.calls (tree.unary op x k at) v s1)
       saved_begun low calls (tree.binary op left right k at) q s r =
-          saved_if_begun (may_skip_element (tree.binary op left right k at)) (tree.binary op left right k at)
-          (λ s0. then_ (saved low calls left s0) (λ x s1. then_ (saved low calls right s1) (λ y s2. gives (tree.binary op x y k at) s2))) q
-          (λ s0 r0. then_there s0 r0 _ _ (saved_begun low calls left q.0 s0 r0) (λ x v s1 r1. then_there s1 r1 _ _ (saved_begun low calls right q.1 s1 r1) (λ y w s2 r2. gives_begun s2.calls (tree.binary op x y k at) (v, w) s2))) s r
+          then_there s r _ _ (saved_begun low calls left q.0 s r)
+          (λ x v s1 r1. saved_if_begun (is_logical op && has_element right) (tree.binary op x right k at) (λ s2. then_ (saved low calls right s2) (λ y s3. gives (tree.binary op x y k at) s3)) (v, q.1)
+          (λ s2 r2. then_there s2 r2 _ _ (saved_begun low calls right q.1 s2 r2) (λ y w s3 r3. gives_begun s3.calls (tree.binary op x y k at) (v, w) s3)) s1 r1)
       saved_begun low calls (tree.choice test left right k) q s r =
-          saved_if_begun (may_skip_element (tree.choice test left right k)) (tree.choice test left right k)
-          (λ s0. then_ (saved low calls test s0) (λ t s1. then_ (saved low calls left s1) (λ x s2. then_ (saved low calls right s2) (λ y s3. gives (tree.choice t x y k) s3)))) q
-          (λ s0 r0. then_there s0 r0 _ _ (saved_begun low calls test q.0 s0 r0)
-          (λ t u s1 r1. then_there s1 r1 _ _ (saved_begun low calls left q.1 s1 r1) (λ x v s2 r2. then_there s2 r2 _ _ (saved_begun low calls right q.2 s2 r2) (λ y w s3 r3. gives_begun s3.calls (tree.choice t x y k) (u, v, w) s3)))) s r
+          then_there s r _ _ (saved_begun low calls test q.0 s r)
+          (λ t u s1 r1. saved_if_begun (has_element left || has_element right) (tree.choice t left right k) (λ s2. then_ (saved low calls left s2) (λ x s3. then_ (saved low calls right s3) (λ y s4. gives (tree.choice t x y k) s4))) (u, q.1, q.2)
+          (λ s2 r2. then_there s2 r2 _ _ (saved_begun low calls left q.1 s2 r2)
+          (λ x v s3 r3. then_there s3 r3 _ _ (saved_begun low calls right q.2 s3 r3) (λ y w s4 r4. gives_begun s4.calls (tree.choice t x y k) (u, v, w) s4))) s1 r1)
       saved_begun low calls (tree.cast to arg) q s r = then_there s r _ _ (saved_begun low calls arg q s r) (λ x v s1 r1. gives_begun s1.calls (tree.cast to x) v s1)
 
       all_begun : (low : ℕ) (calls : Bool) (xs : PureTrees) (before : List PureTree) → EachReadsNone hidden xs → AllRead hidden before → There (AllRead hidden) (all_saved low calls xs before)

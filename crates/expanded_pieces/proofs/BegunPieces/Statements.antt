@@ -18,7 +18,7 @@ use Rattle.c_expand.specs.Expressions.{Callee, expression}
 use Rattle.c_expand.specs.Statements.{marked, tested, stepped, loop_body, repeat, branch, labelled, statement, other_branch, statements}
 use Rattle.passes.specs.Lowering.Shapes.{any_continues}
 use Rattle.passes.specs.Lowering.{piece_count}
-use Rattle.lower_runs.specs.Suiting.{StepBy, AreApart, TargetsThere}
+use Rattle.pass_runs.specs.LowerRuns.Suiting.{StepBy, AreApart, TargetsThere}
 use Rattle.expanded_pieces.specs.Jumps.{Begins, JumpsFit, ElseJumpsFit, AllJumpsFit}
 use Rattle.expanded_pieces.proofs.Expressions.{CalleesFit}
 use Rattle.expanded_pieces.specs.BegunPieces.Reads.{ReadsNone}

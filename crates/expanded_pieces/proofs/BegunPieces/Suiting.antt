@@ -7,10 +7,10 @@ use Rattle.pieces.specs.Trees.{PureTree, PureTrees, PieceTree, PieceTrees}
 use Rattle.c_meaning.specs.PieceRuns.Pieces.{Frame}
 use Rattle.passes.specs.Lowering.Shapes.{any_continues, first_point}
 use Rattle.passes.specs.Lowering.{is_named}
-use Rattle.lower_runs.specs.LoweredTrees.Fitting.{ends_in, ends_before_arm}
-use Rattle.lower_runs.specs.Suits.{Suits, EachSuits}
-use Rattle.lower_runs.specs.Holding.{IsThere, none_hidden}
-use Rattle.lower_runs.specs.Suiting.{hidden_behind, with_hidden, AreApart, ArmBy, StepBy, AloneBy, SidesBy, PieceSuits, BeginSuits, PiecesSuit, ArmsSuit}
+use Rattle.pass_runs.specs.LowerRuns.LoweredTrees.Fitting.{ends_in, ends_before_arm}
+use Rattle.pass_runs.specs.LowerRuns.Suits.{Suits, EachSuits}
+use Rattle.pass_runs.specs.LowerRuns.Holding.{IsThere, none_hidden}
+use Rattle.pass_runs.specs.LowerRuns.Suiting.{hidden_behind, with_hidden, AreApart, ArmBy, StepBy, AloneBy, SidesBy, PieceSuits, BeginSuits, PiecesSuit, ArmsSuit}
 use Rattle.expanded_pieces.specs.BegunPieces.Reads.{ReadsNone, EachReadsNone}
 use Rattle.expanded_pieces.specs.BegunPieces.Beginning.{AloneBegins, IsBegun, BeginsWell, AreBegun, ArmsAreBegun}
 use Rattle.expanded_pieces.specs.BegunPieces.Typed.{EachFine, IsMade, AreMade}

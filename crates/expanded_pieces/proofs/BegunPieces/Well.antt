@@ -5,8 +5,8 @@ use Rattle.pieces.specs.declared.piece.Label.{Label}
 use Rattle.pieces.specs.Trees as tree
 use Rattle.pieces.specs.Trees.{PieceTree, PieceTrees, piece_row}
 use Rattle.passes.specs.Lowering.{is_named}
-use Rattle.lower_runs.specs.LoweredTrees.Fitting.{ends_in, ends_before_arm}
-use Rattle.lower_runs.specs.Suiting.{hidden_behind, ArmBy}
+use Rattle.pass_runs.specs.LowerRuns.LoweredTrees.Fitting.{ends_in, ends_before_arm}
+use Rattle.pass_runs.specs.LowerRuns.Suiting.{hidden_behind, ArmBy}
 use Rattle.expanded_pieces.specs.BegunPieces.Beginning.{IsBegun, BeginsWell, AreBegun, ArmsAreBegun}
 use Rattle.expanded_pieces.proofs.BegunPieces.Hiding.{Below, behind_below}
 use Rattle.expanded_pieces.proofs.BegunPieces.Ends.{EachEnd, AllEnds, OwnEnds, IsNot, Apart, AllApart, own_all, own_append, each_in, each_before_arm, is_apart}

@@ -17,7 +17,7 @@ use Rattle.piece_making.specs.Calls.{Call, point_in}
 use Rattle.c_expand.specs.Expressions.{Callee}
 use Rattle.c_expand.specs.Expansion.{calls, run_through, locals, kept_scalars, file_homes, top_parameters, outermost, top_call, top_run, top_made, named, nothing, expansion}
 use Rattle.passes.specs.Lowering.Shapes.{first_point}
-use Rattle.lower_runs.specs.Holding.{none_hidden}
+use Rattle.pass_runs.specs.LowerRuns.Holding.{none_hidden}
 use Rattle.expanded_pieces.specs.Jumps.{AllJumpsFit, ProgramJumpsFit}
 use Rattle.expanded_pieces.specs.BegunPieces.Beginning.{BeginsWell}
 use Rattle.expanded_pieces.specs.BegunPieces.Points.{KeepsBegun, EachPoint, begins_at, is_among, MarksDiffer, begin_points}

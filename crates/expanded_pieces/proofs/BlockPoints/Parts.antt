@@ -7,8 +7,8 @@ use Rattle.pieces.specs.Trees.{PureTree, PieceTree, PieceTrees}
 use Rattle.c_meaning.specs.PieceRuns.Pieces.{Frame}
 use Rattle.passes.specs.Lowering.Shapes.{any_continues, first_point}
 use Rattle.passes.specs.Lowering.{is_named}
-use Rattle.lower_runs.specs.LoweredTrees.Fitting.{ends_in, ends_before_arm}
-use Rattle.lower_runs.specs.Suiting.{with_hidden, hidden_behind, ArmBy, StepBy, AloneBy, SidesBy, PieceSuits, BeginSuits, PiecesSuit, ArmsSuit, AreApart, IsKeptMark}
+use Rattle.pass_runs.specs.LowerRuns.LoweredTrees.Fitting.{ends_in, ends_before_arm}
+use Rattle.pass_runs.specs.LowerRuns.Suiting.{with_hidden, hidden_behind, ArmBy, StepBy, AloneBy, SidesBy, PieceSuits, BeginSuits, PiecesSuit, ArmsSuit, AreApart, IsKeptMark}
 
 abbrev pub IsMark : PieceTree → Type 0
 IsMark (tree.mark point) = Unit {0}

@@ -6,10 +6,10 @@ use Rattle.pieces.specs.Trees as tree
 use Rattle.pieces.specs.Trees.{PieceTree, PieceTrees}
 use Rattle.passes.specs.Lowering.Shapes.{any_continues, first_point, or_at, point_of}
 use Rattle.passes.specs.Lowering.{own_step, is_named}
-use Rattle.lower_runs.specs.Holding.{none_hidden}
-use Rattle.convert_runs.specs.ConvertedTrees.Points as blocks
-use Rattle.convert_runs.specs.LoweredConversions.PiecePoints.{from_point, step_behind, points_in, points_of, points_before, points_in_arms}
-use Rattle.convert_runs.proofs.LoweredConversions.Points.{points}
+use Rattle.pass_runs.specs.LowerRuns.Holding.{none_hidden}
+use Rattle.pass_runs.specs.ConvertRuns.ConvertedTrees.Points as blocks
+use Rattle.pass_runs.specs.ConvertRuns.LoweredConversions.PiecePoints.{from_point, step_behind, points_in, points_of, points_before, points_in_arms}
+use Rattle.pass_runs.proofs.ConvertRuns.LoweredConversions.Points.{points}
 use Rattle.expanded_pieces.specs.ApartPoints.Apart.{IsAway, AreApart}
 use Rattle.expanded_pieces.specs.ApartPoints.Points.{all_points, own_points}
 use Rattle.expanded_pieces.proofs.ApartPoints.Apart.{Taken, take_none, take_all, take_both, take_right, take_keep}

@@ -6,8 +6,8 @@ use Rattle.pieces.specs.Trees as tree
 use Rattle.pieces.specs.Trees.{PieceTree, PieceTrees}
 use Rattle.passes.specs.Lowering.Shapes.{any_continues, first_point}
 use Rattle.passes.specs.Lowering.{is_named, piece_count}
-use Rattle.lower_runs.specs.LoweredTrees.Fitting.{ends_in, ends_before_arm, PiecesFit}
-use Rattle.lower_runs.specs.Suiting.{shut, with_hidden, hidden_behind, hidden_at_end, TargetsThere, IsApart, AreApart, ArmBy, StepBy, SidesBy}
+use Rattle.pass_runs.specs.LowerRuns.LoweredTrees.Fitting.{ends_in, ends_before_arm, PiecesFit}
+use Rattle.pass_runs.specs.LowerRuns.Suiting.{shut, with_hidden, hidden_behind, hidden_at_end, TargetsThere, IsApart, AreApart, ArmBy, StepBy, SidesBy}
 use Rattle.expanded_pieces.specs.BegunPieces.Reads.{ReadsNone, EachReadsNone}
 
 -- A branch without a point is empty, or sets one variable to a number; the other branch does not read it before it sets it too, and nothing jumps out of that branch.

@@ -9,8 +9,8 @@ use Rattle.pieces.specs.Resolved.Core.{CoreTree, CoreTrees, CoreActionTree}
 use Rattle.piece_making.specs.declared.frame.Home.{Home}
 use Rattle.piece_making.specs.Making.{State, Part, then_}
 use Rattle.piece_making.specs.Calls.{Call}
-use Rattle.c_expand.specs.Expressions.{Callee, expression, operands, discarded}
-use Rattle.c_expand.specs.Statements.{is_call, valued, changed, action, actions}
+use Rattle.c_expand.specs.Expressions.{Callee, expression, operands, discarded, is_call}
+use Rattle.c_expand.specs.Statements.{valued, changed, action, actions}
 use Rattle.c_meaning.specs.CoreRuns.Statements as ks
 use Rattle.c_meaning.specs.CoreRuns.Statements.{action_tree}
 use Rattle.c_meaning.specs.CoreRuns.Expressions as ce
@@ -29,7 +29,7 @@ use Rattle.expanded_programs.specs.Statements.Scopes.{Setting, Reach, objects_in
 use Rattle.expand_runs.specs.Calling.{CallsSame}
 use Rattle.expanded_programs.proofs.StatementsLemmas.Scenes.{world_of, over_of, seen_cell}
 use Rattle.expanded_programs.proofs.StatementsLemmas.Moving.{scene_grown, scene_later}
-use Rattle.expand_runs.proofs.PartRuns.{Does, any_later, all_later, discard_goes, discard_later, over_later}
+use Rattle.expand_runs.proofs.PartRuns.{Does, any_later, all_later, call_or_matters, discard_goes, discard_later, over_later}
 use Rattle.expand_runs.proofs.Expressions.{expression_same, operands_same}
 use Rattle.expand_runs.proofs.Assignments.{element_then, element_bump_then}
 use Rattle.expand_runs.proofs.Targets.{target_scalar, applied_same, applied_bump}
@@ -81,19 +81,6 @@ module _ (unary_fits : UnaryFits) (binary_fits : BinaryFits) (f : Frame) (k : �
 
   still_on : {A : Type 0} (r : Reach) (seen : ℕ → Option ArrayId) (v : A) (s : Cells) (w : Way) (t : Store) → Evaluated f (HomesIn here c Homes0 Lives0 seen) (LivesIn here c Homes0 Lives0 r) kinds s w t → Goes_on r seen v s w t
   still_on r seen v s w t h = (h.on_, (h.shown, h.typed))
-
-  call_or_matters : (e : CoreTree) → is_call e ≡ false → Matters false e
-  call_or_matters (core.number value kd) h = tt
-  call_or_matters (core.scalar cell kd at) h = tt
-  call_or_matters (core.element array subscripts kd at) h = tt
-  call_or_matters (core.call callee args kd at) h = absurd (true≢false h)
-  call_or_matters (core.unary op arg kd at) h = tt
-  call_or_matters (core.binary op left right kd at) h = tt
-  call_or_matters (core.choice test left right kd at colon) h = tt
-  call_or_matters (core.cast to arg) h = tt
-  call_or_matters (core.assign it op value at) h = tt
-  call_or_matters (core.bump it up post at) h = tt
-  call_or_matters (core.comma left right) h = tt
 
   abbrev ActionRuns : CoreTree → Part (Unit {0}) → Reach → (ℕ → Option ArrayId) → Cells → Store → ℕ → Type 0
   ActionRuns e part r seen s t n = Same false k (λ (v : ℤ) s1 w t1. Goes_on r seen v s1 w t1) (ce.expression cc false e here s n) (run_of f part.pieces t n)

@@ -23,8 +23,8 @@ use Rattle.piece_making.specs.Calls.{Call, variable, point_in}
 use Rattle.piece_making.specs.Assigning.{Change, change, step, one, apply, new_value, target_read}
 use Rattle.c_meaning.specs.PieceRuns.Values.{Store}
 use Rattle.c_meaning.specs.PieceRuns.Pieces.{Frame}
-use Rattle.c_expand.specs.Expressions.{Callee, expression, operands, targeted, discarded}
-use Rattle.c_expand.specs.Statements.{marked, valued, changed, action, actions, item_value, filled, initialised, scalar_declared, declared_as, declare, tested, stepped, loop_body, repeat, result_variable, result_set, returned, branch, labelled, switched, statement, other_branch, statements, is_call, subscripts_at}
+use Rattle.c_expand.specs.Expressions.{Callee, expression, operands, targeted, discarded, is_call}
+use Rattle.c_expand.specs.Statements.{marked, valued, changed, action, actions, item_value, filled, initialised, scalar_declared, declared_as, declare, tested, stepped, loop_body, repeat, result_variable, result_set, returned, branch, labelled, switched, statement, other_branch, statements, subscripts_at}
 use Rattle.expand_runs.specs.Growing.{Begins, IsLater, IsGrown, LandFrom, LandsFrom}
 use Rattle.expand_runs.specs.Sound.{Changes, AnyChanges}
 use Rattle.expand_runs.specs.Fitting.{CallsFit, AllFit}

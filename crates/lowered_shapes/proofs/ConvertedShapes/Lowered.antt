@@ -21,10 +21,10 @@ use Rattle.passes.specs.Conversion.Merging.{test_of, is_only, is_only_side, firs
 use Rattle.passes.specs.Conversion.Overlapping.{test_if, test_alone, is_there, converted_loop, loop_by}
 use Rattle.passes.specs.Conversion as c
 use Rattle.passes.specs.Conversion.{converted_sequence, converted_side}
-use Rattle.convert_runs.proofs.Forks.{forks as merged_forks}
-use Rattle.convert_runs.specs.LoweredConversions.Suiting.{NoCallEnds}
-use Rattle.convert_runs.specs.LoweredConversions.{body_blocks}
-use Rattle.convert_runs.proofs.LoweredConversions.Forks.{numbered_forks}
+use Rattle.pass_runs.proofs.ConvertRuns.Forks.{forks as merged_forks}
+use Rattle.pass_runs.specs.ConvertRuns.LoweredConversions.Suiting.{NoCallEnds}
+use Rattle.pass_runs.specs.ConvertRuns.LoweredConversions.{body_blocks}
+use Rattle.pass_runs.proofs.ConvertRuns.LoweredConversions.Forks.{numbered_forks}
 use Rattle.lowered_shapes.proofs.LoopTests.Tests.{tests_stand}
 use Rattle.lowered_shapes.specs.ConvertedShapes.Converting.{is_loop_node, AllConvert, PartsConvert, ShapeConverts, SideConverts, ArmsConvert}
 use Rattle.lowered_shapes.specs.ConvertedShapes.Straight.{EndsNoStraightCall, NoStraightCallEnds}
@@ -124,7 +124,7 @@ pub record IsEligible (post : Bool) (before body step : PieceTrees) : Type 0 whe
 
 pub eligible_parts : (post : Bool) (before : PieceTrees) (test : _) (body step : PieceTrees) → is_eligible post before test body step ≡ true → IsEligible post before body step
 eligible_parts post before test body step e =
-    let light = nat_le (piece_weights before + test + piece_weights body + piece_weights step) 256 in
+    let light = nat_le (test + piece_weights body + piece_weights step) 256 in
     let behind = right_true (not post) (are_marks before && (light && (are_straight body && are_straight step))) e in
     let straight = right_true light (are_straight body && are_straight step) (right_true (are_marks before) (light && (are_straight body && are_straight step)) behind) in record {
       first = not_true post (left_true (not post) (are_marks before && (light && (are_straight body && are_straight step))) e);

@@ -22,7 +22,7 @@ use Rattle.passes.specs.Lowering.Expressions.{Evaluated, Next, Subscripts, with_
 use Rattle.passes.specs.Numbering.{Scope, is_common}
 use Rattle.passes.proofs.Equalities.{false_true}
 use Rattle.passes.specs.NumberRuns.Ordered.{IsEarly, AreEarly}
-use Rattle.lower_runs.proofs.LoweredTrees.Adding.{early_more, all_early_more, GuardsEarly, guards_more, outside_early}
+use Rattle.pass_runs.proofs.LowerRuns.LoweredTrees.Adding.{early_more, all_early_more, GuardsEarly, guards_more, outside_early}
 use Rattle.lowered_shapes.proofs.LoopTests.Numbers.{Grows, grows_none, grows_on}
 use Rattle.lowered_shapes.proofs.LoopTests.Heights.{IsSound}
 use Rattle.lowered_shapes.proofs.LoopTests.Steps.{Follows, Waits, follows_more, low_before, waits_on}

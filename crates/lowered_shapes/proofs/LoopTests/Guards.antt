@@ -9,7 +9,7 @@ use Rattle.passes.specs.Lowering.Guards.{Guard, own_bit, under, bit_of, Guarded,
 use Rattle.passes.specs.Numbering.{Scope}
 use Rattle.passes.specs.NumberRuns.Ordered.{IsEarly, AreEarly, IsEarlyIfThere}
 use Rattle.passes.proofs.NumberRuns.Lists.{last_or}
-use Rattle.lower_runs.proofs.LoweredTrees.Adding.{early_more, early_if_more, GuardsEarly, guards_more}
+use Rattle.pass_runs.proofs.LowerRuns.LoweredTrees.Adding.{early_more, early_if_more, GuardsEarly, guards_more}
 use Rattle.lowered_shapes.specs.LoopTests.{MakesBit}
 use Rattle.lowered_shapes.proofs.LoopTests.Numbers.{kept, after, IsComputed, IsJoined, Stays, adds, Grows, grows_none, grows_one, grows_on}
 use Rattle.lowered_shapes.proofs.LoopTests.Heights.{IsSound, sound_more}

@@ -16,7 +16,7 @@ use Rattle.piece_making.specs.Making.{State, Part, gives, then_, emit, fresh}
 use Rattle.piece_making.specs.Saving.{save, is_logical}
 use Rattle.piece_making.specs.Calls.{Call, variable}
 use Rattle.piece_making.specs.Assigning.{Change, store_at, store, assigned, bumped, bumped_behind, new_value, target_read, one, step}
-use Rattle.c_expand.specs.Expressions.{Given, Callee, may_be_unused, set_unused, discarded, value_or_zero, arm, decided, to_bool, same, fork_of, is_or, forked, operated, chosen, expression, operands, targeted, argument, arguments}
+use Rattle.c_expand.specs.Expressions.{Given, Callee, is_call, may_be_unused, set_unused, discarded, comma_left, value_or_zero, arm, decided, to_bool, same, fork_of, is_or, forked, operated, chosen, expression, operands, targeted, argument, arguments}
 use Rattle.lowered_shapes.proofs.StraightCalls.Parts.{IsApart, ApartThere, fork_apart, nothing_apart, then_at, then_apart, emit_apart, set_apart, put_apart, mark_apart, if_apart, fresh_apart, inside_apart, inner_apart, own_apart, save_apart}
 
 -- what calls become
@@ -107,6 +107,11 @@ unused_apart x s = then_apart (_) _ (own_apart (kind x) x s) (λ own s1. nothing
 pub discarded_apart : (b : Bool) (x : PureTree) → ApartThere (discarded b x)
 discarded_apart b x s = if_apart b (gives tt s) (set_unused x s) (nothing_apart) (unused_apart x s)
 
+comma_left_apart : (n : ℕ) (left : CoreTree) (x : PureTree) (later : Effects) → ApartThere (comma_left n left x later)
+comma_left_apart n left x later s =
+    if_apart (is_call left) (gives tt s) (then_ (save n x later s) (λ y s1. discarded (may_be_unused left) y s1)) (nothing_apart)
+    (then_apart (save n x later s) _ (save_apart n x later s) (λ y s1. discarded_apart (may_be_unused left) y s1))
+
 -- ---- expressions
 
 module _ (g : Callee) (callees : CalleesApart g) (c : Call) where
@@ -131,7 +136,7 @@ module _ (g : Callee) (callees : CalleesApart g) (c : Call) where
     expression_apart (core.bump left up post at) s = then_apart (targeted g c left no_effects (step up) at s) _ (target_apart left no_effects (step up) at s) (λ t s1. bumped_apart c t post s1)
     expression_apart (core.comma left right) s =
         then_apart (expression g c left s) _ (expression_apart left s)
-        (λ x s1. then_apart (discarded (may_be_unused left) x s1) _ (discarded_apart (may_be_unused left) x s1) (λ u s2. expression_apart right s2))
+        (λ x s1. then_apart (comma_left c.file_variables left x (effects right) s1) _ (comma_left_apart c.file_variables left x (effects right) s1) (λ u s2. expression_apart right s2))
 
     operands_apart : (xs : CoreTrees) (later : Effects) (before : List PureTree) → ApartThere (operands g c xs later before)
     operands_apart core.none later before s = nothing_apart

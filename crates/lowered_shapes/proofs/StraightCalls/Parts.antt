@@ -1,5 +1,5 @@
 -- Parts of an expansion in which no call ends among straight pieces.
-use Rattle.std.proofs.Common.{◌≡◌, ◌∙◌, ℕ, Bool, true, false, ◌&&◌, List, [], ◌∷◌, ◌++◌, refl, ap, sym, Option, Some, None, if◌then◌else◌}
+use Rattle.std.proofs.Common.{◌≡◌, ◌∙◌, ℕ, Bool, true, false, ◌&&◌, ◌||◌, List, [], ◌∷◌, ◌++◌, refl, ap, sym, Option, Some, None, if◌then◌else◌}
 use Rattle.std.specs.Prelude.{nat_lt}
 use Rattle.hls_base.specs.declared.place.Place.{Place}
 use Rattle.hls_base.specs.declared.point.Point.{Point}
@@ -17,9 +17,9 @@ use Rattle.piece_making.specs.declared.effects.Effects.{Effects}
 use Rattle.piece_making.specs.declared.work.Slot.{Slot}
 use Rattle.piece_making.specs.Acting.{spoils}
 use Rattle.piece_making.specs.Making.{State, Part, gives, then_, emit, label, declared, inside, inside_switch, fresh, fresh_result, add_array, new_slot, note_array, next_call, next_loop, set_own}
-use Rattle.piece_making.specs.Saving.{may_skip_element, saved_if, saved, all_saved, save}
+use Rattle.piece_making.specs.Saving.{has_element, is_logical, saved, all_saved, saved_if, save}
 use Rattle.passes.specs.Lowering.Shapes.{is_straight, are_straight, is_eligible}
-use Rattle.convert_runs.specs.LoweredConversions.Suiting.{NoCallEnds}
+use Rattle.pass_runs.specs.ConvertRuns.LoweredConversions.Suiting.{NoCallEnds}
 use Rattle.lowered_shapes.specs.ConvertedShapes.Straight.{NoStraightCallEnds}
 use Rattle.passes.proofs.Equalities.{first as left_true, second as right_true}
 use Rattle.lowered_shapes.proofs.ConvertedShapes.Lowered.{eligible_parts}
@@ -223,14 +223,13 @@ mutual
   saved_apart n calls (tree.element array subscripts k at) s = then_apart (all_saved n calls subscripts [] s) _ (all_saved_apart n calls subscripts [] s) (λ given s1. own_apart k (tree.element array (row given) k at) s1)
   saved_apart n calls (tree.unary op arg k at) s = then_apart (saved n calls arg s) _ (saved_apart n calls arg s) (λ x s1. nothing_apart)
   saved_apart n calls (tree.binary op left right k at) s =
-      saved_if_apart (may_skip_element (tree.binary op left right k at)) (tree.binary op left right k at)
-      (λ s0. then_ (saved n calls left s0) (λ x s1. then_ (saved n calls right s1) (λ y s2. gives (tree.binary op x y k at) s2)))
-      (λ s0. then_apart (saved n calls left s0) _ (saved_apart n calls left s0) (λ x s1. then_apart (saved n calls right s1) _ (saved_apart n calls right s1) (λ y s2. nothing_apart))) s
+      then_apart (saved n calls left s) _ (saved_apart n calls left s)
+      (λ x s1. saved_if_apart (is_logical op && has_element right) (tree.binary op x right k at) (λ s2. then_ (saved n calls right s2) (λ y s3. gives (tree.binary op x y k at) s3))
+      (λ s2. then_apart (saved n calls right s2) _ (saved_apart n calls right s2) (λ y s3. nothing_apart)) s1)
   saved_apart n calls (tree.choice test left right k) s =
-      saved_if_apart (may_skip_element (tree.choice test left right k)) (tree.choice test left right k)
-      (λ s0. then_ (saved n calls test s0) (λ t s1. then_ (saved n calls left s1) (λ x s2. then_ (saved n calls right s2) (λ y s3. gives (tree.choice t x y k) s3))))
-      (λ s0. then_apart (saved n calls test s0) _ (saved_apart n calls test s0)
-      (λ t s1. then_apart (saved n calls left s1) _ (saved_apart n calls left s1) (λ x s2. then_apart (saved n calls right s2) _ (saved_apart n calls right s2) (λ y s3. nothing_apart)))) s
+      then_apart (saved n calls test s) _ (saved_apart n calls test s)
+      (λ t s1. saved_if_apart (has_element left || has_element right) (tree.choice t left right k) (λ s2. then_ (saved n calls left s2) (λ x s3. then_ (saved n calls right s3) (λ y s4. gives (tree.choice t x y k) s4)))
+      (λ s2. then_apart (saved n calls left s2) _ (saved_apart n calls left s2) (λ x s3. then_apart (saved n calls right s3) _ (saved_apart n calls right s3) (λ y s4. nothing_apart))) s1)
   saved_apart n calls (tree.cast to arg) s = then_apart (saved n calls arg s) _ (saved_apart n calls arg s) (λ x s1. nothing_apart)
 
   all_saved_apart : (n : ℕ) (calls : Bool) (xs : PureTrees) (before : List PureTree) → ApartThere (all_saved n calls xs before)

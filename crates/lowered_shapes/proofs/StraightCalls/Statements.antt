@@ -17,8 +17,8 @@ use Rattle.piece_making.specs.Objects.{local_array}
 use Rattle.piece_making.specs.Calls.{Call, point_in}
 use Rattle.piece_making.specs.Assigning.{Change, step, one, apply, new_value, target_read}
 use Rattle.piece_making.specs.Leaving.{is_empty}
-use Rattle.c_expand.specs.Expressions.{Callee, expression, targeted}
-use Rattle.c_expand.specs.Statements.{marked, valued, changed, action, actions, item_value, filled, initialised, scalar_declared, declared_as, declare, tested, stepped, loop_body, repeat, result_variable, result_set, returned, is_call, subscripts_at, branch, labelled, statement, other_branch, statements}
+use Rattle.c_expand.specs.Expressions.{Callee, expression, targeted, is_call}
+use Rattle.c_expand.specs.Statements.{marked, valued, changed, action, actions, item_value, filled, initialised, scalar_declared, declared_as, declare, tested, stepped, loop_body, repeat, result_variable, result_set, returned, subscripts_at, branch, labelled, statement, other_branch, statements}
 use Rattle.lowered_shapes.proofs.StraightCalls.Parts.{IsApart, ApartThere, fork_apart, repeat_apart, pick_apart, nothing_apart, then_at, then_apart, emit_apart, set_apart, put_apart, mark_apart, if_apart, label_apart, declared_apart, array_apart, note_apart, loop_apart, inside_apart, inner_apart, switch_apart, arms_apart}
 use Rattle.lowered_shapes.proofs.StraightCalls.Expressions.{CalleesApart, expression_apart, target_apart, store_apart, discarded_apart}
 

@@ -3,22 +3,22 @@ use Rattle.std.proofs.Common.{◌≡◌, ℕ, subst}
 use Rattle.hls_base.specs.Steps.{Ran}
 use Rattle.ir_core.specs.Bodies.{Shapes, Words}
 use Rattle.ir_core.specs.TreeRuns.{Way, sequence_run}
-use Rattle.convert_runs.specs.Kept.{IsSameRun}
-use Rattle.convert_runs.specs.Typed.{Fits}
-use Rattle.convert_runs.proofs.Forks.{forks as merged_forks}
-use Rattle.convert_runs.proofs.MergedBlocks.Whole.{trees}
+use Rattle.pass_runs.specs.ConvertRuns.Kept.{IsSameRun}
+use Rattle.pass_runs.specs.ConvertRuns.Typed.{Fits}
+use Rattle.pass_runs.proofs.ConvertRuns.Forks.{forks as merged_forks}
+use Rattle.pass_runs.proofs.ConvertRuns.MergedBlocks.Whole.{trees}
 use Rattle.passes.proofs.NumberRuns.Blocks.{block_same}
 use Rattle.passes.proofs.NumberRuns.Trees.{sequence_same}
-use Rattle.lower_runs.proofs.LoweredTrees.Trees.{lowered_ordered}
-use Rattle.lower_runs.proofs.LoweredTrees.Fitting.{lowered_fits}
-use Rattle.convert_runs.proofs.ConvertedTrees.Numbered.{well_formed as numbered_well}
-use Rattle.convert_runs.proofs.ConvertedTrees.Converted.{well_formed as converted_well}
-use Rattle.convert_runs.specs.ConvertedTrees.Points.{stays_in}
-use Rattle.convert_runs.specs.LoweredConversions.Suiting.{widths_of, words_of}
-use Rattle.convert_runs.specs.LoweredConversions.{body_blocks}
-use Rattle.convert_runs.proofs.LoweredConversions.Whole.{numbered_typed}
-use Rattle.convert_runs.proofs.LoweredConversions.Points.{keeps}
-use Rattle.convert_runs.proofs.LoweredConversions.Forks.{numbered_forks}
+use Rattle.pass_runs.proofs.LowerRuns.LoweredTrees.Trees.{lowered_ordered}
+use Rattle.pass_runs.proofs.LowerRuns.LoweredTrees.Fitting.{lowered_fits}
+use Rattle.pass_runs.proofs.ConvertRuns.ConvertedTrees.Numbered.{well_formed as numbered_well}
+use Rattle.pass_runs.proofs.ConvertRuns.ConvertedTrees.Converted.{well_formed as converted_well}
+use Rattle.pass_runs.specs.ConvertRuns.ConvertedTrees.Points.{stays_in}
+use Rattle.pass_runs.specs.ConvertRuns.LoweredConversions.Suiting.{widths_of, words_of}
+use Rattle.pass_runs.specs.ConvertRuns.LoweredConversions.{body_blocks}
+use Rattle.pass_runs.proofs.ConvertRuns.LoweredConversions.Whole.{numbered_typed}
+use Rattle.pass_runs.proofs.ConvertRuns.LoweredConversions.Points.{keeps}
+use Rattle.pass_runs.proofs.ConvertRuns.LoweredConversions.Forks.{numbered_forks}
 use Rattle.lowered_shapes.specs.TreeFlow.{lowered_tree, numbered_tree, converted_tree, ConversionKeepsRuns, ConvertedTreesAreWellFormed, StraightBecomesOne}
 
 pub runs : ConversionKeepsRuns

@@ -4,7 +4,7 @@ use Rattle.pieces.specs.Trees as tree
 use Rattle.pieces.specs.Trees.{PieceTree, PieceTrees}
 use Rattle.pieces.specs.Weight.{weight}
 use Rattle.passes.specs.Lowering.Shapes.{is_straight, is_eligible}
-use Rattle.convert_runs.specs.LoweredConversions.Suiting.{NoCallEnds}
+use Rattle.pass_runs.specs.ConvertRuns.LoweredConversions.Suiting.{NoCallEnds}
 
 -- No call ends in a straight fork or in a loop that may be overlapped.
 abbrev mutual

@@ -22,10 +22,10 @@ abbrev mutual
   are_straight tree.no_pieces = true
   are_straight (tree.then_ first rest) = is_straight first && are_straight rest
 
--- a loop of `for` or `while` with nothing but marks before its test, which weighs at most 256
+-- a loop of `for` or `while` with nothing but marks before its test, whose test, body and step weigh at most 256
 abbrev pub is_eligible : Bool → PieceTrees → ℕ → PieceTrees → PieceTrees → Bool
 is_eligible post before test body step =
-    not post && (are_marks before && (nat_le (piece_weights before + test + piece_weights body + piece_weights step) 256 && (are_straight body && are_straight step)))
+    not post && (are_marks before && (nat_le (test + piece_weights body + piece_weights step) 256 && (are_straight body && are_straight step)))
 
 abbrev mutual
   -- a `Next` of the loop round these pieces

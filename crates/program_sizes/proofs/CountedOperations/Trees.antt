@@ -178,7 +178,7 @@ mutual
 
 eligible_straight : (post : Bool) (before : PieceTrees) (test : ℕ) (body step : PieceTrees) → is_eligible post before test body step ≡ true → (are_straight body ≡ true) × (are_straight step ≡ true)
 eligible_straight post before test body step h =
-    let light = nat_le (piece_weights before + test + piece_weights body + piece_weights step) 256 in
+    let light = nat_le (test + piece_weights body + piece_weights step) 256 in
     let straight = are_straight body && are_straight step in
     let one = (and_parts (not post) (are_marks before && (light && straight)) h).1 in
     let two = (and_parts (are_marks before) (light && straight) one).1 in

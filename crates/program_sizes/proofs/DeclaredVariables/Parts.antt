@@ -1,5 +1,5 @@
 -- Parts that are paid for, one behind another.
-use Rattle.std.proofs.Common.{◌≤◌, ℕ, suc, ◌+◌, Bool, true, false, ◌&&◌, arith, List, [], ◌∷◌, ◌++◌, length-append, Option, Some, None}
+use Rattle.std.proofs.Common.{◌≤◌, ℕ, suc, ◌+◌, Bool, true, false, ◌&&◌, ◌||◌, arith, List, [], ◌∷◌, ◌++◌, length-append, Option, Some, None}
 use Rattle.std.specs.Prelude.{nat_lt}
 use Rattle.hls_base.specs.declared.number.VarId.{VarId}
 use Rattle.hls_base.specs.declared.number.ArrayId.{ArrayId}
@@ -12,7 +12,7 @@ use Rattle.piece_making.specs.declared.work.Slot.{Slot}
 use Rattle.piece_making.specs.declared.effects.Effects.{Effects}
 use Rattle.piece_making.specs.Acting.{spoils}
 use Rattle.piece_making.specs.Making.{State, Part, gives, then_, own_weight, emit, label, declared, inside, inside_switch, fresh, fresh_result, set_own, add_array, new_slot, note_array, next_call, next_loop}
-use Rattle.piece_making.specs.Saving.{saved, all_saved, saved_if, may_skip_element, save}
+use Rattle.piece_making.specs.Saving.{has_element, is_logical, saved, all_saved, saved_if, save}
 use Rattle.program_sizes.proofs.DeclaredVariables.Paying.{IsPaid, gives_paid, then_paid, if_paid, eased}
 
 -- ---- pieces
@@ -95,13 +95,13 @@ mutual
   saved_paid n calls (tree.element array given k at) s = then_paid (all_paid n calls given [] s) (λ xs s1. own_paid k (tree.element array (row xs) k at))
   saved_paid n calls (tree.unary op arg k at) s = then_paid (saved_paid n calls arg s) (λ x s1. gives_paid)
   saved_paid n calls (tree.binary op left right k at) s =
-      saved_if_paid (may_skip_element (tree.binary op left right k at)) (tree.binary op left right k at)
-      (λ s0. then_ (saved n calls left s0) (λ x s1. then_ (saved n calls right s1) (λ y s2. gives (tree.binary op x y k at) s2))) s
-      (then_paid (saved_paid n calls left s) (λ x s1. then_paid (saved_paid n calls right s1) (λ y s2. gives_paid)))
+      then_paid (saved_paid n calls left s)
+      (λ x s1. saved_if_paid (is_logical op && has_element right) (tree.binary op x right k at) (λ s2. then_ (saved n calls right s2) (λ y s3. gives (tree.binary op x y k at) s3)) s1
+      (then_paid (saved_paid n calls right s1) (λ y s2. gives_paid)))
   saved_paid n calls (tree.choice test left right k) s =
-      saved_if_paid (may_skip_element (tree.choice test left right k)) (tree.choice test left right k)
-      (λ s0. then_ (saved n calls test s0) (λ t s1. then_ (saved n calls left s1) (λ x s2. then_ (saved n calls right s2) (λ y s3. gives (tree.choice t x y k) s3)))) s
-      (then_paid (saved_paid n calls test s) (λ t s1. then_paid (saved_paid n calls left s1) (λ x s2. then_paid (saved_paid n calls right s2) (λ y s3. gives_paid))))
+      then_paid (saved_paid n calls test s)
+      (λ t s1. saved_if_paid (has_element left || has_element right) (tree.choice t left right k) (λ s2. then_ (saved n calls left s2) (λ x s3. then_ (saved n calls right s3) (λ y s4. gives (tree.choice t x y k) s4))) s1
+      (then_paid (saved_paid n calls left s1) (λ x s2. then_paid (saved_paid n calls right s2) (λ y s3. gives_paid))))
   saved_paid n calls (tree.cast to arg) s = then_paid (saved_paid n calls arg s) (λ x s1. gives_paid)
 
   all_paid : {o : ℕ} (n : ℕ) (calls : Bool) (xs : PureTrees) (before : List PureTree) (s : State) → IsPaid o o s (all_saved n calls xs before s)

@@ -18,8 +18,8 @@ use Rattle.piece_making.specs.Leaving.{is_empty}
 use Rattle.piece_making.specs.Objects.{local_array, array_like, array_weight}
 use Rattle.piece_making.specs.Calls.{Call}
 use Rattle.piece_making.specs.Assigning.{step, one}
-use Rattle.c_expand.specs.Expressions.{Callee, expression}
-use Rattle.c_expand.specs.Statements.{marked, valued, changed, action, actions, item_value, filled, initialised, scalar_declared, declared_as, tested, stepped, repeat, result_variable, result_set, returned, labelled, statement, other_branch, statements, is_call, subscripts_at}
+use Rattle.c_expand.specs.Expressions.{Callee, expression, is_call}
+use Rattle.c_expand.specs.Statements.{marked, valued, changed, action, actions, item_value, filled, initialised, scalar_declared, declared_as, tested, stepped, repeat, result_variable, result_set, returned, labelled, statement, other_branch, statements, subscripts_at}
 use Rattle.expand_runs.specs.Fitting.{CallsFit}
 use Rattle.expanded_programs.specs.Statements.Scopes.{Setting, Reach, IsScalar, IsSoundIn, TestSound, ReturnSound, ActionsSound, ItemsSound, InitSound, StmtSound, ElseSound, StmtsSound, enter, reach, behind, behind_all}
 use Rattle.program_sizes.specs.DeclaredVariables.Declarations.{declarations_in, else_declarations, declarations}

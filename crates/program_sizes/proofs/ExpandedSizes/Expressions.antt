@@ -13,10 +13,10 @@ use Rattle.pieces.specs.Kind.{kind}
 use Rattle.piece_making.specs.declared.effects.Effects.{Effects}
 use Rattle.piece_making.specs.Acting.{acts, either, no_effects, effects, effects_of_all, effects_of_arguments}
 use Rattle.piece_making.specs.Making.{State, Part, gives, then_, emit, fresh}
-use Rattle.piece_making.specs.Saving.{is_logical}
+use Rattle.piece_making.specs.Saving.{save, is_logical}
 use Rattle.piece_making.specs.Calls.{Call}
 use Rattle.piece_making.specs.Assigning.{Change, store_at, store, assigned, bumped, bumped_behind, apply, new_value, target_read, one}
-use Rattle.c_expand.specs.Expressions.{Given, Callee, may_be_unused, set_unused, discarded, arm, decided, to_bool, same, fork_of, is_or, forked, operated, chosen, expression, operands, targeted, argument, arguments}
+use Rattle.c_expand.specs.Expressions.{Given, Callee, is_call, may_be_unused, set_unused, discarded, comma_left, arm, decided, to_bool, same, fork_of, is_or, forked, operated, chosen, expression, operands, targeted, argument, arguments}
 use Rattle.program_sizes.proofs.ExpandedSizes.Accounts.{Account, IsPaid, owing, holding, gives_paid, then_paid, if_paid}
 use Rattle.program_sizes.proofs.ExpandedSizes.Parts.{emit_paid, set_paid, own_set_paid, put_paid, mark_paid, inside_paid, fresh_paid, own_paid, save_paid}
 
@@ -93,6 +93,11 @@ bumped_paid {o} {s} c t post = if_paid post (bumped_behind c t s) (assigned c t 
 pub discarded_paid : {o : Account} {s : State} (is_let_go : Bool) (x : PureTree) → IsPaid o (λ u. o) s (discarded is_let_go x s)
 discarded_paid {o} {s} is_let_go x = if_paid is_let_go (gives tt s) (set_unused x s) gives_paid (then_paid (own_paid (kind x) x) (λ own s1. gives_paid))
 
+comma_left_paid : {o : Account} {s : State} (n : ℕ) (left : CoreTree) (x : PureTree) (later : Effects) → IsPaid o (λ u. o) s (comma_left n left x later s)
+comma_left_paid {o} {s} n left x later =
+    if_paid (is_call left) (gives tt s) (then_ (save n x later s) (λ y s1. discarded (may_be_unused left) y s1)) gives_paid
+    (then_paid (save_paid n x later s) (λ y s1. discarded_paid (may_be_unused left) y))
+
 -- ---- expressions
 
 module _ (g : Callee) (c : Call) (callees : CalleesPaid g c) where
@@ -115,7 +120,7 @@ module _ (g : Callee) (c : Call) (callees : CalleesPaid g c) where
     expression_paid o (core.bump (core.target cell subscripts k place) up post at) s =
         then_paid (then_paid (operands_paid o subscripts no_effects [] s) (λ given s1. gives_paid)) (λ t s1. bumped_paid c t post)
     expression_paid o (core.comma left right) s =
-        then_paid (expression_paid o left s) (λ x s1. then_paid (discarded_paid (may_be_unused left) x) (λ u s2. expression_paid o right s2))
+        then_paid (expression_paid o left s) (λ x s1. then_paid (comma_left_paid c.file_variables left x (effects right)) (λ u s2. expression_paid o right s2))
 
     -- operands from left to right
     operands_paid : (o : Account) (xs : CoreTrees) (later : Effects) (before : List PureTree) (s : State) → IsPaid o (λ x. o) s (operands g c xs later before s)

@@ -17,8 +17,8 @@ use Rattle.piece_making.specs.Leaving.{is_empty}
 use Rattle.piece_making.specs.Objects.{local_array, array_like, array_weight}
 use Rattle.piece_making.specs.Calls.{Call}
 use Rattle.piece_making.specs.Assigning.{step, one}
-use Rattle.c_expand.specs.Expressions.{Callee}
-use Rattle.c_expand.specs.Statements.{marked, valued, changed, action, actions, item_value, filled, initialised, scalar_declared, declared_as, tested, stepped, repeat, result_variable, result_set, returned, labelled, statement, other_branch, statements, is_call, subscripts_at}
+use Rattle.c_expand.specs.Expressions.{Callee, is_call}
+use Rattle.c_expand.specs.Statements.{marked, valued, changed, action, actions, item_value, filled, initialised, scalar_declared, declared_as, tested, stepped, repeat, result_variable, result_set, returned, labelled, statement, other_branch, statements, subscripts_at}
 use Rattle.program_sizes.proofs.ExpandedSizes.Accounts.{Account, IsPaid, holding, gives_paid, then_paid, if_paid, without_owing}
 use Rattle.program_sizes.proofs.ExpandedSizes.Parts.{emit_paid, plain_paid, set_paid, put_paid, mark_paid, leave_paid, label_paid, declared_paid, weighed_paid, inside_paid, switch_paid, array_paid, note_paid, loop_paid}
 use Rattle.program_sizes.proofs.ExpandedSizes.Expressions.{CalleesPaid, PaidThere, expression_paid, target_paid, apply_paid, discarded_paid}

@@ -38,7 +38,6 @@ use Rattle.clock_ir.specs.WellTimed.{Keeps, IsWellTimedBlock, IsWellTimedLoop, I
 use Rattle.program_validity.specs.Untimed.{untimed_op, untimed_body, untimed_block, untimed_loop, untimed_node, untimed}
 use Rattle.program_validity.specs.Checks.{op_at, body_in_time}
 use Rattle.program_validity.specs.Nodes.{ready, is_ready_by, is_ready_before, is_there, end_in_time, block_in_time, is_stored_before, is_out_ready, exit_in_time, loop_in_time, node_in_time}
-use Rattle.program_validity.proofs.WellTimed.OperationKinds.{stores_same}
 use Rattle.program_validity.proofs.WellTimed.Lists.{some_same, no_some, get_map}
 use Rattle.program_validity.proofs.WellTimed.Tests.{all_get, all_from}
 use Rattle.program_validity.proofs.WellTimed.Edges.{AreTimes}
@@ -170,7 +169,7 @@ module _ (times : List ℕ) (ops : List (Op Timed)) (are : AreTimes times ops) w
       by_op None e = absurd (no_some (sym (plain_at k None e) ∙ at))
       by_op (Some p) e =
           let same : untimed_op p ≡ op = some_same (sym (plain_at k (Some p) e) ∙ at) in
-          let stores : is_store p.kind ≡ true = ap (λ (q : Op Untimed). is_store q.kind) same ∙ sym (stores_same op.kind) ∙ store in
+          let stores : is_store p.kind ≡ true = ap (λ (q : Op Untimed). is_store q.kind) same ∙ store in
           let start = are.starts k p e in
           let passes = all_get (is_stored_before (exit + ii)) ops k p h e in
           let before : nat_lt p.stamp.start (exit + ii) ≡ true = ap (λ b. not b || nat_lt p.stamp.start (exit + ii)) (sym stores) ∙ passes in
@@ -180,18 +179,18 @@ module _ (times : List ℕ) (ops : List (Op Timed)) (are : AreTimes times ops) w
   stored_to : (ii exit : ℕ) → lowest.StoresAreDone plain times ii exit → list_all (is_stored_before (exit + ii)) ops ≡ true
   stored_to ii exit h = all_from (is_stored_before (exit + ii)) ops (λ k p e. elim (cases_Bool (is_store p.kind)) [
     | inl on ↦
-        let le = h k (untimed_op p) (plain_at k (Some p) e) (stores_same p.kind ∙ on) in
+        let le = h k (untimed_op p) (plain_at k (Some p) e) on in
         let start = are.starts k p e in
         or_right (not (is_store p.kind)) (nat_lt p.stamp.start (exit + ii)) (lt-ltb p.stamp.start (exit + ii) (omega arith))
     | inr off ↦ or_left (not (is_store p.kind)) (nat_lt p.stamp.start (exit + ii)) (ap not off)
   ])
 
-  results_same : (x : Source) → rules.result_of x ≡ result_of x
+  results_same : (x : Source) → result_of x ≡ result_of x
   results_same (source.Constant w) = refl
   results_same (source.Variable v) = refl
   results_same (source.Result j) = refl
 
-  tests_same : (x : Option Operand) → rules.test_maker x ≡ test_maker x
+  tests_same : (x : Option Operand) → test_maker x ≡ test_maker x
   tests_same None = refl
   tests_same (Some x) = results_same x.value
 

@@ -11,9 +11,9 @@ use Rattle.c_elaborate.specs.Programs.{program_elaborated}
 use Rattle.c_value.specs.Values.{width}
 use Rattle.pieces.specs.Program.{ArrayTree, ExpandedTree}
 use Rattle.c_meaning.specs.PieceRuns.Runs.{frame_of, started}
-use Rattle.elaborated_programs.specs.Inputs.{ProgramInputsFit}
-use Rattle.elaborated_programs.proofs.Tokens.{numbers_fit}
-use Rattle.source_runs.proofs.ElaboratedSubscripts.Programs.{checked_fit}
+use Rattle.expanded_programs.specs.ElaboratedPrograms.Inputs.{ProgramInputsFit}
+use Rattle.expanded_programs.proofs.ElaboratedPrograms.Tokens.{numbers_fit}
+use Rattle.source_answers.proofs.SourceRuns.ElaboratedSubscripts.Programs.{checked_fit}
 use Rattle.ir_core.specs.declared.cfg.Cfg.{Cfg}
 use Rattle.ir_core.specs.declared.cfg.Memory.{Memory}
 use Rattle.ir_core.specs.declared.stamp.Untimed.{Untimed}
@@ -24,21 +24,21 @@ use Rattle.cycle_report.specs.PlainReport.{PlainLoop}
 use Rattle.report_rows.specs.Costs.{AreRowsOf}
 use Rattle.ir_core.specs.Bodies.{Words, Shapes}
 use Rattle.ir_core.specs.FlatRuns as flat
-use Rattle.lower_runs.specs.Suits as suits
+use Rattle.pass_runs.specs.LowerRuns.Suits as suits
 use Rattle.passes.specs.Lowering.Shapes.{first_point}
 use Rattle.timed_pieces.specs.FlatRuns.{Choice, IsFine, IsLaidOut}
 use Rattle.expanded_pieces.specs.BegunPieces.Points.{begins_at}
 use Rattle.timed_pieces.specs.Laws.{HasTimes}
-use Rattle.source_runs.proofs.SourceTypes.Whole.{sources_fine}
+use Rattle.source_answers.proofs.SourceRuns.SourceTypes.Whole.{sources_fine}
 use Rattle.expanded_pieces.specs.ApartPoints.Apart.{AreApart}
 use Rattle.expanded_pieces.specs.ApartPoints.Points.{all_points}
 use Rattle.expanded_pieces.proofs.ApartPoints.Sources.{source_points}
-use Rattle.formula_cycles.proofs.LaidOut.{loops_lead}
+use Rattle.timed_pieces.proofs.FormulaCycles.LaidOut.{loops_lead}
 use Rattle.source_answers.proofs.EndedLoops.Whole.{loops_end}
 use Rattle.source_answers.proofs.NodePoints.Whole.{points_differ, passes_kept}
 use Rattle.timed_pieces.specs.StartedWords.Contents.{Begins}
 use Rattle.compile_steps.proofs.BegunPrograms.Programs.{checked_begins}
-use Rattle.source_runs.specs.Laws.{IsFaultless, expanded}
+use Rattle.source_answers.specs.SourceRuns.{IsFaultless, expanded}
 use Rattle.source_answers.specs.Laws.{HaveWidths, IsCounted, AnswersAs}
 use Rattle.source_answers.proofs.Whole.{answers}
 use Rattle.compile_steps.specs.Flat.{IsFlatOf}

@@ -16,9 +16,9 @@ use Rattle.piece_making.specs.Making.{State, Part, gives, then_, emit, inside, f
 use Rattle.piece_making.specs.Saving.{save, is_logical}
 use Rattle.piece_making.specs.Calls.{Call, point_in}
 use Rattle.piece_making.specs.Assigning.{step, assigned, bumped}
-use Rattle.c_expand.specs.Expressions.{Given, Callee, may_be_unused, discarded, value_or_zero, arm, decided, to_bool, same, fork_of, is_or, forked, operated, chosen, expression, operands, targeted, argument, arguments}
+use Rattle.c_expand.specs.Expressions.{Given, Callee, comma_left, value_or_zero, arm, decided, to_bool, same, fork_of, is_or, forked, operated, chosen, expression, operands, targeted, argument, arguments}
 use Rattle.expanded_pieces.proofs.ApartPoints.Quiet.{fresh_quiet, inside_quiet, save_quiet, assigned_quiet, bumped_quiet}
-use Rattle.expanded_pieces.proofs.ApartPoints.Expressions.{discarded_quiet}
+use Rattle.expanded_pieces.proofs.ApartPoints.Expressions.{comma_left_quiet}
 use Rattle.source_answers.proofs.EndedLoops.Parts.{RowEnds, Ends, EndsThere, EndsWithin, row_joined, then_ends, emit_ends, ends_if, quiet_ends}
 
 -- so do those of calls
@@ -118,8 +118,8 @@ module _ (c : Call) where
           then_ends t _ (target_ends left no_effects (step up) at s) (quiet_ends last (bumped_quiet c t.value post t.state))
       expression_ends (core.comma left right) s =
           let x = expression g c left s in
-          let u = discarded (may_be_unused left) x.value x.state in
-          then_ends x _ (expression_ends left s) (then_ends u _ (quiet_ends u (discarded_quiet (may_be_unused left) x.value x.state)) (expression_ends right u.state))
+          let u = comma_left c.file_variables left x.value (effects right) x.state in
+          then_ends x _ (expression_ends left s) (then_ends u _ (quiet_ends u (comma_left_quiet c.file_variables left x.value (effects right) x.state)) (expression_ends right u.state))
 
       operands_end : (xs : CoreTrees) (later : Effects) (before : List PureTree) → EndsThere (operands g c xs later before)
       operands_end core.none later before s = tt

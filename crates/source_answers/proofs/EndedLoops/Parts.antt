@@ -6,7 +6,7 @@ use Rattle.pieces.specs.Trees.{PieceTree, PieceTrees, piece_row}
 use Rattle.piece_making.specs.Making.{State, Part, Inner, then_, emit}
 use Rattle.expanded_pieces.specs.ApartPoints.Points.{all_points, own_points}
 use Rattle.expanded_pieces.proofs.ApartPoints.Quiet.{Quiet}
-use Rattle.formula_cycles.specs.Loops.{PiecesLoopsEnd, PieceLoopsEnd}
+use Rattle.timed_pieces.specs.FormulaCycles.Loops.{PiecesLoopsEnd, PieceLoopsEnd}
 
 abbrev pub RowEnds : List PieceTree → Type 0
 RowEnds xs = PiecesLoopsEnd (piece_row xs)

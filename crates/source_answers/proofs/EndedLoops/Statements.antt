@@ -18,8 +18,8 @@ use Rattle.piece_making.specs.Leaving.{is_empty}
 use Rattle.piece_making.specs.Objects.{local_array, array_weight, array_like}
 use Rattle.piece_making.specs.Calls.{Call, point_in}
 use Rattle.piece_making.specs.Assigning.{step, one, apply}
-use Rattle.c_expand.specs.Expressions.{Callee, expression, targeted, discarded}
-use Rattle.c_expand.specs.Statements.{marked, is_call, valued, changed, action, actions, subscripts_at, item_value, filled, initialised, scalar_declared, declared_as, declare, tested, stepped, loop_body, repeat, result_variable, result_set, returned, branch, labelled, statement, other_branch, statements}
+use Rattle.c_expand.specs.Expressions.{Callee, expression, targeted, discarded, is_call}
+use Rattle.c_expand.specs.Statements.{marked, valued, changed, action, actions, subscripts_at, item_value, filled, initialised, scalar_declared, declared_as, declare, tested, stepped, loop_body, repeat, result_variable, result_set, returned, branch, labelled, statement, other_branch, statements}
 use Rattle.passes.specs.Lowering.Shapes.{first_point, or_at}
 use Rattle.report_rows.specs.Costs.{end_of}
 use Rattle.expanded_pieces.proofs.ApartPoints.Quiet.{QuietThere, quiet_then, array_quiet, note_quiet, loop_quiet, declared_quiet, label_quiet, inside_quiet, switch_quiet, apply_quiet}

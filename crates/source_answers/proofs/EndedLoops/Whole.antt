@@ -20,7 +20,7 @@ use Rattle.c_expand.specs.Expressions.{Given, Callee}
 use Rattle.c_expand.specs.Statements.{marked, statements}
 use Rattle.c_expand.specs.Expansion.{parameter, parameters, locals, homes_for, end_of, run_through, within, opened, opened_as, calls, is_array, is_kept, kept_scalar, kept_scalars, first_kept, file_home, file_homes, kept_behind, top_parameter, top_parameters, outermost, top_call, top_run, top_of, top_made, named, nothing}
 use Rattle.expanded_pieces.proofs.ApartPoints.Quiet.{fresh_quiet, result_quiet, array_quiet, slot_quiet, call_quiet, declared_quiet}
-use Rattle.formula_cycles.specs.Loops.{PiecesLoopsEnd, PieceLoopsEnd}
+use Rattle.timed_pieces.specs.FormulaCycles.Loops.{PiecesLoopsEnd, PieceLoopsEnd}
 use Rattle.source_answers.specs.EndedLoops.{ExpandedLoopsEnd}
 use Rattle.source_answers.proofs.EndedLoops.Parts.{EndsThere, then_ends, emit_ends, ends_if, quiet_ends}
 use Rattle.source_answers.proofs.EndedLoops.Expressions.{CalleesEnd}

@@ -7,11 +7,11 @@ use Rattle.ir_core.specs.Trees.{BlockTree, SequenceTree, sequence, PartTrees, no
 use Rattle.passes.specs.Conversion.Merging.{Branches, first_of, branches_of, opened, merged, joined}
 use Rattle.passes.specs.Conversion.Overlapping.{chosen_test, loop_by}
 use Rattle.passes.specs.Conversion.{Scope, going_on, part_before, behind, converted_sequence, converted_behind, converted_parts, converted_shape, converted_side, converted_arms}
-use Rattle.convert_runs.specs.Points.{loop_test, Keeps, BehindKeeps, ShapeKeeps, SideKeeps, ArmsKeep}
-use Rattle.convert_runs.specs.ConvertedTrees.Points as blocks
-use Rattle.convert_runs.specs.ConvertedTrees.Points.{live_points, points_behind}
+use Rattle.pass_runs.specs.ConvertRuns.Points.{loop_test, Keeps, BehindKeeps, ShapeKeeps, SideKeeps, ArmsKeep}
+use Rattle.pass_runs.specs.ConvertRuns.ConvertedTrees.Points as blocks
+use Rattle.pass_runs.specs.ConvertRuns.ConvertedTrees.Points.{live_points, points_behind}
 use Rattle.expanded_pieces.proofs.ApartPoints.Apart.{IsIn, Taken, in_left, in_right, in_either, take_none, take_all, take_both, take_left, take_right, take_keep}
-use Rattle.formula_cycles.proofs.Kept.{joined_point}
+use Rattle.timed_pieces.proofs.FormulaCycles.Kept.{joined_point}
 use Rattle.source_answers.proofs.NodePoints.Trees.{tree_points, parts_points, shape_points, side_points, arm_points}
 
 pub take_through : (all some xs : List Point) → Taken all some → Taken some xs → Taken all xs

@@ -7,9 +7,9 @@ use Rattle.pieces.specs.Trees.{PieceTree, PieceTrees}
 use Rattle.c_meaning.specs.PieceRuns.Pieces.{Frame}
 use Rattle.passes.specs.Lowering.Shapes.{any_continues, first_point, or_at, point_of}
 use Rattle.passes.specs.Lowering.{own_step, is_named}
-use Rattle.lower_runs.specs.LoweredTrees.Fitting.{ends_in, ends_before_arm}
-use Rattle.lower_runs.specs.Suiting.{with_hidden, hidden_behind, ArmBy, StepBy, AloneBy, SidesBy, PieceSuits, BeginSuits, PiecesSuit, ArmsSuit, AreApart}
-use Rattle.convert_runs.specs.LoweredConversions.PiecePoints.{from_point, step_behind, points_in, points_of, points_before, points_in_arms}
+use Rattle.pass_runs.specs.LowerRuns.LoweredTrees.Fitting.{ends_in, ends_before_arm}
+use Rattle.pass_runs.specs.LowerRuns.Suiting.{with_hidden, hidden_behind, ArmBy, StepBy, AloneBy, SidesBy, PieceSuits, BeginSuits, PiecesSuit, ArmsSuit, AreApart}
+use Rattle.pass_runs.specs.ConvertRuns.LoweredConversions.PiecePoints.{from_point, step_behind, points_in, points_of, points_before, points_in_arms}
 use Rattle.expanded_pieces.proofs.ApartPoints.Apart.{IsIn, in_either}
 
 module _ (f : Frame) (kept : Point → Bool) where

@@ -7,7 +7,7 @@ use Rattle.pieces.specs.Trees.{PieceTree, PieceTrees}
 use Rattle.passes.specs.Lowering.{is_named}
 use Rattle.expanded_pieces.specs.ApartPoints.Points.{all_points, own_points}
 use Rattle.expanded_pieces.specs.BegunPieces.Points.{listed_if}
-use Rattle.source_runs.proofs.FinePieces.Dealing.{Dealt, dealt_none, dealt_left, dealt_right, dealt_append}
+use Rattle.source_answers.proofs.SourceRuns.FinePieces.Dealing.{Dealt, dealt_none, dealt_left, dealt_right, dealt_append}
 
 -- As it is asked, those of marks and ends that may be passed, and those of others.
 abbrev mutual

@@ -13,7 +13,7 @@ use Rattle.passes.specs.Lowering.Blocks.{Scope, begun, with_exit, ends_by_test, 
 use Rattle.passes.specs.Lowering.Copies.{fixed_behind, fixed_behind_shape, copied_parts}
 use Rattle.passes.specs.Lowering.{Rest, last, followed, parts_of, land_of, side_from, with_copies, own_step, stepped, is_named, piece_count, targets, other, lowered, lowered_piece, before_arm, arms}
 use Rattle.passes.specs.Conversion.Merging.{first_of}
-use Rattle.lower_runs.proofs.LowerControl.Rests.{set_step, put_step, exit_step, test_step, fork_step, cases_step}
+use Rattle.pass_runs.proofs.LowerRuns.LowerControl.Rests.{set_step, put_step, exit_step, test_step, fork_step, cases_step}
 use Rattle.expanded_pieces.proofs.ApartPoints.Apart.{Taken, take_none, take_all, take_both, take_right}
 use Rattle.expanded_pieces.specs.BegunPieces.Points.{listed_if}
 use Rattle.expanded_pieces.proofs.BlockPoints.Parts.{IsHeaded, IsMarkIf, PartsBegin, PartBegins, ArmsBegin}

@@ -14,7 +14,7 @@ use Rattle.hls_base.specs.Valued.{Valued, is, faulty, valued}
 use Rattle.c_meaning.specs.PieceRuns.Values.{Store, value, values, element_number}
 use Rattle.c_meaning.specs.PieceRuns.Pieces.{Way, on, broke, continued, left, Turn, again, over, out, Frame, set, put_at, behind, behind_fork, behind_switch, behind_loop, turn_of, if_again, repeat, tested, turned, test_first, test_last, is_word, case_target, if_none, default_target, or_else, target, switch_word, behind_piece, from_target, piece_run, pieces_run, landed, from_piece}
 use Rattle.passes.specs.Lowering.{is_named}
-use Rattle.lower_runs.proofs.LowerControl.Cases.{or_true, self_same}
+use Rattle.pass_runs.proofs.LowerRuns.LowerControl.Cases.{or_true, self_same}
 use Rattle.expanded_pieces.proofs.ApartPoints.Apart.{IsIn, Covers, in_left, in_right, in_either}
 use Rattle.source_answers.proofs.NodePoints.Listed.{pieces_points, piece_points, points_until, points_from}
 

@@ -15,13 +15,13 @@ use Rattle.ir_core.specs.Trees.{SequenceTree}
 use Rattle.passes.specs.Lowering.{last, lowered, side_from}
 use Rattle.passes.specs.Conversion.{converted_sequence}
 use Rattle.ir_layout.specs.Nodes.{node_of, node_point}
-use Rattle.convert_runs.specs.ConvertedTrees.Points as blocks
-use Rattle.convert_runs.specs.ConvertedTrees.Points.{live_points, stays_in}
-use Rattle.convert_runs.proofs.ConvertedTrees.Points.{apart, numbered}
-use Rattle.convert_runs.specs.LoweredConversions.PiecePoints.{from_point, points_in}
-use Rattle.convert_runs.proofs.LoweredConversions.Points.{points}
-use Rattle.lower_runs.specs.Suits.{scope_of}
-use Rattle.lower_runs.specs.Holding.{none_hidden}
+use Rattle.pass_runs.specs.ConvertRuns.ConvertedTrees.Points as blocks
+use Rattle.pass_runs.specs.ConvertRuns.ConvertedTrees.Points.{live_points, stays_in}
+use Rattle.pass_runs.proofs.ConvertRuns.ConvertedTrees.Points.{apart, numbered}
+use Rattle.pass_runs.specs.ConvertRuns.LoweredConversions.PiecePoints.{from_point, points_in}
+use Rattle.pass_runs.proofs.ConvertRuns.LoweredConversions.Points.{points}
+use Rattle.pass_runs.specs.LowerRuns.Suits.{scope_of}
+use Rattle.pass_runs.specs.LowerRuns.Holding.{none_hidden}
 use Rattle.timed_pieces.specs.FlatRuns.{Choice, IsFine, IsLaidOut, numbering_of, conversion_of, tree_of, numbered_of, has_node}
 use Rattle.expanded_pieces.specs.ApartPoints.Apart.{AreApart}
 use Rattle.expanded_pieces.specs.ApartPoints.Points.{all_points}

@@ -15,9 +15,9 @@ use Rattle.c_meaning.specs.PieceRuns.Values.{Store}
 use Rattle.c_meaning.specs.PieceRuns.Pieces.{Way, pieces_run}
 use Rattle.c_meaning.specs.PieceRuns.Runs.{frame_of, started}
 use Rattle.expand_runs.specs.Reading.{IsTyped}
-use Rattle.elaborated_programs.specs.Inputs.{ProgramInputsFit}
-use Rattle.elaborated_programs.proofs.Tokens.{numbers_fit}
-use Rattle.source_runs.proofs.ElaboratedSubscripts.Programs.{checked_fit}
+use Rattle.expanded_programs.specs.ElaboratedPrograms.Inputs.{ProgramInputsFit}
+use Rattle.expanded_programs.proofs.ElaboratedPrograms.Tokens.{numbers_fit}
+use Rattle.source_answers.proofs.SourceRuns.ElaboratedSubscripts.Programs.{checked_fit}
 use Rattle.ir_core.specs.declared.cfg.Cfg.{Cfg}
 use Rattle.ir_core.specs.declared.stamp.Untimed.{Untimed}
 use Rattle.ir_core.specs.declared.timed.Timed.{Timed}
@@ -26,27 +26,27 @@ use Rattle.cycle_report.specs.FormulaValue.{cycles}
 use Rattle.cycle_report.specs.PlainReport.{PlainLoop}
 use Rattle.report_rows.specs.Costs.{AreRowsOf}
 use Rattle.ir_core.specs.Bodies.{Words}
-use Rattle.convert_runs.specs.Typed.{Fits}
-use Rattle.convert_runs.specs.LoweredConversions.Suiting as typing
-use Rattle.lower_runs.specs.Suits.{scope_of}
-use Rattle.lower_runs.specs.Holding.{Holds, none_hidden}
+use Rattle.pass_runs.specs.ConvertRuns.Typed.{Fits}
+use Rattle.pass_runs.specs.ConvertRuns.LoweredConversions.Suiting as typing
+use Rattle.pass_runs.specs.LowerRuns.Suits.{scope_of}
+use Rattle.pass_runs.specs.LowerRuns.Holding.{Holds, none_hidden}
 use Rattle.timed_pieces.specs.FlatRuns.{Choice, IsFine, IsLaidOut}
 use Rattle.expanded_pieces.specs.BegunPieces.Points.{begins_at}
 use Rattle.timed_pieces.specs.Laws.{HasTimes}
 use Rattle.sound_trees.specs.Subscripts.{PiecesSubscriptsFit}
 use Rattle.timed_pieces.proofs.SoundPrograms.Whole.{sound}
-use Rattle.source_runs.proofs.SourceTypes.Whole.{sources_fine}
+use Rattle.source_answers.proofs.SourceRuns.SourceTypes.Whole.{sources_fine}
 use Rattle.expanded_pieces.specs.ApartPoints.Apart.{AreApart}
 use Rattle.expanded_pieces.specs.ApartPoints.Points.{all_points}
 use Rattle.expanded_pieces.proofs.ApartPoints.Sources.{source_points}
-use Rattle.formula_cycles.specs.Ends.{LoopsLeadToTheirEnds}
-use Rattle.formula_cycles.specs.Laws.{FormulaGivesCycles}
-use Rattle.formula_cycles.proofs.LaidOut.{loops_lead}
-use Rattle.formula_cycles.proofs.Pieces.{formula_counts_pieces}
+use Rattle.timed_pieces.specs.FormulaCycles.Ends.{LoopsLeadToTheirEnds}
+use Rattle.timed_pieces.specs.FormulaCycles.{FormulaGivesCycles}
+use Rattle.timed_pieces.proofs.FormulaCycles.LaidOut.{loops_lead}
+use Rattle.timed_pieces.proofs.FormulaCycles.Pieces.{formula_counts_pieces}
 use Rattle.source_answers.proofs.EndedLoops.Whole.{loops_end}
 use Rattle.source_answers.proofs.NodePoints.Whole.{points_differ, passes_kept}
-use Rattle.source_runs.specs.Laws.{IsFaultless, expanded, EndsAs}
-use Rattle.source_runs.proofs.Whole.{ends_as, ended_defined, same_answer, runs_as}
+use Rattle.source_answers.specs.SourceRuns.{IsFaultless, expanded, EndsAs}
+use Rattle.source_answers.proofs.SourceRuns.Whole.{ends_as, ended_defined, same_answer, runs_as}
 use Rattle.source_answers.specs.SourceCycles.{RunsInCycles, SourceFormulaCounts}
 
 runs_in_cycles : (source : List ℕ) (p : ProgramTree) (top : ℕ) (name : List ℕ) (s : IsFaultless source p top name) (start : Point)

@@ -6,10 +6,10 @@ use Rattle.pieces.specs.Resolved.Core.{CoreProgramTree}
 use Rattle.pieces.specs.Program.{ExpandedTree}
 use Rattle.c_meaning.specs.PieceRuns.Runs.{frame_of}
 use Rattle.expanded_programs.specs.Calls.Programs.{IsProgramSound}
-use Rattle.elaborated_programs.proofs.Tokens.{numbers_fit}
-use Rattle.elaborated_programs.proofs.Whole.{elaborated_sound}
+use Rattle.expanded_programs.proofs.ElaboratedPrograms.Tokens.{numbers_fit}
+use Rattle.expanded_programs.proofs.ElaboratedPrograms.Whole.{elaborated_sound}
 use Rattle.passes.specs.Lowering.Blocks.{Scope}
-use Rattle.lower_runs.specs.Suits.{scope_of}
+use Rattle.pass_runs.specs.LowerRuns.Suits.{scope_of}
 use Rattle.program_sizes.proofs.CountedOperations.Weights.{all_by_weight}
 use Rattle.program_sizes.proofs.CountedOperations.Trees.{lowered_counted}
 use Rattle.program_sizes.proofs.LoweredNodes.Trees.{lowered_nodes}
@@ -18,7 +18,7 @@ use Rattle.program_sizes.proofs.FewObjects.Programs.{few_objects}
 use Rattle.program_sizes.proofs.DeclaredVariables.Whole.{variables_counted}
 use Rattle.program_sizes.proofs.DeclaredObjects.Counting.{objects_declared}
 use Rattle.program_sizes.proofs.DeclaredObjects.Parameters.{parameters_few}
-use Rattle.source_runs.specs.Laws.{expanded}
+use Rattle.source_answers.specs.SourceRuns.{expanded}
 use Rattle.source_validity.specs.AcceptedPrograms.{SourcesAreLoweredToFew}
 
 pub lowered_to_few : SourcesAreLoweredToFew

@@ -7,7 +7,7 @@ use Rattle.c_meaning.specs.PieceRuns.Runs.{frame_of}
 use Rattle.ir_core.specs.declared.cfg.Frame.{Frame}
 use Rattle.ir_lower.specs.Frames.{memory_view, FrameView, frame_view}
 use Rattle.compile_steps.specs.Resets.{array_memory, expanded_frame}
-use Rattle.lower_runs.specs.Suits.{scope_of}
+use Rattle.pass_runs.specs.LowerRuns.Suits.{scope_of}
 use Rattle.timed_pieces.specs.FlatRuns.{numbering_of, conversion_of}
 use Rattle.c_elaborate.specs.Programs.{program_elaborated}
 use Rattle.source_validity.specs.ValidFrames.{NamesAreFew}
@@ -17,14 +17,14 @@ use Rattle.program_sizes.proofs.FewObjects.Programs.{few_objects}
 use Rattle.c_tree.specs.Terminals.{terminals}
 use Rattle.passes.specs.Lowering.Blocks.{Scope}
 use Rattle.program_validity.specs.Programs.{is_valid}
-use Rattle.elaborated_programs.proofs.Tokens.{numbers_fit}
-use Rattle.source_runs.proofs.ElaboratedSubscripts.Programs.{checked_fit}
-use Rattle.source_runs.proofs.SourceTypes.Whole.{sources_fine}
-use Rattle.source_machines.proofs.ForwardPrograms.Whole.{compiled_forward}
+use Rattle.expanded_programs.proofs.ElaboratedPrograms.Tokens.{numbers_fit}
+use Rattle.source_answers.proofs.SourceRuns.ElaboratedSubscripts.Programs.{checked_fit}
+use Rattle.source_answers.proofs.SourceRuns.SourceTypes.Whole.{sources_fine}
+use Rattle.source_validity.proofs.SourceMachines.ForwardPrograms.Whole.{compiled_forward}
 use Rattle.program_sizes.specs.CompiledSizes.{AreLight, IsSmallProgram}
 use Rattle.program_sizes.proofs.CompiledSizes.Whole.{compiled_small, small_has_numbers}
 use Rattle.source_validity.proofs.CompiledValidity.Sources.{sources_valid}
-use Rattle.source_runs.specs.Laws.{expanded}
+use Rattle.source_answers.specs.SourceRuns.{expanded}
 use Rattle.source_validity.specs.AcceptedPrograms.{AcceptedSourcesCompileToValid}
 
 -- a frame has as many variables and memories as the expanded program has variables and arrays

@@ -17,7 +17,7 @@ use Rattle.pieces.specs.Program.{ArrayTree, ExpandedTree}
 use Rattle.piece_making.specs.declared.frame.Home.TheVariants as home
 use Rattle.piece_making.specs.Making.{variable_number, array_number}
 use Rattle.c_meaning.specs.PieceRuns.Runs.{frame_of}
-use Rattle.lower_runs.specs.Holding.{IsThere}
+use Rattle.pass_runs.specs.LowerRuns.Holding.{IsThere}
 use Rattle.expanded_programs.specs.Calls.Programs.{IsProgramSound}
 use Rattle.expanded_programs.specs.Outlines.{tops_from, scalar_kinds}
 use Rattle.expanded_programs.proofs.Entries.{HasFrom, from_first, from_rest}

@@ -18,7 +18,7 @@ use Rattle.ir_core.specs.declared.cfg.Node.{Node}
 use Rattle.ir_core.specs.declared.cfg.Node.TheVariants as node
 use Rattle.ir_core.specs.declared.stamp.Untimed.{Untimed}
 use Rattle.report_rows.specs.Costs.{end_of}
-use Rattle.formula_cycles.specs.Ends.{targets, followers, Among, LoopsLeadToTheirEnds}
+use Rattle.timed_pieces.specs.FormulaCycles.Ends.{targets, followers, Among, LoopsLeadToTheirEnds}
 use Rattle.program_validity.specs.Targets.{end_leads_to, leads_to, is_end_of, is_block_at_end_of, is_left, is_left_if}
 
 -- ---- points

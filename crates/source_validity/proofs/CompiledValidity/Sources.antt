@@ -5,21 +5,21 @@ use Rattle.pieces.specs.Resolved.Core.{CoreProgramTree}
 use Rattle.pieces.specs.Program.{ExpandedTree}
 use Rattle.c_meaning.specs.PieceRuns.Runs.{frame_of}
 use Rattle.expanded_programs.specs.Calls.Programs.{IsProgramSound}
-use Rattle.elaborated_programs.proofs.Tokens.{numbers_fit}
-use Rattle.elaborated_programs.proofs.Whole.{elaborated_sound}
+use Rattle.expanded_programs.proofs.ElaboratedPrograms.Tokens.{numbers_fit}
+use Rattle.expanded_programs.proofs.ElaboratedPrograms.Whole.{elaborated_sound}
 use Rattle.expanded_pieces.specs.BegunPieces.Points.{begins_at}
 use Rattle.expanded_pieces.proofs.ApartPoints.Sources.{source_points}
 use Rattle.typed_pieces.proofs.Proper.{pieces_operate}
-use Rattle.source_runs.proofs.SourceTypes.Whole.{sources_fine, sources_typed, sources_lengths}
-use Rattle.source_runs.proofs.ElaboratedSubscripts.Programs.{checked_fit}
+use Rattle.source_answers.proofs.SourceRuns.SourceTypes.Whole.{sources_fine, sources_typed, sources_lengths}
+use Rattle.source_answers.proofs.SourceRuns.ElaboratedSubscripts.Programs.{checked_fit}
 use Rattle.compile_steps.proofs.BegunPrograms.Programs.{checked_begins}
-use Rattle.kept_tables.proofs.Programs.{checked_proper}
-use Rattle.formula_cycles.specs.Ends.{LoopsLeadToTheirEnds}
-use Rattle.formula_cycles.proofs.LaidOut.{loops_lead}
+use Rattle.source_validity.proofs.KeptTables.Programs.{checked_proper}
+use Rattle.timed_pieces.specs.FormulaCycles.Ends.{LoopsLeadToTheirEnds}
+use Rattle.timed_pieces.proofs.FormulaCycles.LaidOut.{loops_lead}
 use Rattle.source_answers.proofs.EndedLoops.Whole.{loops_end}
 use Rattle.source_answers.proofs.NodePoints.Whole.{points_differ}
 use Rattle.source_validity.proofs.ValidFrames.Whole.{frame_valid}
-use Rattle.source_runs.specs.Laws.{expanded}
+use Rattle.source_answers.specs.SourceRuns.{expanded}
 use Rattle.source_validity.specs.CompiledValidity.{SourcesCompileToValid}
 use Rattle.source_validity.proofs.CompiledValidity.Frames.{sound_params, dimensioned}
 use Rattle.source_validity.proofs.CompiledValidity.Whole.{laid_out_valid}

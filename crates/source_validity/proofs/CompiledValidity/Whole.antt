@@ -16,8 +16,8 @@ use Rattle.ir_lower.specs.Frames.{MemoryView, memory_view, FrameView, frame_view
 use Rattle.compile_steps.specs.Resets.{array_memory, expanded_frame}
 use Rattle.ir_core.specs.Trees.{SequenceTree}
 use Rattle.passes.specs.Lowering.Blocks.{Scope}
-use Rattle.lower_runs.specs.Suits.{scope_of}
-use Rattle.convert_runs.specs.LoweredConversions.Suiting.{widths_of, words_of}
+use Rattle.pass_runs.specs.LowerRuns.Suits.{scope_of}
+use Rattle.pass_runs.specs.ConvertRuns.LoweredConversions.Suiting.{widths_of, words_of}
 use Rattle.timed_pieces.specs.FlatRuns.{tree_of, numbered_of, numbering_of}
 use Rattle.timed_pieces.specs.StartedWords.Contents.{ResultIsThere}
 use Rattle.sound_trees.specs.Ready.{BlockIsReady}

@@ -10,8 +10,8 @@ use Rattle.passes.specs.Lowering.Blocks as lower
 use Rattle.passes.specs.Lowering.Blocks.{begun}
 use Rattle.passes.specs.Lowering.{last, lowered}
 use Rattle.passes.specs.Numbering.{numbered_sequence}
-use Rattle.convert_runs.specs.LoweredConversions.Suiting.{widths_of, words_of, PiecesSuit}
-use Rattle.lower_runs.specs.Suits.{scope_of}
+use Rattle.pass_runs.specs.ConvertRuns.LoweredConversions.Suiting.{widths_of, words_of, PiecesSuit}
+use Rattle.pass_runs.specs.LowerRuns.Suits.{scope_of}
 use Rattle.sound_trees.specs.Trees.{SequenceHas}
 use Rattle.sound_trees.specs.Ready.{BlockIsReady}
 use Rattle.sound_trees.specs.Loops.{NumberedLoopIsReady}
@@ -21,10 +21,10 @@ use Rattle.sound_trees.proofs.Lowered.{lowered_ready}
 use Rattle.sound_trees.proofs.NumberedTrees as numbered
 use Rattle.sound_trees.proofs.Converted as converted
 use Rattle.sound_trees.proofs.Whole.{tree_ready}
-use Rattle.elaborated_programs.proofs.Tokens.{numbers_fit}
-use Rattle.source_runs.proofs.ElaboratedSubscripts.Programs.{checked_fit}
-use Rattle.source_runs.proofs.SourceTypes.Whole.{sources_fine}
-use Rattle.source_runs.specs.Laws.{expanded}
+use Rattle.expanded_programs.proofs.ElaboratedPrograms.Tokens.{numbers_fit}
+use Rattle.source_answers.proofs.SourceRuns.ElaboratedSubscripts.Programs.{checked_fit}
+use Rattle.source_answers.proofs.SourceRuns.SourceTypes.Whole.{sources_fine}
+use Rattle.source_answers.specs.SourceRuns.{expanded}
 use Rattle.source_validity.specs.NearOuts.{LaidOutOutsAreNear, SourcesHaveNearOuts}
 use Rattle.source_validity.proofs.NearOuts.Laid.{program_has}
 use Rattle.source_validity.proofs.NearOuts.Iterations.{BodyOutsAreNear, BodyTestIsNear, own_outs, iteration_outs, tests_fit}

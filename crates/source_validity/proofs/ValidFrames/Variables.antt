@@ -14,7 +14,7 @@ use Rattle.c_value.specs.Values.{width}
 use Rattle.pieces.specs.Program.{ExpandedTree}
 use Rattle.c_meaning.specs.PieceRuns.Pieces.{type_of}
 use Rattle.c_meaning.specs.PieceRuns.Runs.{frame_of, variables_of}
-use Rattle.lower_runs.specs.Holding.{IsThere}
+use Rattle.pass_runs.specs.LowerRuns.Holding.{IsThere}
 use Rattle.timed_pieces.specs.StartedWords.FirstWords.{FillVariables, IsNotIn, Differ, AreApart}
 use Rattle.program_validity.specs.Widths.{is_width, is_word_of}
 use Rattle.program_validity.specs.Frames.{is_among, are_different, are_variables, is_kept_among, keep_different}

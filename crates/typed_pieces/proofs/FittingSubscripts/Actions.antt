@@ -19,8 +19,8 @@ use Rattle.piece_making.specs.Making.{State, gives, emit}
 use Rattle.piece_making.specs.Objects.{local_array, array_like}
 use Rattle.piece_making.specs.Calls.{Call, point_in}
 use Rattle.piece_making.specs.Assigning.{Change, step, one, apply, new_value, target_read}
-use Rattle.c_expand.specs.Expressions.{Callee, expression}
-use Rattle.c_expand.specs.Statements.{marked, valued, changed, action, actions, item_value, filled, initialised, scalar_declared, declared_as, declare, tested, stepped, result_variable, result_set, returned, is_call, subscripts_at}
+use Rattle.c_expand.specs.Expressions.{Callee, expression, is_call}
+use Rattle.c_expand.specs.Statements.{marked, valued, changed, action, actions, item_value, filled, initialised, scalar_declared, declared_as, declare, tested, stepped, result_variable, result_set, returned, subscripts_at}
 use Rattle.expanded_programs.specs.Statements.Scopes.{Setting, Reach, IsSoundIn, TestSound, ReturnSound, ActionsSound, ItemsSound, InitSound, objects_in, reach}
 use Rattle.expanded_programs.specs.Statements.Each.{IfThere, EachItem, InInit, EachAction}
 use Rattle.sound_trees.specs.Subscripts as pure

@@ -7,6 +7,7 @@ use Rattle.c_token.specs.declared.ctype.CType.{CType}
 use Rattle.c_tree.specs.declared.operator.Binary.{Binary}
 use Rattle.c_value.specs.Values.{int_type}
 use Rattle.pieces.specs.declared.resolved.expression.Cell.{Cell}
+use Rattle.pieces.specs.Resolved.Core.{CoreTree}
 use Rattle.pieces.specs.Trees as tree
 use Rattle.pieces.specs.Trees.{PureTree, PureTrees, PieceTree, piece_row}
 use Rattle.pieces.specs.Kind.{kind}
@@ -16,7 +17,7 @@ use Rattle.piece_making.specs.Making.{State, Part, gives, then_, emit, fresh}
 use Rattle.piece_making.specs.Saving.{save, is_logical}
 use Rattle.piece_making.specs.Calls.{Call, variable, array, point_in, home_of}
 use Rattle.piece_making.specs.Assigning.{Change, store, store_at, assigned, bumped, bumped_behind, new_value, computed, target_read, read_at, one}
-use Rattle.c_expand.specs.Expressions.{set_unused, discarded, arm, decided, to_bool, same, fork_of, is_or, forked, operated, chosen}
+use Rattle.c_expand.specs.Expressions.{is_call, may_be_unused, set_unused, discarded, comma_left, arm, decided, to_bool, same, fork_of, is_or, forked, operated, chosen}
 use Rattle.expand_runs.specs.Sound.{Objects}
 use Rattle.sound_trees.specs.Subscripts as pure
 use Rattle.sound_trees.specs.Subscripts.{SubscriptsFit, AllSubscriptsFit, PiecesSubscriptsFit}
@@ -83,6 +84,11 @@ module _ (c : Call) where
 
 pub discarded_makes : (b : Bool) (x : PureTree) (s : State) (w : World s) → SubscriptsFit s.arrays x → Makes Anything s w (discarded b x s)
 discarded_makes b x s w h = if_makes b (gives tt s) (set_unused x s) s w (gives_makes tt) (then_makes (own_makes (kind x) x s w h) (λ own s1 w1 l v. gives_makes tt))
+
+pub comma_left_makes : (n : ℕ) (left : CoreTree) (x : PureTree) (later : Effects) (s : State) (w : World s) → SubscriptsFit s.arrays x → Makes Anything s w (comma_left n left x later s)
+comma_left_makes n left x later s w h =
+    if_makes (is_call left) (gives tt s) (then_ (save n x later s) (λ y s1. discarded (may_be_unused left) y s1)) s w (gives_makes tt)
+    (then_makes (save_makes n x later s w h) (λ y s1 w1 l v. discarded_makes (may_be_unused left) y s1 w1 v))
 
 -- ---- assignments
 

@@ -14,7 +14,7 @@ use Rattle.piece_making.specs.Making.{State}
 use Rattle.piece_making.specs.Calls.{Call, array, home_of}
 use Rattle.piece_making.specs.Assigning.{Change, step}
 use Rattle.c_expand.specs.Expressions as e
-use Rattle.c_expand.specs.Expressions.{Given, Callee, may_be_unused, expression, operands, targeted, argument, arguments}
+use Rattle.c_expand.specs.Expressions.{Given, Callee, expression, operands, targeted, argument, arguments}
 use Rattle.expand_runs.specs.Sound.{Objects, IsSound, AreSound, ArgumentSound, ArgumentsSound, IsTarget}
 use Rattle.sound_trees.specs.Subscripts as pure
 use Rattle.sound_trees.specs.Subscripts.{AllSubscriptsFit}
@@ -24,7 +24,7 @@ use Rattle.typed_pieces.specs.FittingSubscripts.Standing.{Names, IsGivenFor, Are
 use Rattle.typed_pieces.proofs.FittingSubscripts.Fitting.{dimensions_same, row_more, read_fits}
 use Rattle.typed_pieces.proofs.FittingSubscripts.Parts.{later_both, fits_later, each_later, array_later, then_makes, gives_makes, known}
 use Rattle.typed_pieces.proofs.FittingSubscripts.Saved.{OperandsAt, longer, row_count, save_makes}
-use Rattle.typed_pieces.proofs.FittingSubscripts.Changes.{TargetAs, IsChange, change_later, operated_makes, chosen_makes, discarded_makes, assigned_makes, bumped_makes}
+use Rattle.typed_pieces.proofs.FittingSubscripts.Changes.{TargetAs, IsChange, change_later, operated_makes, chosen_makes, comma_left_makes, assigned_makes, bumped_makes}
 
 module _ (functions : List CoreFunctionTree) (dimensions : Cell → ℕ) (o : Objects) (c : Call) (Scene : (s : State) → World s → Type 0) (N : Names dimensions o c Scene) (g : Callee) (calls : CallsFit functions dimensions o c Scene g) where
   abbrev Fits : CoreTree → Type 0
@@ -88,7 +88,7 @@ module _ (functions : List CoreFunctionTree) (dimensions : Cell → ℕ) (o : Ob
         (λ t1 s1 w1 l v. bumped_makes dimensions o c Scene N t1 post s1 w1 (N.stays s w s1 w1 scene l) v)
     expression_makes (core.comma left right) s w scene h t =
         then_makes (expression_makes left s w scene h.0 t.0)
-        (λ x s1 w1 l v. then_makes (discarded_makes (may_be_unused left) x s1 w1 v) (λ u s2 w2 l2 a. expression_makes right s2 w2 (N.stays s w s2 w2 scene (later_both l l2)) h.1 t.1))
+        (λ x s1 w1 l v. then_makes (comma_left_makes c.file_variables left x (effects right) s1 w1 v) (λ u s2 w2 l2 a. expression_makes right s2 w2 (N.stays s w s2 w2 scene (later_both l l2)) h.1 t.1))
 
     pub operands_make : (xs : CoreTrees) (later : Effects) (before : List PureTree) (s : State) (w : World s) → Scene s w → AreSound o xs → EachFit xs → AllSubscriptsFit s.arrays (row before) → Makes (OperandsAt (length before + count xs)) s w (operands g c xs later before s)
     operands_make core.none later before s w scene h t b = gives_makes (record { fit = b; count = omega arith })

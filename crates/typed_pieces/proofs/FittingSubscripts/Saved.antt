@@ -1,5 +1,5 @@
 -- Saved values have subscripts that fit.
-use Rattle.std.proofs.Common.{◌≡◌, refl, ℕ, suc, ◌+◌, Bool, true, false, ◌&&◌, arith, List, [], ◌∷◌, ◌++◌, length}
+use Rattle.std.proofs.Common.{◌≡◌, refl, ℕ, suc, ◌+◌, Bool, true, false, ◌&&◌, ◌||◌, arith, List, [], ◌∷◌, ◌++◌, length}
 use Rattle.std.proofs.lemmas.List.{length-append}
 use Rattle.std.specs.Prelude.{nat_lt}
 use Rattle.pieces.specs.Trees as tree
@@ -8,7 +8,7 @@ use Rattle.pieces.specs.Kind.{kind}
 use Rattle.piece_making.specs.declared.effects.Effects.{Effects}
 use Rattle.piece_making.specs.Acting.{spoils}
 use Rattle.piece_making.specs.Making.{State, Part, gives, then_}
-use Rattle.piece_making.specs.Saving.{saved, all_saved, saved_if, may_skip_element, save}
+use Rattle.piece_making.specs.Saving.{has_element, is_logical, saved, all_saved, saved_if, save}
 use Rattle.sound_trees.specs.Subscripts as pure
 use Rattle.sound_trees.specs.Subscripts.{SubscriptsFit, AllSubscriptsFit}
 use Rattle.typed_pieces.specs.FittingSubscripts.Worlds.{World, Knows, Makes, Value}
@@ -42,14 +42,13 @@ mutual
       (λ xs s1 w1 l v. own_makes k (tree.element array (row xs) k at) s1 w1 (dimensions_same s1.arrays array (pure.count given) (pure.count (row xs)) (row_count (pure.count given) (pure.count given) xs refl v.count) (array_later l array (pure.count given) h.0), v.fit))
   saved_makes n calls (tree.unary op arg k at) s w h = then_makes (saved_makes n calls arg s w h) (λ x s1 w1 l v. gives_makes v)
   saved_makes n calls (tree.binary op left right k at) s w h =
-      saved_if_makes (may_skip_element (tree.binary op left right k at)) (tree.binary op left right k at)
-      (λ s0. then_ (saved n calls left s0) (λ x s1. then_ (saved n calls right s1) (λ y s2. gives (tree.binary op x y k at) s2))) s w h
-      (then_makes (saved_makes n calls left s w h.0) (λ x s1 w1 l v. then_makes (saved_makes n calls right s1 w1 (fits_later l right h.1)) (λ y s2 w2 l2 u. gives_makes (fits_later l2 x v, u))))
+      then_makes (saved_makes n calls left s w h.0)
+      (λ x s1 w1 l v. saved_if_makes (is_logical op && has_element right) (tree.binary op x right k at) (λ s2. then_ (saved n calls right s2) (λ y s3. gives (tree.binary op x y k at) s3)) s1 w1 (v, fits_later l right h.1)
+      (then_makes (saved_makes n calls right s1 w1 (fits_later l right h.1)) (λ y s2 w2 l2 u. gives_makes (fits_later l2 x v, u))))
   saved_makes n calls (tree.choice test left right k) s w h =
-      saved_if_makes (may_skip_element (tree.choice test left right k)) (tree.choice test left right k)
-      (λ s0. then_ (saved n calls test s0) (λ t s1. then_ (saved n calls left s1) (λ x s2. then_ (saved n calls right s2) (λ y s3. gives (tree.choice t x y k) s3)))) s w h
-      (then_makes (saved_makes n calls test s w h.0)
-      (λ t s1 w1 l v. then_makes (saved_makes n calls left s1 w1 (fits_later l left h.1))
+      then_makes (saved_makes n calls test s w h.0)
+      (λ t s1 w1 l v. saved_if_makes (has_element left || has_element right) (tree.choice t left right k) (λ s2. then_ (saved n calls left s2) (λ x s3. then_ (saved n calls right s3) (λ y s4. gives (tree.choice t x y k) s4))) s1 w1 (v, fits_later l left h.1, fits_later l right h.2)
+      (then_makes (saved_makes n calls left s1 w1 (fits_later l left h.1))
       (λ x s2 w2 l2 u. then_makes (saved_makes n calls right s2 w2 (fits_later l2 right (fits_later l right h.2)))
       (λ y s3 w3 l3 q. gives_makes (fits_later l3 t (fits_later l2 t v), fits_later l3 x u, q)))))
   saved_makes n calls (tree.cast to arg) s w h = then_makes (saved_makes n calls arg s w h) (λ x s1 w1 l v. gives_makes v)

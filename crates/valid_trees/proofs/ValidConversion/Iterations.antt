@@ -15,8 +15,8 @@ use Rattle.passes.proofs.Equalities.{first, second}
 use Rattle.passes.specs.Conversion.Outs.{is_set}
 use Rattle.passes.specs.Conversion.Joining.{first_word}
 use Rattle.passes.specs.Conversion.Overlapping.{carried_from, carried, carried_op, carried_out, iteration}
-use Rattle.convert_runs.specs.Typed.{HasBits}
-use Rattle.convert_runs.proofs.Opening.{turned_number, left_false, right_false}
+use Rattle.pass_runs.specs.ConvertRuns.Typed.{HasBits}
+use Rattle.pass_runs.proofs.ConvertRuns.Opening.{turned_number, left_false, right_false}
 use Rattle.dep_graph.specs.Offsets as graph
 use Rattle.dep_graph.specs.Offsets.{maker}
 use Rattle.program_validity.specs.Operands.{is_at}

@@ -17,10 +17,10 @@ use Rattle.passes.specs.Numbering as n
 use Rattle.passes.specs.Numbering.{Value, constant, result_of, operand_or}
 use Rattle.passes.specs.Conversion.Outs.{held}
 use Rattle.passes.specs.Conversion.Joining.{Guard, Joined, standing_for, renamed, renamed_op, renamed_out, renamed_exit, plain, bit_for, or_constant, bit_in, with_guard, with_taken, with_both, with_bit, needs_guard, with_op, guarded, staying, is_conversion, converted, first_word, by_word, joined_op, joined_ops}
-use Rattle.convert_runs.specs.Typed.{HasBits}
-use Rattle.convert_runs.proofs.Lists.{there, within, last_or}
-use Rattle.convert_runs.proofs.Fitting.{is_access, value_fits}
-use Rattle.convert_runs.proofs.Joining.{bit_grows}
+use Rattle.pass_runs.specs.ConvertRuns.Typed.{HasBits}
+use Rattle.pass_runs.proofs.ConvertRuns.Lists.{there, within, last_or}
+use Rattle.pass_runs.proofs.ConvertRuns.Fitting.{is_access, value_fits}
+use Rattle.pass_runs.proofs.ConvertRuns.Joining.{bit_grows}
 use Rattle.valid_trees.specs.Shapes.{FrameShape, words_in}
 use Rattle.valid_trees.specs.Operands.{IsOperand, IsOperandIf}
 use Rattle.valid_trees.specs.Operations.{OpIsValid}

@@ -6,7 +6,7 @@ use Rattle.ir_core.specs.declared.body.Operand.{Operand}
 use Rattle.ir_core.specs.declared.body.Out.{Out}
 use Rattle.ir_core.specs.Bodies.{OpTree}
 use Rattle.passes.specs.Conversion.Outs.{out, entry_value, held_or, held, with_out, with_outs}
-use Rattle.convert_runs.proofs.Opening.{same_number}
+use Rattle.pass_runs.proofs.ConvertRuns.Opening.{same_number}
 use Rattle.valid_trees.specs.Shapes.{FrameShape}
 use Rattle.valid_trees.specs.Operands.{IsOperand}
 use Rattle.valid_trees.specs.Bodies.{OutIsValid, OutsAreValid}

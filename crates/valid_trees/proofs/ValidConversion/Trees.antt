@@ -6,7 +6,7 @@ use Rattle.ir_core.specs.Trees.{branch, BlockTree, BodyTree, SequenceTree, seque
 use Rattle.passes.specs.Conversion.Merging.{Branches, branches_of, opened, merged, joined, is_only_side, first_block, first_of}
 use Rattle.passes.specs.Conversion.Overlapping.{iteration, loop_by, chosen_test, overlapped_test}
 use Rattle.passes.specs.Conversion.{Scope, going_on, part_before, behind, converted_sequence, converted_behind, converted_parts, converted_shape, converted_side, converted_arms}
-use Rattle.convert_runs.proofs.Finding.{fork_found, no_fork_found, loop_is_no_fork, only_alone, overlapped_found}
+use Rattle.pass_runs.proofs.ConvertRuns.Finding.{fork_found, no_fork_found, loop_is_no_fork, only_alone, overlapped_found}
 use Rattle.program_validity.specs.Widths.{is_width}
 use Rattle.valid_trees.specs.Shapes.{FrameShape}
 use Rattle.valid_trees.specs.Operands.{IsOperand}

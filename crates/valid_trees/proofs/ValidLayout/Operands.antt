@@ -15,7 +15,7 @@ use Rattle.ir_core.specs.declared.cfg.Frame.{Frame}
 use Rattle.ir_core.specs.Value.{count_of}
 use Rattle.ir_core.specs.Timing.{result_bits}
 use Rattle.ir_core.specs.Bodies.{OpTree, op_of}
-use Rattle.convert_runs.specs.Typed.{HasBits}
+use Rattle.pass_runs.specs.ConvertRuns.Typed.{HasBits}
 use Rattle.passes.specs.Numbering.Constants.{word_of}
 use Rattle.program_validity.specs.Widths.{is_width}
 use Rattle.program_validity.specs.Operands.{is_at, width_of, is_exactly, is_any_width, has_bits, is_operand, is_operand_if, is_subscript_as, is_subscript}

@@ -16,9 +16,9 @@ use Rattle.passes.specs.Lowering.Operations.{Emitted, Given, gives, added, const
 use Rattle.passes.specs.Lowering.Guards.{Guard, Guarded, guarded, outside, own_bit, under, bit_of}
 use Rattle.passes.specs.Numbering.Constants.{word_of}
 use Rattle.passes.proofs.Equalities.{number_same}
-use Rattle.convert_runs.specs.Typed.{HasBits}
-use Rattle.convert_runs.proofs.Joining.{next_has}
-use Rattle.convert_runs.proofs.LoweredConversions.Adding.{Grows, stays, grows_on, has_on, converted_fine}
+use Rattle.pass_runs.specs.ConvertRuns.Typed.{HasBits}
+use Rattle.pass_runs.proofs.ConvertRuns.Joining.{next_has}
+use Rattle.pass_runs.proofs.ConvertRuns.LoweredConversions.Adding.{Grows, stays, grows_on, has_on, converted_fine}
 use Rattle.valid_trees.specs.Shapes.{FrameShape, words_in}
 use Rattle.valid_trees.specs.Operands.{IsOperand, IsOperandIf}
 use Rattle.valid_trees.specs.Operations.{OpIsValid}

@@ -24,9 +24,9 @@ use Rattle.passes.specs.Lowering.Shapes.{first_point}
 use Rattle.passes.specs.Lowering.Expressions.{emitted, emitted_all}
 use Rattle.passes.specs.Lowering.Blocks as lower
 use Rattle.passes.specs.Lowering.Blocks.{Scope, variable_type, kind_in, element_type, begun, is_live, with_exit, with_ops, value_as, set, put, condition, ends_by_test, all_set, set_before, forking, ends_by_fork, Cases, case_or, cases, ends_by_cases}
-use Rattle.convert_runs.specs.LoweredConversions.Suiting.{PureSuits, PieceSuits, PiecesSuit}
-use Rattle.convert_runs.proofs.LoweredConversions.Adding.{Grows, stays, grows_on}
-use Rattle.convert_runs.proofs.LoweredConversions.Blocks.{there_typed}
+use Rattle.pass_runs.specs.ConvertRuns.LoweredConversions.Suiting.{PureSuits, PieceSuits, PiecesSuit}
+use Rattle.pass_runs.proofs.ConvertRuns.LoweredConversions.Adding.{Grows, stays, grows_on}
+use Rattle.pass_runs.proofs.ConvertRuns.LoweredConversions.Blocks.{there_typed}
 use Rattle.valid_trees.specs.Shapes.{FrameShape}
 use Rattle.valid_trees.specs.Operands.{AllAreOperands, AreStored}
 use Rattle.valid_trees.specs.Bodies.{ExitIsValid, BlockIsValid}

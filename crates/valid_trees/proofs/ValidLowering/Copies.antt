@@ -11,7 +11,7 @@ use Rattle.ir_core.specs.Trees.{BlockTree, BodyTree, SequenceTree, sequence, Par
 use Rattle.passes.specs.Lowering.Operations.{added, plain}
 use Rattle.passes.specs.Lowering.Blocks.{Scope, type_of, variable_type}
 use Rattle.passes.specs.Lowering.Copies.{Fixed, Copied, needs_copy, own_operand, with_own, copied_out, copied_outs, copied_block, copied_parts, copied, fixed_in, fixed_behind, fixed_behind_shape, parts_set}
-use Rattle.convert_runs.proofs.LoweredConversions.Adding.{Grows, stays, grows_on}
+use Rattle.pass_runs.proofs.ConvertRuns.LoweredConversions.Adding.{Grows, stays, grows_on}
 use Rattle.valid_trees.specs.Bodies.{OutIsValid, BodyIsValid}
 use Rattle.valid_trees.specs.Trees.{SequenceHas, PartsHave}
 use Rattle.valid_trees.specs.ValidLowering.{frame_in}

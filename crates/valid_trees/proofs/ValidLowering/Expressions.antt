@@ -24,9 +24,9 @@ use Rattle.passes.specs.Lowering.Outs.{held}
 use Rattle.passes.specs.Lowering.Guards.{Guard, only_where, outside}
 use Rattle.passes.specs.Lowering.Blocks.{Scope}
 use Rattle.passes.specs.Lowering.Expressions.{Evaluated, Next, Subscripts, with_value, with_truth, computed, operated, junction, joined, binary, unary, negated, choice, cast_to, subscript, loaded, emitted, emitted_all, left_type, right_type}
-use Rattle.convert_runs.proofs.Opening.{same_number}
-use Rattle.convert_runs.specs.LoweredConversions.Suiting.{PureSuits, EachSuits}
-use Rattle.convert_runs.proofs.LoweredConversions.Adding.{Grows, stays, grows_on}
+use Rattle.pass_runs.proofs.ConvertRuns.Opening.{same_number}
+use Rattle.pass_runs.specs.ConvertRuns.LoweredConversions.Suiting.{PureSuits, EachSuits}
+use Rattle.pass_runs.proofs.ConvertRuns.LoweredConversions.Adding.{Grows, stays, grows_on}
 use Rattle.program_validity.specs.Widths.{is_width}
 use Rattle.valid_trees.specs.Shapes.{MemoryShape, FrameShape}
 use Rattle.valid_trees.specs.Operands.{IsSubscriptAs, IsSubscript, AreSubscripts}

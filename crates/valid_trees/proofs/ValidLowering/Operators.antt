@@ -14,7 +14,7 @@ use Rattle.passes.specs.Lowering.Operations.{Emitted, added, plain, defined, fla
 use Rattle.passes.specs.Lowering.Guards.{Guard, guarded}
 use Rattle.passes.specs.Lowering.Expressions.{Evaluated, Next, with_value, with_truth, under_guard, is_total, computed, operated}
 use Rattle.program_validity.specs.Operations.{may_be_undefined, is_width_of}
-use Rattle.convert_runs.proofs.LoweredConversions.Adding.{Grows, stays, grows_on}
+use Rattle.pass_runs.proofs.ConvertRuns.LoweredConversions.Adding.{Grows, stays, grows_on}
 use Rattle.valid_trees.specs.Shapes.{FrameShape}
 use Rattle.valid_trees.specs.Operands.{AreOperands}
 use Rattle.valid_trees.specs.Operations.{argument_bits, Acts}

@@ -5,8 +5,8 @@ use Rattle.ir_core.specs.declared.body.Out.{Out}
 use Rattle.ir_core.specs.Timing.{result_bits}
 use Rattle.ir_core.specs.Bodies.{OpTree}
 use Rattle.passes.specs.Numbering.{result_of}
-use Rattle.convert_runs.proofs.Lists.{seam}
-use Rattle.convert_runs.proofs.Joining.{has_more}
+use Rattle.pass_runs.proofs.ConvertRuns.Lists.{seam}
+use Rattle.pass_runs.proofs.ConvertRuns.Joining.{has_more}
 use Rattle.valid_trees.specs.Shapes.{FrameShape, words_in}
 use Rattle.valid_trees.specs.Operands.{IsOperand}
 use Rattle.valid_trees.specs.Operations.{OpIsValid}

@@ -16,8 +16,8 @@ use Rattle.passes.proofs.Equalities.{equal_alike}
 use Rattle.passes.proofs.Growing.{with_out_stays}
 use Rattle.passes.proofs.NumberRuns.Finding.{Earlier, earlier_found}
 use Rattle.passes.specs.Conversion.Joining.{is_conversion, first_word}
-use Rattle.convert_runs.specs.Typed.{HasBits}
-use Rattle.convert_runs.proofs.Lists.{there, within, last_or}
+use Rattle.pass_runs.specs.ConvertRuns.Typed.{HasBits}
+use Rattle.pass_runs.proofs.ConvertRuns.Lists.{there, within, last_or}
 use Rattle.valid_trees.specs.Shapes.{FrameShape, words_in}
 use Rattle.valid_trees.specs.Operands.{IsOperand}
 use Rattle.valid_trees.specs.Operations.{OpIsValid}

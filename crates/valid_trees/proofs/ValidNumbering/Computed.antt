@@ -10,7 +10,7 @@ use Rattle.ir_core.specs.Bodies.{OpTree}
 use Rattle.passes.specs.Numbering.Constants.{word_of, word_in, is_computed, computed_on, computed}
 use Rattle.passes.proofs.Equalities.{first}
 use Rattle.passes.specs.Conversion.Joining.{is_conversion, first_word}
-use Rattle.convert_runs.proofs.Fitting.{is_access, value_fits}
+use Rattle.pass_runs.proofs.ConvertRuns.Fitting.{is_access, value_fits}
 
 some_same : {A : Type 0} {x y : A} → Some x ≡ Some y → x ≡ y
 some_same e = cc

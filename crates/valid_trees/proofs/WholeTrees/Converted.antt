@@ -5,7 +5,7 @@ use Rattle.ir_core.specs.Trees.{ExitTree, BlockTree, SequenceTree, sequence, Par
 use Rattle.passes.specs.Conversion.Merging.{Branches, branches_of, opened, merged, joined, first_block, first_of}
 use Rattle.passes.specs.Conversion.Overlapping.{loop_by, chosen_test}
 use Rattle.passes.specs.Conversion.{Scope, going_on, part_before, behind, converted_sequence, converted_behind, converted_parts, converted_shape, converted_side, converted_arms}
-use Rattle.convert_runs.proofs.Finding.{fork_found, no_fork_found, loop_is_no_fork}
+use Rattle.pass_runs.proofs.ConvertRuns.Finding.{fork_found, no_fork_found, loop_is_no_fork}
 use Rattle.flat_programs.specs.There.{SequenceThere, PartsThere, ShapeThere, SideThere, ArmsThere}
 use Rattle.valid_trees.specs.WholeTrees.{ConvertedIsThere}
 use Rattle.valid_trees.proofs.WholeTrees.Joining.{BlockThere, MayBeThere, opened_there, merged_there, behind_there, iteration_there}

@@ -28,8 +28,8 @@ use Rattle.passes.specs.Lowering.Blocks.{Scope}
 use Rattle.passes.specs.Lowering.Expressions.{Evaluated, Next, Subscripts, with_value, under_guard, is_total, computed, operated, junction, joined, binary, unary, choice, subscript, emitted, emitted_all, left_type, right_type}
 use Rattle.flat_programs.specs.Machine.Held.{IsThere}
 use Rattle.flat_programs.specs.There.{OperationsThere}
-use Rattle.convert_runs.proofs.Lists.{within}
-use Rattle.convert_runs.specs.LoweredConversions.Suiting.{PureSuits, EachSuits}
+use Rattle.pass_runs.proofs.ConvertRuns.Lists.{within}
+use Rattle.pass_runs.specs.ConvertRuns.LoweredConversions.Suiting.{PureSuits, EachSuits}
 use Rattle.valid_trees.proofs.WholeTrees.Adding.{ops_more}
 
 module _ (variables : ℕ) (dims : List (List ℕ)) where

@@ -28,7 +28,7 @@ use Rattle.passes.specs.Lowering.Copies.{Fixed, Copied, needs_copy, own_operand,
 use Rattle.passes.specs.Lowering.{Rest, last, followed, parts_of, land_of, side_from, with_copies, own_step, stepped, is_named, lowered, lowered_piece, before_arm, arms}
 use Rattle.flat_programs.specs.Machine.States.{VariablesThere}
 use Rattle.flat_programs.specs.There.{BodyThere, SequenceThere, PartsThere, ShapeThere, SideThere, ArmsThere}
-use Rattle.convert_runs.specs.LoweredConversions.Suiting.{PureSuits, PieceSuits, PiecesSuit}
+use Rattle.pass_runs.specs.ConvertRuns.LoweredConversions.Suiting.{PureSuits, PieceSuits, PiecesSuit}
 use Rattle.valid_trees.specs.WholeTrees.{LoweredIsThere}
 use Rattle.valid_trees.proofs.WholeTrees.Expressions.{There, more, tested_there, assigned_there, balanced_there, array_there, emitted_there, each_there}
 

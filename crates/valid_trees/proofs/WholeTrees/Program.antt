@@ -3,7 +3,7 @@ use Rattle.passes.specs.Lowering.Blocks.{begun}
 use Rattle.passes.specs.Lowering.{last, lowered}
 use Rattle.passes.specs.Numbering.{numbered_sequence}
 use Rattle.std.proofs.Common.{length}
-use Rattle.convert_runs.specs.LoweredConversions.Suiting.{widths_of}
+use Rattle.pass_runs.specs.ConvertRuns.LoweredConversions.Suiting.{widths_of}
 use Rattle.valid_trees.specs.WholeTrees.{ProgramIsThere}
 use Rattle.valid_trees.proofs.WholeTrees.Numbered as numbered
 use Rattle.valid_trees.proofs.WholeTrees.Converted as converted

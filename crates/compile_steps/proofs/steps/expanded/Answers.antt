@@ -7,7 +7,7 @@ use Rattle.c_tree.specs.Tree.{ProgramTree}
 use Rattle.c_elaborate.specs.Programs.{program_elaborated}
 use Rattle.pieces.specs.Program.{ExpandedTree, expanded_of}
 use Rattle.c_expand.specs.Expansion.{expansion, expanded_weight, IsOverweight}
-use Rattle.elaborated_programs.proofs.Whole.{checked_kept}
+use Rattle.expanded_programs.proofs.ElaboratedPrograms.Whole.{checked_kept}
 use Rattle.compile_steps.specs.Runs.{IsWithoutFaults, RunsAsProgram}
 use Rattle.compile_steps.proofs.steps.expanded.Goals as goal
 

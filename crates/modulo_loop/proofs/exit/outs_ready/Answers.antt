@@ -1,6 +1,6 @@
 use Rattle.std.proofs.Common.{◌≤◌, ◌+◌, take_all, subst, arith}
 use Rattle.std.proofs.lemmas.List.Elements.{All-more}
-use Rattle.modulo_loop.specs.Rules.{result_of}
+use Rattle.dep_graph.specs.Offsets.{result_of}
 use Rattle.modulo_loop.specs.Lowest.{IsReadyBy, OutsAreReady}
 use Rattle.modulo_loop.proofs.Exits.{ready_later}
 use Rattle.modulo_loop.proofs.exit.outs_ready.Goals as goal

@@ -1,7 +1,7 @@
 use Rattle.std.proofs.Common.{◌≡◌, ℕ, ◌+◌, ◌<◌, ◌≤◌, ◌^◌, true, Some, slice_index, slice_get}
 use Rattle.ir_core.specs.declared.body.Op.{Op}
 use Rattle.ir_core.specs.declared.stamp.Untimed.{Untimed}
-use Rattle.modulo_loop.specs.Rules.{is_store}
+use Rattle.dep_graph.specs.Meetings.{is_store}
 use Rattle.modulo_loop.specs.Lowest.{StoresAreDone}
 use Rattle.modulo_loop.proofs.exit.stores_done.Given as goal
 

@@ -1,8 +1,0 @@
-pub mod Times
-pub mod Turns
-pub mod Known
-pub mod Cycles
-pub mod Loops
-pub mod Uses
-pub mod Blocks
-pub mod Controller

@@ -1,5 +1,0 @@
-use Rattle.circuit_flow.proofs.LoopGates.Uses.{iterations_are_at}
-use Rattle.circuit_flow.proofs.loop_gates.iterations_are_at.Goals as goal
-
-pub returns : goal.returns
-returns c = iterations_are_at

@@ -1,5 +1,0 @@
-use Rattle.circuit_flow.proofs.NodeEnds.Handing.{blocks_hand_on}
-use Rattle.circuit_flow.proofs.node_ends.blocks_hand_on.Goals as goal
-
-pub returns : goal.returns
-returns c = blocks_hand_on

@@ -1,5 +1,0 @@
-use Rattle.circuit_flow.proofs.NodeEnds.Loops.{loops_hand_on}
-use Rattle.circuit_flow.proofs.node_ends.loops_hand_on.Goals as goal
-
-pub returns : goal.returns
-returns c = loops_hand_on

@@ -1,7 +1,0 @@
-pub mod Reads
-pub mod Flows
-pub mod Compiled
-pub mod Laws
-pub mod LoopGates
-pub mod NodeEnds
-pub mod HeldResults

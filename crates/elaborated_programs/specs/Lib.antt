@@ -1,4 +1,0 @@
-pub mod Written
-pub mod Inputs
-pub mod Laws
-pub mod StoredNumbers

@@ -1,5 +1,0 @@
-//! Programs of C without faults: their core programs are sound, and their pieces run as they do.
-#![tactic(auto)]
-
-pub mod laws;
-pub mod stored_numbers;

@@ -1,7 +1,0 @@
-//! Lowering keeps runs, and what lowered trees are.
-#![tactic(auto)]
-
-pub mod laws;
-pub mod lowered_runs;
-pub mod lowered_trees;
-pub mod operator_words;

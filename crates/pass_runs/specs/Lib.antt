@@ -1,0 +1,2 @@
+pub mod ConvertRuns
+pub mod LowerRuns

@@ -1,4 +1,0 @@
-pub mod PlanWords
-pub mod PlanAnswers
-pub mod SourceCircuits
-pub mod Laws

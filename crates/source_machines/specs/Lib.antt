@@ -1,4 +1,0 @@
-pub mod ForwardPrograms
-pub mod SmallTimes
-pub mod WholePrograms
-pub mod Laws

@@ -1,7 +1,0 @@
-//! Laws of programs with times.
-ghost use Rattle.source_machines.specs.SmallTimes.{TimedProgramsHaveSmallTimes};
-
-/// The times of a small program are small, whatever units there are, so that its values can be given registers.
-pub fn timed_programs_have_small_times()
-    ensures { TimedProgramsHaveSmallTimes }
-{}

@@ -1,4 +1,0 @@
-pub mod FinePieces
-pub mod SourceTypes
-pub mod ElaboratedSubscripts
-pub mod Laws

@@ -1,0 +1,5 @@
+pub mod ForwardPrograms
+pub mod SmallTimes
+pub mod WholePrograms
+pub mod Named
+pub mod Whole

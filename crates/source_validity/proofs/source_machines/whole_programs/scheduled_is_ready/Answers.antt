@@ -1,0 +1,5 @@
+use Rattle.source_validity.proofs.SourceMachines.WholePrograms.Whole.{scheduled_ready}
+use Rattle.source_validity.proofs.source_machines.whole_programs.scheduled_is_ready.Goals as goal
+
+pub returns : goal.returns
+returns c = scheduled_ready c.layout_is_whole.ensures
