@@ -1,9 +1,9 @@
 #!/usr/bin/env python3
-"""Cells, flip-flops and longest path of the module of each example, on an iCE40, and of the same kernels written by hand.
+"""LUTs, flip-flops, memory blocks and multipliers of the module of each example on three families, its clock on an iCE40, and the same of kernels written by hand.
 
     tools/cells.py [NAME ..]   all examples, or these
 
-Yosys maps each module (synth_ice40), and nextpnr-ice40, where it is there, places and routes it on an hx8k with registers at its pins.
+Yosys maps each module (synth_ice40, synth_ecp5, synth_xilinx), and nextpnr-ice40, where it is there, places and routes it on an hx8k with registers at its pins.
 A module of tools/by_hand has the pins and the cycles of the one that the compiler makes; Icarus Verilog, where it is there, runs it
 on the data of the example before it is counted. HLS names the program, else it is ./hls.
 """
@@ -45,24 +45,44 @@ endmodule
 """
 
 
-def counted(text):
-    """LUTs, carries, flip-flops and memory blocks of what `stat` says."""
-    cells = {name: int(count) for name, count in re.findall(r"^\s+(SB_\w+)\s+(\d+)$", text, re.M)}
-    total = lambda start: sum(count for name, count in cells.items() if name.startswith(start))
-    return total("SB_LUT4"), total("SB_CARRY"), total("SB_DFF"), total("SB_RAM")
+class Family:
+    """How Yosys maps to a family, and which of its cells count: by a pattern of names, how many of the kind a cell is."""
+
+    def __init__(self, name, script, luts, flops, memories, products):
+        self.name, self.script = name, script
+        self.kinds = (luts, flops, memories, products)
+
+    def counted(self, text):
+        """LUTs, flip-flops, memory blocks and multipliers of what `stat` says."""
+        cells = {name: int(count) for name, count in re.findall(r"^\s+(\w+)\s+(\d+)$", text, re.M)}
+        return tuple(sum(times * count for pattern, times in kind.items() for name, count in cells.items() if re.fullmatch(pattern, name)) for kind in self.kinds)
+
+
+# A LUT of the second family serves a carry cell's half, and four a distributed memory of 16 words of 4 bits; of the third, four a distributed memory of several ports.
+FAMILIES = [
+    Family("iCE40", "synth_ice40", {"SB_LUT4": 1}, {"SB_DFF\\w*": 1}, {"SB_RAM\\w*": 1}, {"SB_MAC16": 1}),
+    Family("ECP5", "synth_ecp5", {"LUT4": 1, "CCU2C": 2, "TRELLIS_DPR16X4": 4}, {"TRELLIS_FF": 1}, {"DP16KD": 1}, {"MULT18X18D": 1}),
+    Family("Xilinx 7", "synth_xilinx", {"LUT[1-6]": 1, "RAM(32|64)M": 4, "RAM\\d+X1D": 2, "SRL\\w*": 1}, {"FD\\w*": 1}, {"RAMB18E1": 1, "RAMB36E1": 2}, {"DSP48E1": 1}),
+]
 
 
 def measure(module, top, work):
-    """What `counted` gives, and the longest path in nanoseconds, where it is known."""
-    done = examples.run(["yosys", "-p", f"read_verilog {module}; synth_ice40 -top {top}; stat"])
-    numbers = counted(done.stdout.split("Number of cells:")[-1])
+    """For each family what it counts, and the longest path on an iCE40 in nanoseconds, where it is known."""
+    numbers = []
+    for family in FAMILIES:
+        done = examples.run(["yosys", "-p", f"read_verilog {module}; {family.script} -top {top}; stat"])
+        numbers.append(family.counted(done.stdout.split("Number of cells:")[-1]))
+    return numbers, path_of(module, top, work)
+
+
+def path_of(module, top, work):
     if not shutil.which("nextpnr-ice40"):
-        return numbers, None
+        return None
     (work / "shell.v").write_text(wrapper(top, module.read_text()))
     examples.run(["yosys", "-q", "-p", f"read_verilog {module} {work}/shell.v; synth_ice40 -top shell -json {work}/shell.json"])
     placed = examples.run(["nextpnr-ice40", "--hx8k", "--package", "ct256", "--json", work / "shell.json", "--seed", "1", "--freq", "100"])
     speeds = re.findall(r"Max frequency for clock[^:]*: ([\d.]+) MHz", placed.stderr)
-    return numbers, 1000 / float(speeds[-1]) if speeds else None
+    return 1000 / float(speeds[-1]) if speeds else None
 
 
 def behaves(example, module, work):
@@ -76,8 +96,15 @@ def behaves(example, module, work):
 
 
 def row(name, numbers, path):
-    luts, carries, flops, memories = numbers
-    return f"| {name} | {luts} | {carries} | {flops} | {memories} | {f'{path:.1f}' if path else '-'} |"
+    cells = " | ".join(" ".join(map(str, counts)) for counts in numbers)
+    return f"| {name} | {cells} | {f'{1000 / path:.0f}' if path else '-'} |"
+
+
+def ratios(name, found, other):
+    """The compiler's module in LUTs and flip-flops by those of the one that was written by hand, and its clock by the other's."""
+    cells = " | ".join(" ".join(f"{one[k] / two[k]:.2f}" if two[k] else "-" for k in (0, 1)) for one, two in zip(found[0], other[0]))
+    clock = f"{other[1] / found[1]:.2f}" if found[1] and other[1] else "-"
+    return f"| {name}, ratio | {cells} | {clock} |"
 
 
 def one(source):
@@ -85,20 +112,18 @@ def one(source):
     top = "hls_" + example.top
     with tempfile.TemporaryDirectory() as folder:
         work = pathlib.Path(folder)
-        made = examples.run([examples.HLS, "synth", source, work / "made.v", work / "made.rep", "--top", example.top])
+        made = examples.run([examples.HLS, "synth", source, work / "made.v", work / "made.rep", "--top", example.top, *example.options])
         if made.returncode != 0:
-            return [f"| {source.stem} | {made.stdout.strip()} | | | | |"]
+            return [f"| {source.stem} | {made.stdout.strip()} | | | |"]
         found = measure(work / "made.v", top, work)
         lines.append(row(source.stem, *found))
         hand = BY_HAND / f"{source.stem}.v"
         if hand.exists():
             if not behaves(example, hand, work):
-                return lines + [f"| {source.stem} by hand | other results than the example | | | | |"]
+                return lines + [f"| {source.stem} by hand | other results than the example | | | |"]
             other = measure(hand, top, work)
             lines.append(row(f"{source.stem} by hand", *other))
-            ratio = lambda k: f"{found[0][k] / other[0][k]:.2f}"
-            path = f"{found[1] / other[1]:.2f}" if found[1] and other[1] else "-"
-            lines.append(f"| {source.stem}, ratio | {ratio(0)} | | {ratio(2)} | | {path} |")
+            lines.append(ratios(source.stem, found, other))
     return lines
 
 
@@ -107,7 +132,8 @@ def main(names):
         print("cells: yosys is not there, skipped")
         return
     sources = [s for s in sorted(examples.EXAMPLES.glob("*.c")) if not names or s.stem in names]
-    print("| Module | LUTs | Carries | Flip-flops | Memory blocks | Longest path, ns |\n|---|---|---|---|---|---|")
+    heads = " | ".join(family.name for family in FAMILIES)
+    print(f"| Module | {heads} | MHz |\n|{'---|' * (len(FAMILIES) + 2)}")
     with concurrent.futures.ThreadPoolExecutor(max(1, os.cpu_count() // 2)) as pool:
         for lines in pool.map(one, sources):
             print("\n".join(lines), flush=True)

@@ -40,7 +40,7 @@ class Repository:
         # Of each crate its files, by their parts below the crate without suffix, with what they declare.
         self.declared = {crate: {} for crate in self.crates}
         self.methods = {}
-        self.all = {path.stem for path in CRATES.glob("*/must-fail/*.edit")}
+        self.all = {path.stem for path in [*CRATES.glob("*/must-fail/*.edit"), *(ROOT / "examples").rglob("*.c")]}
         for crate, files in self.declared.items():
             for part in ("src", "specs", "proofs"):
                 for path in (CRATES / crate / part).rglob("*"):

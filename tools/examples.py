@@ -45,20 +45,28 @@ class Parameter:
         self.lengths = [int(defines.get(n, n)) for n in re.findall(r"\[(\w+)\]", text)]
 
 
-class Example:
-    """A C file, its top function (named as the file, or f), and the data of its run file."""
+def head_of(source):
+    """The name of the top function of a file, the type of its result, and its parameters."""
+    text = source.read_text()
+    defines = dict(re.findall(r"#define (\w+) (\d+)", text))
+    top = source.stem if re.search(rf"\b{source.stem}\(", text) else "f"
+    kind, words = re.search(rf"^(\w+) {top}\(([^)]*)\)", text, re.M).groups()
+    return top, kind, [Parameter(word.strip(), defines) for word in words.split(",") if word.strip() != "void"]
 
-    def __init__(self, source):
-        self.source = source
-        text = source.read_text()
-        defines = dict(re.findall(r"#define (\w+) (\d+)", text))
-        self.top = source.stem if re.search(rf"\b{source.stem}\(", text) else "f"
-        head = re.search(rf"^(\w+) {self.top}\(([^)]*)\)", text, re.M)
-        self.is_void = head.group(1) == "void"
-        self.result_bits, self.is_signed = kind_of(head.group(1))
-        self.parameters = [Parameter(p.strip(), defines) for p in head.group(2).split(",") if p.strip() != "void"]
+
+class Example:
+    """A C file, its top function (named as the file, or f), the options of `synth` in its file of options, if there is one, and the data
+    of its run file, which stands beside it if none is named."""
+
+    def __init__(self, source, run_file=None):
+        self.source, self.run_file = source, run_file or source.with_suffix(".run")
+        options = source.with_suffix(".opts")
+        self.options = options.read_text().split() if options.exists() else []
+        self.top, kind, self.parameters = head_of(source)
+        self.is_void = kind == "void"
+        self.result_bits, self.is_signed = kind_of(kind)
         self.data = {}
-        for line in source.with_suffix(".run").read_text().splitlines():
+        for line in self.run_file.read_text().splitlines():
             if line and not line.startswith("#"):
                 name, values = line.split("=")
                 self.data[name.strip()] = values.split()
@@ -94,12 +102,13 @@ def by_gcc(example, work):
     return run([work / "h"]).stdout.splitlines() if built.returncode == 0 else [built.stderr]
 
 
-def by_cosim(example, work):
+def by_cosim(example, work, options=(), limits=()):
+    """The lines of `cosim` for the module that `synth` makes with these options."""
     module, report = work / "m.v", work / "m.rep"
-    made = run([HLS, "synth", example.source, module, report, "--top", example.top])
+    made = run([HLS, "synth", example.source, module, report, "--top", example.top, *example.options, *options])
     if made.returncode != 0:
         return [made.stdout.strip()]
-    return run([HLS, "cosim", example.source, module, report, example.source.with_suffix(".run"), "--top", example.top]).stdout.splitlines()
+    return run([HLS, "cosim", example.source, module, report, example.run_file, "--top", example.top, *limits]).stdout.splitlines()
 
 
 def addresses(lengths):

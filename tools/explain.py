@@ -5,7 +5,8 @@
     tools/explain.py help
 
 `./hls` calls it. It is not part of the program that is proved: it reads the compiler's line and the files that the arguments name.
-faults_text.py, faults_syntax.py and faults_names.py say what is wrong with a source, rule by rule; rules.txt has the table of rules.
+faults_text.py, faults_syntax.py and faults_names.py say what is wrong with a source, rule by rule, and faults_design.py what is wrong with a
+module or a report; rules.txt has the table of rules.
 """
 import os
 import pathlib
@@ -152,6 +153,28 @@ def at_source(paper, name, rule, place, top):
     message.place = message.place or place
     paper.message(name, message, rule, source)
     return None
+
+
+def at_design(paper, words, what, rule, place):
+    """A module or a report that is rejected: what its text says, else what the table says."""
+    from faults_design import module_message, report_message
+
+    name = words.files.get({"module": "MOD", "report": "REP"}[what], "")
+    message = None
+    try:
+        data = pathlib.Path(name).read_bytes()
+        source = pathlib.Path(words.files.get("SRC", "")).read_bytes()
+        message = module_message(data, rule, place, source, words.top()) if what == "module" else report_message(data, rule, place, words.top())
+    except Exception:
+        if os.environ.get("HLS_EXPLAIN_STRICT"):
+            raise
+    if message is None:
+        at_table(paper, name, rule, place)
+        return
+    message.place = message.place or place
+    if not message.helps:
+        message.help(RULES[f"rule {rule}"]["instead"])
+    paper.message(name, message, rule)
 
 
 def at_table(paper, name, rule, place):
@@ -356,7 +379,7 @@ def explain(status, line, words):
     elif status == 7:
         run_line(paper, words, int(said[2]))
     elif status == 8:
-        at_table(paper, words.files.get({"module": "MOD", "report": "REP"}[said[0]], ""), said[2], place)
+        at_design(paper, words, said[0], said[2], place)
     elif status == 9:
         undefined(paper, words.files.get("SRC", ""), said[1], place)
     paper.put()
