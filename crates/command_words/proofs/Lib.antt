@@ -3,3 +3,4 @@ mod Items
 mod Chains
 mod Parses
 mod PlainForm
+mod Differing

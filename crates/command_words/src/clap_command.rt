@@ -14,6 +14,13 @@ fn positional<'a>(alloc: Global, name: &'a str) -> Arg<'a>
     Arg::new(alloc, name).action(ArgAction::Set).required(true)
 }
 
+fn one_or_more<'a>(alloc: Global, name: &'a str) -> Arg<'a>
+    ensures rule { rule_of result ≡ spec.one_or_more name.now }
+    ensures local { result.global ≡ false }
+{
+    positional(alloc, name).num_args(1..)
+}
+
 fn option<'a>(alloc: Global, name: &'a str) -> Arg<'a>
     ensures rule { rule_of result ≡ spec.option name.now }
     ensures local { result.global ≡ false }
@@ -71,6 +78,32 @@ fn soak_app<'a>(alloc: Global) -> Result<Command<'a>, AllocError>
     Command::new(alloc, "soak").arg(positional(alloc, "number"))
 }
 
+fn timing_app<'a>(alloc: Global) -> Result<Command<'a>, AllocError>
+    ensures app { IfOk result (λ c. app_of c ≡ spec.timing_app) }
+    ensures local { IfOk result (λ c. (out-Command c).has_globals ≡ false) }
+{
+    Command::new(alloc, "timing").arg(positional(alloc, "module"))
+}
+
+fn blast_app<'a>(alloc: Global) -> Result<Command<'a>, AllocError>
+    ensures app { IfOk result (λ c. app_of c ≡ spec.blast_app) }
+    ensures local { IfOk result (λ c. (out-Command c).has_globals ≡ false) }
+{
+    Command::new(alloc, "blast")
+        .arg(positional(alloc, "module"))?
+        .arg(positional(alloc, "graph"))
+}
+
+fn link_app<'a>(alloc: Global) -> Result<Command<'a>, AllocError>
+    ensures app { IfOk result (λ c. app_of c ≡ spec.link_app) }
+    ensures local { IfOk result (λ c. (out-Command c).has_globals ≡ false) }
+{
+    Command::new(alloc, "link")
+        .arg(positional(alloc, "chain"))?
+        .arg(positional(alloc, "depth"))?
+        .arg(one_or_more(alloc, "stages"))
+}
+
 /// The command with a subcommand for each command of the program, and with no help and no version.
 pub fn hls_app<'a>(alloc: Global) -> Result<Command<'a>, AllocError>
     ensures { IfOk result (λ c. app_of c ≡ spec.hls_app) }
@@ -81,5 +114,8 @@ pub fn hls_app<'a>(alloc: Global) -> Result<Command<'a>, AllocError>
         .disable_help_subcommand(true)
         .subcommand(synth_app(alloc)?)?
         .subcommand(cosim_app(alloc)?)?
-        .subcommand(soak_app(alloc)?)
+        .subcommand(soak_app(alloc)?)?
+        .subcommand(timing_app(alloc)?)?
+        .subcommand(blast_app(alloc)?)?
+        .subcommand(link_app(alloc)?)
 }

@@ -2,14 +2,17 @@
 ghost use Rattle.std.specs.Prelude.{◌≡◌, map, IfOk, IfSome};
 ghost use Rattle.std.specs.Option.{option_map, option_and_then};
 ghost use Rattle.std.specs.String.{string_bytes};
-ghost use Rattle.clap.specs.Words.{first_of, found_of, rows_of, subcommand_rows_of};
+ghost use Rattle.clap.specs.Words.{all_of, first_of, found_of, rows_of, subcommand_rows_of};
 ghost use Rattle.command_words.specs.OptionViews.{options_view};
 ghost use Rattle.command_words.specs.Commands as command;
 ghost use Rattle.command_words.specs.ClapMatches as spec;
-ghost use Rattle.command_words.specs.CommandViews.{view, synth_view, cosim_view, HasRange, HasLimits, NamesThreeFiles, IsInRange};
+ghost use Rattle.command_words.specs.CommandViews.{view, synth_view, cosim_view, blast_view, link_view, HasRange, HasLimits, NamesThreeFiles, NamesTwoFiles, IsLinkable, IsInRange};
 
 use crate::clap_command::hls_app;
-use crate::command::{Command, Cosim, Synth, are_different, cosim_with, is_other, synth_with};
+use crate::command::{
+    Blast, Command, Cosim, Link, Synth, blast_with, cosim_with, link_with, synth_with,
+};
+use crate::names::{are_four_different, are_three_different};
 use crate::number::number_in;
 use crate::options::Options;
 use crate::word::is_word;
@@ -54,7 +57,7 @@ fn synth_in<'a>(matches: &ArgMatches<'a>) -> Option<Synth<'a>>
     let source = value_of(matches, "source")?;
     let module_file = value_of(matches, "module")?;
     let report = value_of(matches, "report")?;
-    if !are_different(source, module_file, report) {
+    if !are_three_different(source, module_file, report) {
         return None;
     }
     let options = options_in(matches);
@@ -69,7 +72,7 @@ fn cosim_in<'a>(matches: &ArgMatches<'a>) -> Option<Cosim<'a>>
     let module_file = value_of(matches, "module")?;
     let report = value_of(matches, "report")?;
     let run = value_of(matches, "run")?;
-    if !are_different(source, module_file, report) || !is_other(run, source, module_file, report) {
+    if !are_four_different(source, module_file, report, run) {
         return None;
     }
     let options = options_in(matches);
@@ -83,8 +86,40 @@ fn soak_in(matches: &ArgMatches<'_>) -> Option<u64>
     number_in(0, u64::MAX, number)
 }
 
-fn command_in<'a>(name: &str, matches: &ArgMatches<'a>) -> Option<Command<'a>>
-    ensures value { option_map view result ≡ spec.command_in name.now (rows_of (found_of matches.now)) }
+fn blast_in<'a>(matches: &ArgMatches<'a>) -> Option<Blast<'a>>
+    ensures value { option_map command.blast (option_map blast_view result) ≡ spec.blast_in (rows_of (found_of matches.now)) }
+    ensures names { IfSome result (λ b. NamesTwoFiles (blast_view b)) }
+{
+    let module_file = value_of(matches, "module")?;
+    let graph = value_of(matches, "graph")?;
+    blast_with(module_file, graph)
+}
+
+fn values_of<'m, 'a>(matches: &'m ArgMatches<'a>, name: &str) -> Option<&'m [&'a str]>
+    ensures { option_map (λ s. map (λ w. w.now) s.now) result ≡ all_of name.now (rows_of (found_of matches.now)) }
+{
+    matches.get_strs(name)
+}
+
+fn link_in<'a>(alloc: Global, matches: &ArgMatches<'a>) -> Result<Option<Link<'a>>, AllocError>
+    ensures value { IfOk result (λ o. option_map command.link (option_map link_view o) ≡ spec.link_in (rows_of (found_of matches.now))) }
+    ensures range { IfOk result (λ o. IfSome o (λ l. IsLinkable (link_view l))) }
+{
+    let Some(chain) = value_of(matches, "chain") else {
+        return Ok(None);
+    };
+    let Some(depth) = value_of(matches, "depth") else {
+        return Ok(None);
+    };
+    let Some(stages) = values_of(matches, "stages") else {
+        return Ok(None);
+    };
+    link_with(alloc, chain, depth, Vec::from_slice(alloc, stages)?)
+}
+
+/// The command of this name other than `link`, if these matches are its arguments.
+fn fixed_command_in<'a>(name: &str, matches: &ArgMatches<'a>) -> Option<Command<'a>>
+    ensures value { option_map view result ≡ spec.fixed_command_in name.now (rows_of (found_of matches.now)) }
     ensures range { IfSome result IsInRange }
 {
     if is_word(name, "synth") {
@@ -93,17 +128,43 @@ fn command_in<'a>(name: &str, matches: &ArgMatches<'a>) -> Option<Command<'a>>
         Some(Command::Cosim(cosim_in(matches)?))
     } else if is_word(name, "soak") {
         Some(Command::Soak(soak_in(matches)?))
+    } else if is_word(name, "timing") {
+        Some(Command::Timing(value_of(matches, "module")?))
+    } else if is_word(name, "blast") {
+        Some(Command::Blast(blast_in(matches)?))
     } else {
         None
     }
 }
 
-fn subcommand_in<'a>(matches: &ArgMatches<'a>) -> Option<Command<'a>>
-    ensures value { option_map view result ≡ option_and_then (λ p. spec.command_in p.0 p.1) (subcommand_rows_of matches.now) }
-    ensures range { IfSome result IsInRange }
+fn command_in<'a>(
+    alloc: Global,
+    name: &str,
+    matches: &ArgMatches<'a>,
+) -> Result<Option<Command<'a>>, AllocError>
+    ensures value { IfOk result (λ o. option_map view o ≡ spec.command_in name.now (rows_of (found_of matches.now))) }
+    ensures range { IfOk result (λ o. IfSome o IsInRange) }
 {
-    let (name, found) = matches.subcommand()?;
-    command_in(name, found)
+    if !is_word(name, "link") {
+        return Ok(fixed_command_in(name, matches));
+    }
+    match link_in(alloc, matches)? {
+        Some(link) => Ok(Some(Command::Link(link))),
+        None => Ok(None),
+    }
+}
+
+fn subcommand_in<'a>(
+    alloc: Global,
+    matches: &ArgMatches<'a>,
+) -> Result<Option<Command<'a>>, AllocError>
+    ensures value { IfOk result (λ o. option_map view o ≡ option_and_then (λ p. spec.command_in p.0 p.1) (subcommand_rows_of matches.now)) }
+    ensures range { IfOk result (λ o. IfSome o IsInRange) }
+{
+    match matches.subcommand() {
+        Some((name, found)) => command_in(alloc, name, found),
+        None => Ok(None),
+    }
 }
 
 /// The matches, where the command takes the words.
@@ -128,7 +189,7 @@ pub fn clap_command<'a>(
     ensures range { IfOk result (λ o. IfSome o IsInRange) }
 {
     match matches_of(alloc, words)? {
-        Some(matches) => Ok(subcommand_in(&matches)),
+        Some(matches) => subcommand_in(alloc, &matches),
         None => Ok(None),
     }
 }

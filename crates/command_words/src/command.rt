@@ -1,14 +1,16 @@
 //! The commands of the program, with the files, the numbers and the options that each has.
-ghost use Rattle.std.specs.Prelude.{◌≡◌, ◌≤◌, IfSome};
+ghost use Rattle.std.specs.Prelude.{◌≡◌, ◌≤◌, map, IfOk, IfSome};
 ghost use Rattle.std.specs.Option.{option_map};
-ghost use Rattle.command_words.specs.Words.{number_or};
+ghost use Rattle.command_words.specs.Words.{number_in, number_or};
 ghost use Rattle.command_words.specs.OptionViews.{options_view};
 ghost use Rattle.command_words.specs.Commands as spec;
-ghost use Rattle.command_words.specs.CommandViews.{synth_view, cosim_view, HasRange, HasLimits};
+ghost use Rattle.command_words.specs.CommandViews.{synth_view, cosim_view, blast_view, link_view, HasRange, HasLimits, NamesTwoFiles, IsLinkable};
 
-use crate::number::number_or;
+use crate::names::are_all_different;
+use crate::number::{number_in, number_or};
 use crate::options::Options;
 use crate::word::is_word;
+use std::alloc::{AllocError, Global};
 
 /// The names of the three files of `synth`, that of the top function, and what is asked for.
 #[derive(Clone, Copy)]
@@ -35,12 +37,30 @@ pub struct Cosim<'a> {
     pub cycles: u64,
 }
 
-/// What the words ask for.
+/// The names of the two files of `blast`: the module that is read, and the graph that is written.
 #[derive(Clone, Copy)]
+pub struct Blast<'a> {
+    pub module_file: &'a str,
+    pub graph: &'a str,
+}
+
+/// The name of the file that `link` writes, the items that each queue holds, and the names of the modules in order.
+#[derive(Drop)]
+pub struct Link<'a> {
+    pub chain: &'a str,
+    pub depth: u16,
+    pub stages: Vec<&'a str>,
+}
+
+/// What the words ask for.
+#[derive(Drop)]
 pub enum Command<'a> {
     Synth(Synth<'a>),
     Cosim(Cosim<'a>),
     Soak(u64),
+    Timing(&'a str),
+    Blast(Blast<'a>),
+    Link(Link<'a>),
 }
 
 /// How many points a run passes at most, and how many cycles a wait takes, where the words do not say it.
@@ -48,6 +68,9 @@ const LIMIT: u64 = 1_000_000;
 
 /// The greatest limit.
 const GREATEST_LIMIT: u64 = 1_000_000_000;
+
+/// The greatest depth of a queue.
+const GREATEST_DEPTH: u64 = 1_024;
 
 /// The number of an option of at most 8 bits, 1 where it is not there.
 fn small_or_one(high: u8, word: Option<&str>) -> Option<u8>
@@ -68,18 +91,14 @@ fn limit(word: Option<&str>) -> Option<u64>
     number_or(1, GREATEST_LIMIT, LIMIT, word)
 }
 
-/// Whether no two of these names are one.
-pub(crate) fn are_different(source: &str, module_file: &str, report: &str) -> bool
-    ensures { result ≡ spec.are_different source.now module_file.now report.now }
+fn depth_of(word: &str) -> Option<u16>
+    ensures value { result ≡ number_in 1 spec.greatest_depth word.now }
+    ensures range { IfSome result (λ n. (1 ≤ n) × (n ≤ spec.greatest_depth)) }
 {
-    !is_word(source, module_file) && (!is_word(source, report) && !is_word(module_file, report))
-}
-
-/// Whether this name is none of these three.
-pub(crate) fn is_other(run: &str, source: &str, module_file: &str, report: &str) -> bool
-    ensures { result ≡ spec.is_other run.now source.now module_file.now report.now }
-{
-    !is_word(source, run) && (!is_word(module_file, run) && !is_word(report, run))
+    match number_in(1, GREATEST_DEPTH, word) {
+        Some(n) => Some(n as u16),
+        None => None,
+    }
 }
 
 /// The command with the numbers that the options give.
@@ -164,4 +183,38 @@ pub(crate) fn cosim_with<'a>(
         cycles: 1,
     };
     cosim_numbers(command, options)
+}
+
+/// `blast` of these files, which must differ.
+pub(crate) fn blast_with<'a>(module_file: &'a str, graph: &'a str) -> Option<Blast<'a>>
+    ensures value { option_map spec.blast (option_map blast_view result) ≡ spec.blast_with module_file.now graph.now }
+    ensures names { IfSome result (λ b. NamesTwoFiles (blast_view b)) }
+{
+    if is_word(module_file, graph) {
+        return None;
+    }
+    Some(Blast { module_file, graph })
+}
+
+/// `link` of this chain with these words for its depth and its stages.
+pub(crate) fn link_with<'a>(
+    alloc: Global,
+    chain: &'a str,
+    depth: &str,
+    stages: Vec<&'a str>,
+) -> Result<Option<Link<'a>>, AllocError>
+    ensures value { IfOk result (λ o. option_map spec.link (option_map link_view o) ≡ spec.link_with chain.now depth.now (map (λ s. s.now) stages.entry.items)) }
+    ensures range { IfOk result (λ o. IfSome o (λ l. IsLinkable (link_view l))) }
+{
+    if stages.is_empty() || !are_all_different(alloc, chain, &stages)? {
+        return Ok(None);
+    }
+    match depth_of(depth) {
+        Some(depth) => Ok(Some(Link {
+            chain,
+            depth,
+            stages,
+        })),
+        None => Ok(None),
+    }
 }

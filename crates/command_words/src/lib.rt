@@ -4,6 +4,7 @@
 mod clap_command;
 mod clap_matches;
 pub mod command;
+mod names;
 mod number;
 mod options;
 mod plain_form;

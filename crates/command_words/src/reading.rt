@@ -15,7 +15,7 @@ pub fn read_words<'a>(alloc: Global, words: &'a [String]) -> Result<Option<Comma
     ensures value { IfOk result (λ o. option_map view o ≡ command_of (map string_bytes words.now)) }
     ensures range { IfOk result (λ o. IfSome o IsInRange) }
 {
-    match plain_command(words) {
+    match plain_command(alloc, words)? {
         Some(command) => Ok(Some(command)),
         None => clap_command(alloc, words),
     }

@@ -1,4 +1,5 @@
 pub mod OneLine
 pub mod Comparable
+pub mod ModuleOutcomes
 pub mod RunEnds
 pub mod WrittenFiles

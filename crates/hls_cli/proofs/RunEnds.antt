@@ -6,21 +6,25 @@ use Rattle.hls_base.proofs.OutsideLemmas.{WhereTold-same}
 use Rattle.hls_flow.specs.FirstFault.{IsAccepted, IsFirstFault}
 use Rattle.hls_flow.proofs.Faults.{accepted_has_no_fault}
 use Rattle.command_words.specs.Commands as command
-use Rattle.command_words.specs.Commands.{Synth, Cosim}
+use Rattle.command_words.specs.Commands.{Synth, Cosim, Blast, Link}
 use Rattle.hls_cli.specs.declared.work.Answer.{Answer}
 use Rattle.hls_flow.specs.declared.verdict.CosimInputs.{CosimInputs}
 use Rattle.hls_cli.specs.Comparisons.{IsGiven, IsCosimAnswer, IsCosimWork, answers, IsSoakWork, IsComparisonAnswer}
 use Rattle.hls_cli.specs.Comparisons as comparisons
 use Rattle.hls_cli.specs.Ends.{Seen, between, Ends, IsFinish, done, failed, starved}
 use Rattle.hls_cli.specs.Lines.{fault_line, memory_line, usage_line}
-use Rattle.hls_cli.specs.Words.{IsSynth, IsCosim, IsSoak, IsUsage, IsComparison}
+use Rattle.hls_cli.specs.ModuleRuns.{IsModuleOutcome, IsModuleMissing}
+use Rattle.hls_cli.specs.Words.{IsSynth, IsCosim, IsSoak, IsUsage, IsComparison, IsOnModules}
 use Rattle.hls_cli.specs.Work as work
 use Rattle.hls_cli.specs.Work.{IsSynthWork, IsVerdictStatus}
-use Rattle.hls_cli.specs.SynthRun.{IsSourceOf, SameFiles, IsRefused, IsStopped, PutsCutLine, Outside, RanToModule, RanToRefusal, RanToUsage, RanToVerdict, IsCutOff, HasFault}
+use Rattle.module_commands.specs.declared.outcome.Outcome.{Outcome}
+use Rattle.module_commands.specs.Work.{SameFiles, Leaves, IsStoppedWork}
+use Rattle.hls_cli.specs.SynthRun.{IsSourceOf, IsRefused, IsStopped, PutsCutLine, Outside, RanToModule, RanToRefusal, RanToUsage, RanToVerdict, RanToOutcome, IsCutOff, HasFault}
 use Rattle.hls_cli.specs.SynthRun as run
 use Rattle.hls_cli.specs.Completeness.{IsComplete}
 use Rattle.hls_cli.specs.Completeness as complete
 use Rattle.hls_cli.proofs.Comparable.{all_there, comparable_agrees}
+use Rattle.hls_cli.proofs.ModuleOutcomes.{outcome_status, missing_module}
 
 pub same_files : (old new : Option Files) → new ≡ old → WhereTold SameFiles old new
 same_files old new e = subst (λ n. WhereTold SameFiles old n) (sym e) (WhereTold-same SameFiles old old refl (λ x name. refl))
@@ -37,6 +41,9 @@ no_usage : (words : List (List ℕ)) (old : Option Files) → IsUsage words → 
 no_usage words old is (complete.of_synth c files it told can) = let e : Some (command.synth c) ≡ None = sym it ∙ is in cc
 no_usage words old is (complete.of_cosim c files it told can) = let e : Some (command.cosim c) ≡ None = sym it ∙ is in cc
 no_usage words old is (complete.of_soak n it) = let e : Some (command.soak n) ≡ None = sym it ∙ is in cc
+no_usage words old is (complete.of_timing w it can) = let e : Some (command.timing w) ≡ None = sym it ∙ is in cc
+no_usage words old is (complete.of_blast w it can) = let e : Some (command.blast w) ≡ None = sym it ∙ is in cc
+no_usage words old is (complete.of_link w it can) = let e : Some (command.link w) ≡ None = sym it ∙ is in cc
 
 -- ---- an accepted source is refused by no status
 
@@ -65,6 +72,9 @@ never_refused words c fault old new is refused (complete.of_synth d files it tol
     refused_told d files can.source fault new can.source_is can.accepted (subst (λ f. WhereTold (IsRefused d fault) f new) told here)
 never_refused words c fault old new is refused (complete.of_cosim d files it told can) = let e : Some (command.cosim d) ≡ Some (command.synth c) = sym it ∙ is in cc
 never_refused words c fault old new is refused (complete.of_soak n it) = let e : Some (command.soak n) ≡ Some (command.synth c) = sym it ∙ is in cc
+never_refused words c fault old new is refused (complete.of_timing w it can) = let e : Some (command.timing w) ≡ Some (command.synth c) = sym it ∙ is in cc
+never_refused words c fault old new is refused (complete.of_blast w it can) = let e : Some (command.blast w) ≡ Some (command.synth c) = sym it ∙ is in cc
+never_refused words c fault old new is refused (complete.of_link w it can) = let e : Some (command.link w) ≡ Some (command.synth c) = sym it ∙ is in cc
 
 absent_source : (words : List (List ℕ)) (c : Synth) (old : Option Files) → IsSynth words c → IsAbsent old c.source → IsComplete words old → ⊥
 absent_source words c old is absent (complete.of_synth d files it told can) =
@@ -74,6 +84,9 @@ absent_source words c old is absent (complete.of_synth d files it told can) =
     cc
 absent_source words c old is absent (complete.of_cosim d files it told can) = let e : Some (command.cosim d) ≡ Some (command.synth c) = sym it ∙ is in cc
 absent_source words c old is absent (complete.of_soak n it) = let e : Some (command.soak n) ≡ Some (command.synth c) = sym it ∙ is in cc
+absent_source words c old is absent (complete.of_timing w it can) = let e : Some (command.timing w) ≡ Some (command.synth c) = sym it ∙ is in cc
+absent_source words c old is absent (complete.of_blast w it can) = let e : Some (command.blast w) ≡ Some (command.synth c) = sym it ∙ is in cc
+absent_source words c old is absent (complete.of_link w it can) = let e : Some (command.link w) ≡ Some (command.synth c) = sym it ∙ is in cc
 
 -- ---- files that agree are found to agree
 
@@ -81,6 +94,9 @@ cosim_absent : (words : List (List ℕ)) (c : Cosim) (old : Option Files) → Is
     → IsAbsent old c.source ⊎ (IsAbsent old c.module_file ⊎ (IsAbsent old c.report ⊎ IsAbsent old c.run)) → IsComplete words old → ⊥
 cosim_absent words c old is absent (complete.of_synth d files it told can) = let e : Some (command.synth d) ≡ Some (command.cosim c) = sym it ∙ is in cc
 cosim_absent words c old is absent (complete.of_soak n it) = let e : Some (command.soak n) ≡ Some (command.cosim c) = sym it ∙ is in cc
+cosim_absent words c old is absent (complete.of_timing w it can) = let e : Some (command.timing w) ≡ Some (command.cosim c) = sym it ∙ is in cc
+cosim_absent words c old is absent (complete.of_blast w it can) = let e : Some (command.blast w) ≡ Some (command.cosim c) = sym it ∙ is in cc
+cosim_absent words c old is absent (complete.of_link w it can) = let e : Some (command.link w) ≡ Some (command.cosim c) = sym it ∙ is in cc
 cosim_absent words c old is absent (complete.of_cosim d files it told can) =
     let same : c ≡ d = one_comparison words c d is it in
     all_there d files can.given can.given_is
@@ -90,6 +106,9 @@ cosim_absent words c old is absent (complete.of_cosim d files it told can) =
 cosim_completes : (words : List (List ℕ)) (c : Cosim) (old : Option Files) (n : ℕ) (lines : List ℕ) → IsCosim words c → IsCosimWork c old n lines → IsComplete words old → n ≡ 0
 cosim_completes words c old n lines is work (complete.of_synth d files it told can) = let e : Some (command.synth d) ≡ Some (command.cosim c) = sym it ∙ is in absurd cc
 cosim_completes words c old n lines is work (complete.of_soak m it) = let e : Some (command.soak m) ≡ Some (command.cosim c) = sym it ∙ is in absurd cc
+cosim_completes words c old n lines is work (complete.of_timing w it can) = let e : Some (command.timing w) ≡ Some (command.cosim c) = sym it ∙ is in absurd cc
+cosim_completes words c old n lines is work (complete.of_blast w it can) = let e : Some (command.blast w) ≡ Some (command.cosim c) = sym it ∙ is in absurd cc
+cosim_completes words c old n lines is work (complete.of_link w it can) = let e : Some (command.link w) ≡ Some (command.cosim c) = sym it ∙ is in absurd cc
 cosim_completes words c old n lines is work (complete.of_cosim d files it told can) =
     let same : c ≡ d = one_comparison words c d is it in
     comparable_agrees d files n lines can (subst (λ f. IsCosimWork d f n lines) told (subst (λ x. IsCosimWork x old n lines) same work))
@@ -101,7 +120,7 @@ module _ (words : List (List ℕ)) (old new : Seen) where
   abbrev Hopeless : Type 0
   Hopeless = IsComplete words old.files → ⊥
 
-  ends_made : RanToModule words (between old new) ⊎ RanToVerdict words 0 (between old new) → Ends words old new 0
+  ends_made : RanToModule words (between old new) ⊎ (RanToVerdict words 0 (between old new) ⊎ RanToOutcome words 0 (between old new)) → Ends words old new 0
   ends_made ran = record {
     known = omega arith;
     made = λ e. ran;
@@ -140,7 +159,7 @@ module _ (words : List (List ℕ)) (old new : Seen) where
     complete = λ it shelf sink. absurd (never it);
   }
 
-  ends_compared : (status : ℕ) → 5 ≤ status → status ≤ 9 → RanToVerdict words status (between old new) → Hopeless → Ends words old new status
+  ends_compared : (status : ℕ) → 5 ≤ status → status ≤ 9 → RanToVerdict words status (between old new) ⊎ RanToOutcome words status (between old new) → Hopeless → Ends words old new status
   ends_compared status high low ran never = record {
     known = low;
     made = λ e. absurd (omega (arith, e, high));
@@ -228,10 +247,10 @@ module _ (words : List (List ℕ)) (old new : Seen) where
 
   -- the status is that of a verdict
   ends_verdict : (n : ℕ) → IsVerdictStatus n → RanToVerdict words n (between old new) → EndsWell n → Ends words old new n
-  ends_verdict n (inl zero) ran well = subst (Ends words old new) (sym zero) (ends_made (inr (subst (λ k. RanToVerdict words k (between old new)) zero ran)))
+  ends_verdict n (inl zero) ran well = subst (Ends words old new) (sym zero) (ends_made (inr (inl (subst (λ k. RanToVerdict words k (between old new)) zero ran))))
   ends_verdict n (inr (inl one)) ran well =
       subst (Ends words old new) (sym one) (ends_refused (inr (subst (λ k. RanToVerdict words k (between old new)) one ran)) (λ it. omega (arith, one, well it)))
-  ends_verdict n (inr (inr (high, low))) ran well = ends_compared n high low ran (λ it. omega (arith, high, well it))
+  ends_verdict n (inr (inr (high, low))) ran well = ends_compared n high low (inl ran) (λ it. omega (arith, high, well it))
 
   verdict_cut : (n : ℕ) (put lines last : List ℕ) → IsComparisonAnswer words old.files n lines → put ≡ lines → new.files ≡ old.files → WhereTold (PutsCutLine put last) old.bytes new.bytes
       → IsCutOff words last (between old new)
@@ -270,6 +289,37 @@ module _ (words : List (List ℕ)) (old new : Seen) where
 
   pub comparison_starved : (status : ℕ) → status ≡ 4 → IsComparison words → new.files ≡ old.files → WhereTold (PutsPrefix memory_line) old.bytes new.bytes → Ends words old new status
   comparison_starved status e is same bytes = ends_cut_short status e (run.uncompared is (same_files old.files new.files same) bytes)
+
+  -- ---- commands on modules
+
+  outcome_cut : (name : List ℕ) (o : Outcome) (put last : List ℕ) → IsModuleOutcome words old.files name o → WhereTold (Leaves name o.written) old.files new.files → put ≡ o.line
+      → WhereTold (PutsCutLine put last) old.bytes new.bytes → IsCutOff words last (between old new)
+  outcome_cut name o put last is files e bytes = run.at_outcome name o is files (subst (λ l. WhereTold (PutsCutLine l last) old.bytes new.bytes) e bytes)
+
+  ends_outcome : (n : ℕ) → (n ≡ 0) ⊎ (n ≡ 8) → RanToOutcome words n (between old new) → EndsWell n → Ends words old new n
+  ends_outcome n (inl zero) ran well = subst (Ends words old new) (sym zero) (ends_made (inr (inr (subst (λ k. RanToOutcome words k (between old new)) zero ran))))
+  ends_outcome n (inr eight) ran well = ends_compared n (omega (arith, eight)) (omega (arith, eight)) (inr ran) (λ it. omega (arith, eight, well it))
+
+  pub outcome_ends : (name : List ℕ) (o : Outcome) (put : List ℕ) (status : ℕ) → IsModuleOutcome words old.files name o → WhereTold (Leaves name o.written) old.files new.files → put ≡ o.line → EndsWell o.status
+      → IsFinish o.status put old.bytes new.bytes old.sink_faults new.sink_faults status → Ends words old new status
+  outcome_ends name o put status is files e well (done kept bytes) =
+      subst (Ends words old new) (sym kept)
+      (ends_outcome o.status (outcome_status words old.files name o is)
+      (record { name = name; outcome = o; is = is; status_is = refl; files = files; bytes = subst (λ l. WhereTold (PutsAll l) old.bytes new.bytes) e bytes }) well)
+  outcome_ends name o put status is files e well (failed three rose bytes) = ends_cut status three rose (outcome_cut name o put fault_line is files e bytes)
+  outcome_ends name o put status is files e well (starved four bytes) = ends_cut_short status four (outcome_cut name o put memory_line is files e bytes)
+
+  -- the work stopped before there was a line
+  pub modules_failed : (name : List ℕ) (status : ℕ) → status ≡ 3 → IsOnModules words → HasRisen old.shelf_faults new.shelf_faults ⊎ IsModuleMissing words old.files
+      → IsStoppedWork (IsModuleOutcome words old.files name) name old.files new.files → WhereTold (PutsPrefix fault_line) old.bytes new.bytes → Ends words old new status
+  modules_failed name status e is (inl rose) stopped bytes = subst (Ends words old new) (sym e) (ends_failed (inl rose) (run.unfinished name is stopped bytes) (λ it shelf sink. shelf rose))
+  modules_failed name status e is (inr missing) stopped bytes =
+      subst (Ends words old new) (sym e)
+      (ends_failed (inr (inr (run.of_modules missing))) (run.unfinished name is stopped bytes) (λ it shelf sink. missing_module words old.files missing it))
+
+  pub modules_starved : (name : List ℕ) (status : ℕ) → status ≡ 4 → IsOnModules words → IsStoppedWork (IsModuleOutcome words old.files name) name old.files new.files
+      → WhereTold (PutsPrefix memory_line) old.bytes new.bytes → Ends words old new status
+  modules_starved name status e is stopped bytes = ends_cut_short status e (run.unfinished name is stopped bytes)
 
   -- ---- words that are no command, or were not read
 

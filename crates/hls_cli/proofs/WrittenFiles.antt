@@ -9,7 +9,8 @@ use Rattle.hls_flow.specs.Synthesis.{IsSynthesis}
 use Rattle.command_words.specs.Commands.{Synth}
 use Rattle.command_words.specs.CommandViews.{NamesThreeFiles}
 use Rattle.hls_cli.specs.Words.{settings_of}
-use Rattle.hls_cli.specs.SynthRun.{IsSourceOf, SameFiles, IsMade, IsRefused, IsStopped}
+use Rattle.module_commands.specs.Work.{SameFiles}
+use Rattle.hls_cli.specs.SynthRun.{IsSourceOf, IsMade, IsRefused, IsStopped}
 use Rattle.hls_cli.specs.SynthRun as run
 use Rattle.hls_cli.specs.Work.{AreWritten, AreCutShort}
 use Rattle.hls_cli.specs.Work as work

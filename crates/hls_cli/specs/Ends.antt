@@ -3,7 +3,7 @@ use Rattle.std.specs.Prelude.{◌≡◌, ◌≤◌, ◌⊎◌, ℕ, List, Option
 use Rattle.hls_base.specs.Outside.{Files, HasRisen, WhereTold, PutsAll}
 use Rattle.hls_cli.specs.Lines.{fault_line, memory_line}
 use Rattle.hls_cli.specs.Completeness.{IsComplete}
-use Rattle.hls_cli.specs.SynthRun.{Outside, outside, RanToModule, RanToRefusal, RanToUsage, RanToVerdict, PutsCutLine, IsCutOff, HasFault}
+use Rattle.hls_cli.specs.SynthRun.{Outside, outside, RanToModule, RanToRefusal, RanToUsage, RanToVerdict, RanToOutcome, PutsCutLine, IsCutOff, HasFault}
 
 -- what is seen of the shelf and the sink at one moment
 pub record Seen : Type 0 where
@@ -21,10 +21,10 @@ between old new = outside old.files new.files old.bytes new.bytes
 -- what each status says
 pub record Ends (words : List (List ℕ)) (old new : Seen) (status : ℕ) : Type 0 where
   pub known : status ≤ 9
-  pub made : status ≡ 0 → RanToModule words (between old new) ⊎ RanToVerdict words 0 (between old new)
+  pub made : status ≡ 0 → RanToModule words (between old new) ⊎ (RanToVerdict words 0 (between old new) ⊎ RanToOutcome words 0 (between old new))
   pub refused : status ≡ 1 → RanToRefusal words (between old new) ⊎ RanToVerdict words 1 (between old new)
   pub usage : status ≡ 2 → RanToUsage words (between old new)
-  pub compared : 5 ≤ status → RanToVerdict words status (between old new)
+  pub compared : 5 ≤ status → RanToVerdict words status (between old new) ⊎ RanToOutcome words status (between old new)
   pub fault : status ≡ 3 → HasFault words old.files old.shelf_faults new.shelf_faults old.sink_faults new.sink_faults
   pub after_fault : status ≡ 3 → IsCutOff words fault_line (between old new)
   pub after_memory : status ≡ 4 → IsCutOff words memory_line (between old new)

@@ -2,6 +2,7 @@ pub mod Words
 pub mod Lines
 pub mod VerdictLines
 pub mod Comparisons
+pub mod ModuleRuns
 pub mod SynthRun
 pub mod Completeness
 pub mod Ends

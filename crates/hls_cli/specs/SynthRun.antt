@@ -5,8 +5,11 @@ use Rattle.hls_base.specs.Outside.{Files, HasRisen, WhereTold, IsAbsent, IsWritt
 use Rattle.hls_flow.specs.FirstFault.{IsFirstFault}
 use Rattle.hls_flow.specs.Synthesis.{IsSynthesis}
 use Rattle.command_words.specs.Commands.{Synth, Cosim}
+use Rattle.module_commands.specs.declared.outcome.Outcome.{Outcome}
+use Rattle.module_commands.specs.Work.{SameFiles, Leaves, IsStoppedWork}
 use Rattle.hls_cli.specs.Comparisons.{IsComparisonAnswer}
-use Rattle.hls_cli.specs.Words.{IsSynth, IsCosim, IsUsage, IsComparison, settings_of}
+use Rattle.hls_cli.specs.ModuleRuns.{IsModuleOutcome, IsModuleMissing}
+use Rattle.hls_cli.specs.Words.{IsSynth, IsCosim, IsUsage, IsComparison, IsOnModules, settings_of}
 use Rattle.hls_cli.specs.Lines.{made_line, memory_line, refusal_line, usage_line}
 
 -- what is read of a source: one byte more than the largest source has
@@ -18,10 +21,6 @@ pub record IsSourceOf (c : Synth) (files : Files) (source : List ℕ) : Type 0 w
   pub whole : List ℕ
   pub found : files c.source ≡ Some whole
   pub first : source ≡ take read_bytes whole
-
--- no file changed
-abbrev pub SameFiles : Files → Files → Type 0
-SameFiles old new = (name : List ℕ) → new name ≡ old name
 
 -- The module and the report were written, of a synthesis, and every other file is as before.
 pub record IsMade (c : Synth) (old new : Files) : Type 0 where
@@ -74,6 +73,10 @@ pub data IsCutOff (words : List (List ℕ)) (last : List ℕ) (o : Outside) : Ty
   uncompared : IsComparison words → WhereTold SameFiles o.old_files o.new_files → WhereTold (PutsPrefix last) o.old_bytes o.new_bytes → IsCutOff words last o
   at_comparison : (status : ℕ) (lines : List ℕ) → IsComparisonAnswer words o.old_files status lines → WhereTold SameFiles o.old_files o.new_files
       → WhereTold (PutsCutLine lines last) o.old_bytes o.new_bytes → IsCutOff words last o
+  unfinished : (name : List ℕ) → IsOnModules words → IsStoppedWork (IsModuleOutcome words o.old_files name) name o.old_files o.new_files
+      → WhereTold (PutsPrefix last) o.old_bytes o.new_bytes → IsCutOff words last o
+  at_outcome : (name : List ℕ) (outcome : Outcome) → IsModuleOutcome words o.old_files name outcome → WhereTold (Leaves name outcome.written) o.old_files o.new_files
+      → WhereTold (PutsCutLine outcome.line last) o.old_bytes o.new_bytes → IsCutOff words last o
 
 -- ---- what each status says
 
@@ -99,6 +102,15 @@ pub record RanToVerdict (words : List (List ℕ)) (status : ℕ) (o : Outside) :
   pub files : WhereTold SameFiles o.old_files o.new_files
   pub bytes : WhereTold (PutsAll lines) o.old_bytes o.new_bytes
 
+-- what a command on modules ends with, with this status: the file of its outcome was written if there is one, and exactly its line was put
+pub record RanToOutcome (words : List (List ℕ)) (status : ℕ) (o : Outside) : Type 0 where
+  pub name : List ℕ
+  pub outcome : Outcome
+  pub is : IsModuleOutcome words o.old_files name outcome
+  pub status_is : status ≡ outcome.status
+  pub files : WhereTold (Leaves name outcome.written) o.old_files o.new_files
+  pub bytes : WhereTold (PutsAll outcome.line) o.old_bytes o.new_bytes
+
 -- 2: the words are no command
 pub record RanToUsage (words : List (List ℕ)) (o : Outside) : Type 0 where
   pub usage : IsUsage words
@@ -109,6 +121,7 @@ pub record RanToUsage (words : List (List ℕ)) (o : Outside) : Type 0 where
 pub data IsMissing (words : List (List ℕ)) (files : Option Files) : Type 0 where
   of_synth : (c : Synth) → IsSynth words c → IsAbsent files c.source → IsMissing words files
   of_cosim : (c : Cosim) → IsCosim words c → IsAbsent files c.source ⊎ (IsAbsent files c.module_file ⊎ (IsAbsent files c.report ⊎ IsAbsent files c.run)) → IsMissing words files
+  of_modules : IsModuleMissing words files → IsMissing words files
 
 -- 3: the shelf or the sink failed, or a file that is read is not there
 abbrev pub HasFault : List (List ℕ) → Option Files → ℕ → ℕ → ℕ → ℕ → Type 0

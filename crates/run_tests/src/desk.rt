@@ -72,11 +72,12 @@ impl<'a> Desk<'a> {
 }
 
 impl Left {
-    /// Runs the program again on the files that are there, and answers its status and lines.
-    pub fn again(mut self, alloc: Global, line: &str) -> Result<(u8, MemorySink), Fail> {
+    /// Runs the program again on the files that are there.
+    pub fn then(self, alloc: Global, line: &str) -> Result<Left, Fail> {
+        let mut shelf = self.shelf;
         let mut out = MemorySink::new(alloc, Words::new(Vec::new(alloc)));
         let words = words_of(alloc, line)?;
-        let status = run(alloc, &words, &mut self.shelf, &mut out);
-        Ok((status, out))
+        let status = run(alloc, &words, &mut shelf, &mut out);
+        Ok(Left { status, shelf, out })
     }
 }

@@ -11,11 +11,11 @@ fn lines_of(alloc: Global, source: &[u8], run: &[u8]) -> Result<Vec<u8>, Fail> {
     if left.status != 0 {
         return Err("a module and a report".into());
     }
-    let (_, out) = left.again(
+    let left = left.then(
         alloc,
         "cosim s.c s.v s.rep s.run --top f --points 100000 --cycles 100000",
     )?;
-    Ok(Vec::from_slice(alloc, out.written())?)
+    Ok(Vec::from_slice(alloc, left.out.written())?)
 }
 
 #[test]

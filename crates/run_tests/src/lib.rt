@@ -6,6 +6,8 @@ mod desk;
 #[cfg(test)]
 mod known;
 #[cfg(test)]
+mod modules;
+#[cfg(test)]
 mod real_files;
 #[cfg(test)]
 mod statuses;

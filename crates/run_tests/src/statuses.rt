@@ -96,8 +96,8 @@ fn compared(alloc: Global, run: &[u8], words: &str) -> Result<(u8, Vec<u8>), Fai
     let files = [("s.c", LOOP), ("s.run", run)];
     let desk = Desk::with(&files);
     let left = desk.run(alloc, SYNTH)?;
-    let (status, out) = left.again(alloc, words)?;
-    Ok((status, Vec::from_slice(alloc, out.written())?))
+    let left = left.then(alloc, words)?;
+    Ok((left.status, Vec::from_slice(alloc, left.out.written())?))
 }
 
 #[test]
@@ -163,9 +163,9 @@ fn tells_other_texts_apart(rt: HostRuntime) -> Result<(), Fail> {
         words.push_str("cosim s.c s.v ")?;
         words.push_str(report)?;
         words.push_str(" copy --top f --points 9 --cycles 9")?;
-        let (ended, out) = left.again(rt.alloc(), words.as_str())?;
-        assert_eq!(rt; ended, status);
-        assert_eq!(rt; out.written(), lines);
+        let left = left.then(rt.alloc(), words.as_str())?;
+        assert_eq!(rt; left.status, status);
+        assert_eq!(rt; left.out.written(), lines);
     }
     Ok(())
 }

@@ -25,6 +25,21 @@ pub returns-in-Ok-Some-Soak : goal.returns-in-Ok-Some-Soak
 returns-in-Ok-Some-Soak g c =
     c.run_soak.ensures (map string_bytes c.args.words.now) (g.F.Shelf.files c.args.shelf.now) (g.F.Shelf.faults c.args.shelf.now) (sym (rw (c.in-Ok-Some-Soak.field-0-is, c.in-Ok-Some-Soak.field-0-0-is) at c.in-Ok-Some-Soak.ensures.value))
 
+pub run_link-requires : goal.run_link-requires
+run_link-requires g c = rw (c.in-Ok-Some-Link.field-0-is, c.in-Ok-Some-Link.field-0-0-is) at c.in-Ok-Some-Link.ensures.range
+
+pub returns-in-Ok-Some-Timing : goal.returns-in-Ok-Some-Timing
+returns-in-Ok-Some-Timing g c =
+    c.run_timing.ensures (map string_bytes c.args.words.now) (sym (rw (c.in-Ok-Some-Timing.field-0-is, c.in-Ok-Some-Timing.field-0-0-is) at c.in-Ok-Some-Timing.ensures.value))
+
+pub returns-in-Ok-Some-Blast : goal.returns-in-Ok-Some-Blast
+returns-in-Ok-Some-Blast g c =
+    c.run_blast.ensures (map string_bytes c.args.words.now) (sym (rw (c.in-Ok-Some-Blast.field-0-is, c.in-Ok-Some-Blast.field-0-0-is) at c.in-Ok-Some-Blast.ensures.value))
+
+pub returns-in-Ok-Some-Link : goal.returns-in-Ok-Some-Link
+returns-in-Ok-Some-Link g c =
+    c.run_link.ensures (map string_bytes c.args.words.now) (sym (rw (c.in-Ok-Some-Link.field-0-is, c.in-Ok-Some-Link.field-0-0-is) at c.in-Ok-Some-Link.ensures.value))
+
 pub returns-in-Ok-None : goal.returns-in-Ok-None
 returns-in-Ok-None g c =
     usage_ends (map string_bytes c.args.words.now)

@@ -1,4 +1,4 @@
-//! The program `hls`, started on a source that is refused.
+//! The program `hls`, started on a module whose longest path is asked for.
 #![tactic(auto)]
 
 use hls_cli::start::start;

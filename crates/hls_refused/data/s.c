@@ -1,5 +1,0 @@
-int c(void);
-int f(int x) {
-    int b[2];
-    return c(b) + 08;
-}

@@ -1,0 +1,5 @@
+mod Settling
+mod Refuted
+pub mod ReadTexts
+mod ChainPins
+pub mod ReadFiles
