@@ -81,6 +81,9 @@ def words():
         [], ["foo"], ["synth"], ["synth", "s.c", "s.v"], SYNTH[:4], [*SYNTH[:4], "--top"], [*SYNTH, "--foo"], [*SYNTH, "more"], [*SYNTH, "--top", "f"],
         ["cosim"], SYNTH[1:], ["cosim", *SYNTH[1:]], [*COSIM, "--plain"], [*COSIM, "--mul", "1"],
         [*SYNTH, "--points", "1"], ["soak"], ["soak", "x"], ["soak", "-1"], ["soak", "+1"], ["soak", ""], ["soak", "1", "2"], ["soak", "18446744073709551616"],
+        ["timing"], ["timing", "s.v", "t.v"], ["timing", "s.v", "--top", "f"], ["blast", "s.v"], ["blast", "s.v", "s.v"], ["blast", "s.v", "a", "b"],
+        ["link"], ["link", "o.v"], ["link", "o.v", "2"], ["link", "o.v", "0", "s.v"], ["link", "o.v", "1025", "s.v"], ["link", "o.v", "+2", "s.v"], ["link", "o.v", "x", "s.v"],
+        ["link", "s.v", "2", "s.v"], ["link", "o.v", "2", "s.v", "t.v", "s.v"],
         ["synth", "x", "x", "y", "--top", "f"],
     ]
     for option, most in (("--mul", 8), ("--div", 4), ("--ports", 2)):
@@ -207,6 +210,36 @@ def source_limits():
     yield refused("limit 21 further", "int a[65536],b[1];" + SEVEN, 21, 1, 14)
 
 
+def modules():
+    """The commands on modules: their files, damaged modules, and the limits of modules, graphs and chains."""
+    counter, graph, chain = {"t.v": COUNTER}, ["blast", "t.v", "t.aag"], ["link", "c.v", "2", "t.v"]
+    yield Case("timing", 0, "delay 4 path 0", words=["timing", "t.v"], files=counter)
+    yield Case("blast", 0, "blasted inputs 4 latches 4", words=graph, files=counter, there=("t.aag",))
+    yield Case("link", 8, "module rule 83 at 1:1", words=chain, files=counter, absent=("c.v",))
+    for words, written in ((["timing", "t.v"], ()), (graph, ("t.aag",)), (chain, ("c.v",))):
+        yield Case(f"{words[0]} without the module", 3, "fault", words=words, absent=written)
+        yield Case(f"{words[0]} of a folder", 3, "fault", words=words, files={"t.v": "/"}, absent=written)
+        yield Case(f"{words[0]} of a module that is too long", 8, "module rule 56 at 1:1", words=words, files={"t.v": COUNTER.ljust(67_108_865)}, absent=written)
+        for k in range(0, len(COUNTER) - 1, 7):
+            yield Case(f"{words[0]} of a module cut after {k}", 8, r"module rule 5[01] at \d+:\d+", words=words, files={"t.v": COUNTER[:k]}, absent=written)
+    yield Case("blast to no folder", 3, "fault", words=["blast", "t.v", "none/t.aag"], files=counter)
+    yield Case("blast to a full device", 3, "fault", words=["blast", "t.v", "/dev/full"], files=counter)
+    yield Case("blast, output cannot be written", 3, "", words=graph, files=counter, output="/dev/full", there=("t.aag",))
+    stage = "int f(int a){return a+1;}"
+    link = ["link", "c.v", "1024", "s.v"]
+    yield Case("link of one stage", 0, "linked 1 stages", words=link, source=stage, make=True, there=("c.v",))
+    yield Case("link to a full device", 3, "fault", words=["link", "/dev/full", *link[2:]], source=stage, make=True)
+    yield Case("link of two arguments", 8, "module rule 83 at 1:1", words=link, source="int f(int a,int b){return a+b;}", make=True, absent=("c.v",))
+    yield Case("link of no result", 8, "module rule 83 at 1:1", words=link, source="void f(int a){a=1;}", make=True, absent=("c.v",))
+    yield Case("link of a table", 8, "module rule 81 at 1:1", words=link, source="int f(int i){int t[2]={4,5}; return t[i&1];}", make=True, absent=("c.v",))
+    yield Case("link of 17 stages", 8, "module rule 82 at 1:1", words=["link", "c.v", "2", *(f"{k}.v" for k in range(17))], absent=("c.v",))
+    yield Case("link of 16 stages that are not there", 3, "fault", words=["link", "c.v", "2", *(f"{k}.v" for k in range(16))], absent=("c.v",))
+    yield Case("limit 70 last", 0, "blasted inputs 89 latches 49319", words=["blast", "s.v", "s.aag"], source="int f(int a[1024],short b[1024]){return a[0]+b[0];}", make=True, there=("s.aag",))
+    yield Case("limit 70 further", 8, "module rule 70 at 1:1", words=["blast", "s.v", "s.aag"], source="int f(int a[4096]){return a[0];}", make=True, absent=("s.aag",))
+    products = "unsigned long f(unsigned long a){" + "a=a*a^a>>3;" * 9 + "return a;}"
+    yield Case("limit 72 not reached", 0, r"blasted inputs \d+ latches \d+", words=["blast", "s.v", "s.aag"], source=products, make=True, there=("s.aag",))
+
+
 def loop_report():
     with tempfile.TemporaryDirectory() as work:
         (pathlib.Path(work) / "s.c").write_text(LOOP)
@@ -216,7 +249,7 @@ def loop_report():
 
 def main(names):
     report = loop_report()
-    cases = [*words(), *files(), *damaged(report), *run_files(), *text_limits(report), *source_limits()]
+    cases = [*words(), *files(), *damaged(report), *run_files(), *text_limits(report), *source_limits(), *modules()]
     cases = [case for case in cases if not names or any(case.name.startswith(name) for name in names)]
     wrong = 0
     with concurrent.futures.ThreadPoolExecutor(os.cpu_count()) as pool:

@@ -17,7 +17,7 @@ FOLDERS = ("crates", "docs", "tools", "examples", "corpus", "dist", ".ci")
 # Names that are no names of this repository: of C, Verilog, the shell, the pins and the kit.
 OTHER = set("""
 int8_t int16_t int32_t int64_t uint8_t uint16_t uint32_t uint64_t h_en h_we h_sel h_addr h_wdata h_rdata arg_0 arg_1 hls_f hls_NAME
-synth_ice40 synth_xilinx synth_intel_alm read_verilog start_lib hls_prefix_sum AllocError Debug Display
+synth_ice40 synth_xilinx synth_intel_alm read_verilog start_lib hls_prefix_sum hls_chain in_valid in_data out_take in_room out_valid out_data AllocError Debug Display
 """.split())
 WORD = re.compile(r"[A-Za-z_]\w*")
 

@@ -19,18 +19,24 @@ COMMANDS = {
     "synth": "synth SRC MOD REP --top NAME [--mul 1..8] [--div 1..4] [--ports 1..2] [--plain]",
     "cosim": "cosim SRC MOD REP RUN --top NAME [--points N] [--cycles N]",
     "soak": "soak NUMBER",
+    "timing": "timing MOD",
+    "blast": "blast MOD AIG",
+    "link": "link OUT DEPTH MOD ..",
 }
-FILES = {"synth": ("SRC", "MOD", "REP"), "cosim": ("SRC", "MOD", "REP", "RUN"), "soak": ()}
+FILES = {"synth": ("SRC", "MOD", "REP"), "cosim": ("SRC", "MOD", "REP", "RUN"), "timing": ("MOD",), "blast": ("MOD", "AIG")}
+WRITTEN = {"synth": ("MOD", "REP"), "blast": ("AIG",), "link": ("OUT",)}
 RANGES = {
     "synth": {"--mul": (1, 8), "--div": (1, 4), "--ports": (1, 2)},
     "cosim": {"--points": (1, 10**9), "--cycles": (1, 10**9)},
-    "soak": {},
 }
 HELP = """hls: compiles a C function to a clocked Verilog module, and reports its exact cycles
 
     ./hls synth SRC MOD REP --top NAME [OPTION ..]       compiles: writes the module and the report
     ./hls cosim SRC MOD REP RUN --top NAME [OPTION ..]   runs the C program and the module, and compares them
     ./hls soak NUMBER                                    makes a program from the number, compiles it and compares a run
+    ./hls timing MOD                                     says the longest path of a module
+    ./hls blast MOD AIG                                  writes a module as an and-inverter graph (AIGER, ASCII)
+    ./hls link OUT DEPTH MOD ..                          links modules by queues of at most DEPTH items (1 to 1024)
     ./hls --prove                                        proves and builds the compiler
     ./hls --help                                         prints this page
 
@@ -46,7 +52,8 @@ Options of cosim
     --cycles N      waits at most N cycles for the module (1000000)
 
 Status  Line on standard output                     Meaning
-    0   made hls_NAME, or lines up to agree         done
+    0   made hls_NAME, lines up to agree, delay ..,  done
+        blasted .., linked ..
     1   rule R at LINE:COLUMN                       the source is rejected; no file was written
     2   usage: hls COMMAND ARGUMENTS                invalid command line
     3   fault                                       a file or standard output cannot be read or written
@@ -100,6 +107,8 @@ class Words:
             else:
                 self.plain.append(word)
         self.files = dict(zip(FILES.get(self.command, ()), self.plain))
+        if self.command == "link" and self.plain:
+            self.files = {"OUT": self.plain[0], **{f"MOD {k}": name for k, name in enumerate(self.plain[2:], 1)}}
 
     def top(self):
         return self.options.get("--top") or ""
@@ -159,22 +168,40 @@ def at_design(paper, words, what, rule, place):
     """A module or a report that is rejected: what its text says, else what the table says."""
     from faults_design import module_message, report_message
 
+    if words.command == "link":
+        return at_chain(paper, words, rule, place)
+    if rule in ("70", "72"):
+        return at_table(paper, words.files.get("MOD", ""), rule, place)
     name = words.files.get({"module": "MOD", "report": "REP"}[what], "")
     message = None
     try:
         data = pathlib.Path(name).read_bytes()
-        source = pathlib.Path(words.files.get("SRC", "")).read_bytes()
+        source = pathlib.Path(words.files["SRC"]).read_bytes() if "SRC" in words.files else b""
         message = module_message(data, rule, place, source, words.top()) if what == "module" else report_message(data, rule, place, words.top())
     except Exception:
         if os.environ.get("HLS_EXPLAIN_STRICT"):
             raise
     if message is None:
-        at_table(paper, name, rule, place)
-        return
+        return at_table(paper, name, rule, place)
     message.place = message.place or place
     if not message.helps:
         message.help(RULES[f"rule {rule}"]["instead"])
     paper.message(name, message, rule)
+    return None
+
+
+def at_chain(paper, words, rule, place):
+    """Stages that are not linked: the rules of chains name the stage, and the others the place in the first module that is rejected."""
+    block = RULES[f"rule {rule}"]
+    paper.title(block["name"], rule)
+    if rule in ("80", "81", "83"):
+        paper.note(f"stage {place[0]} is `{words.files.get(f'MOD {place[0]}', '')}`")
+    elif rule == "82":
+        paper.note(f"{len(words.files) - 1} stages are given")
+    else:
+        paper.note(f"line {place[0]}, column {place[1]} of the first stage that is rejected; `./hls timing MOD` says which it is")
+    paper.note("the rule: " + block["refused"])
+    paper.help(block["instead"])
 
 
 def at_table(paper, name, rule, place):
@@ -230,34 +257,45 @@ def command_faults(words):
     """Each fault of the words of a command, and what to write."""
     command = words.command
     for option, value in words.options.items():
-        if option in RANGES[command]:
+        if option in RANGES.get(command, {}):
             least, most = RANGES[command][option]
             if value is None or not re.fullmatch(r"[0-9]+", value) or not least <= int(value) <= most:
                 yield f"`{option}` takes a number from {least} to {most}" + (f", not `{value}`" if value else ""), None
-        elif option != "--top" and (option, command) != ("--plain", "synth"):
-            owner = next((c for c in RANGES if option in RANGES[c] or (option, c) == ("--plain", "synth")), None)
+        elif (option, command) not in (("--plain", "synth"), ("--top", "synth"), ("--top", "cosim")):
+            owner = next((c for c in RANGES if option in RANGES[c] or (option, c) in (("--plain", "synth"), ("--top", "synth"))), None)
             yield f"`{option}` is not an option of `{command}`" + (f" but of `{owner}`" if owner else ""), None
-    if command != "soak" and not words.top():
+    if command in ("synth", "cosim") and not words.top():
         yield "`--top NAME` is missing", None
-    wanted = FILES[command] or ("NUMBER",)
-    if len(words.plain) != len(wanted):
-        given = f"{len(words.plain)} {'is' if len(words.plain) == 1 else 'are'} given"
+    wanted = FILES.get(command) or COMMANDS[command].split()[1:]
+    given = f"{len(words.plain)} {'is' if len(words.plain) == 1 else 'are'} given"
+    if len(words.plain) < 3 if command == "link" else len(words.plain) != len(wanted):
         yield f"`{command}` takes {' '.join(wanted)}, but {given}", None
+    elif command == "link" and not (re.fullmatch(r"[0-9]+", words.plain[1]) and 1 <= int(words.plain[1]) <= 1024):
+        yield f"DEPTH is a number from 1 to 1024, not `{words.plain[1]}`", None
     elif command == "soak" and not (re.fullmatch(r"[0-9]+", words.plain[0]) and int(words.plain[0]) < 2**64):
         yield f"`{words.plain[0]}` is not a number from 0 to 18446744073709551615", None
     same = same_files(words)
     if same:
         kind, name, other_kind, other = same
         what = f"{kind} and {other_kind} are both `{name}`" if name == other else f"{kind} `{name}` and {other_kind} `{other}` are the same file"
-        why = "each has a format of its own" if command == "cosim" else "it would overwrite the source" if kind == "SRC" else "one would overwrite the other"
-        yield what, f"choose another file for {other_kind}: {why}"
+        yield what, f"choose another file for {other_kind}: {why_other(command, kind, other_kind)}"
+
+
+def why_other(command, kind, other_kind):
+    """Why two files of a command cannot be one."""
+    written = WRITTEN.get(command, ())
+    if command == "cosim":
+        return "each has a format of its own"
+    if kind not in written and other_kind not in written:
+        return "each stage has a file of its own, so copy the module"
+    return "one would overwrite the other" if kind in written and other_kind in written else f"it would overwrite {'the source' if command == 'synth' else 'the module'}"
 
 
 # ---- the other statuses
 
 
 def fault(paper, words):
-    read = ("SRC",) if words.command == "synth" else tuple(words.files)
+    read = tuple(kind for kind in words.files if kind not in WRITTEN.get(words.command, ()))
     found = []
     for kind, name in words.files.items():
         path = pathlib.Path(name)
