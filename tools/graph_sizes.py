@@ -1,5 +1,5 @@
 #!/usr/bin/env python3
-"""Sets the gates that `blast` makes of each example's module beside those of Yosys' `aigmap` after its optimisations.
+"""Sets the gates that `blast` makes of each example's module beside those of Yosys' `aigmap` after its optimisations. Enables of registers are gates in both.
 
     tools/graph_sizes.py [NAME ..]   all examples, or these
 
@@ -18,7 +18,7 @@ import tempfile
 import examples
 import graph
 
-SCRIPT = "read_verilog {text}; hierarchy -auto-top; proc; opt; memory; opt; techmap; opt; aigmap; opt_clean; stat"
+SCRIPT = "read_verilog {text}; hierarchy -auto-top; proc; opt -nodffe -nosdff; memory; opt -nodffe -nosdff; techmap; opt -nodffe -nosdff; dffunmap; techmap; opt -nodffe -nosdff; aigmap; opt_clean; stat"
 
 
 def one(source):
