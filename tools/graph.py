@@ -97,13 +97,16 @@ def blasted(module, folder):
     return read(text.read_text())
 
 
-def are_equal(one, other, folder):
-    """Whether two combinational circuits with the same inputs have the same outputs, by ABC: True, False, or None if it cannot tell."""
+def are_equal(one, other, folder, seconds=None):
+    """Whether two combinational circuits with the same inputs have the same outputs, by ABC: True, False, or None if it cannot tell, or not within so many seconds."""
     names = []
     for k, graph in enumerate((one, other)):
         names.append(f"graph{k}.aig")
         (pathlib.Path(folder) / names[k]).write_bytes(graph.combinational())
-    ran = subprocess.run([ABC, "-c", f"cec -n {names[0]} {names[1]}"], cwd=folder, capture_output=True, text=True)
+    try:
+        ran = subprocess.run([ABC, "-c", f"cec -n {names[0]} {names[1]}"], cwd=folder, capture_output=True, text=True, timeout=seconds)
+    except subprocess.TimeoutExpired:
+        return None
     if "Networks are equivalent" in ran.stdout:
         return True
     return False if "NOT EQUIVALENT" in ran.stdout else None

@@ -19,6 +19,8 @@ import tempfile
 import graph
 
 SCRIPT = "read_verilog {text}; hierarchy -auto-top; proc -noopt; memory_collect; memory_map; simplemap; dffunmap; techmap; simplemap; aigmap; setundef -zero; write_aiger -ascii -map map.txt yosys.aag"
+# Products are hard to compare; ABC gets so long for a module.
+SECONDS = 10
 BIT = re.compile(r"(input|output|latch|invlatch) (\d+) (\d+) (\S+)")
 
 
@@ -62,13 +64,16 @@ def verdict(module):
         ours = graph.blasted(module, folder)
         if not ours:
             return "too large for a graph, skipped", None
-        theirs = by_yosys(module, folder)
+        try:
+            theirs = by_yosys(module, folder)
+        except KeyError as bit:
+            return f"Yosys leaves out {bit}, skipped", None
         counts = [(len(it.inputs), len(it.latches), len(it.outputs)) for it in (ours, theirs)]
         if counts[0] != counts[1]:
             return f"{counts[0]} inputs, latches and outputs, and {counts[1]}", False
-        found = graph.are_equal(ours, theirs, folder)
+        found = graph.are_equal(ours, theirs, folder, SECONDS)
         sizes = f"{len(ours.gates)} gates, {len(theirs.gates)} by Yosys"
-        return {True: f"read alike; {sizes}", False: f"READ DIFFERENTLY; {sizes}", None: f"no answer; {sizes}"}[found], found is True
+        return {True: f"read alike; {sizes}", False: f"READ DIFFERENTLY; {sizes}", None: f"no answer; {sizes}"}[found], found
 
 
 def compiled(source, folder):
@@ -96,7 +101,7 @@ def main():
     for module, (said, _) in zip(modules, rows):
         print(f"{module.stem}: {said}")
     count = lambda kind: sum(found is kind for _, found in rows)
-    print(f"read alike: {count(True)} of {len(rows)}, {count(None)} skipped, {count(False)} not")
+    print(f"read alike: {count(True)} of {len(rows)}, {count(False)} read differently; of {count(None)} nothing is known")
     return 1 if count(False) else 0
 
 
