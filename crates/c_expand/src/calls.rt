@@ -11,6 +11,7 @@ ghost use Rattle.c_expand.specs.Callees.{callee_of, call_at, given_of};
 ghost use Rattle.c_expand.specs.Expressions.{argument, arguments, called};
 ghost use Rattle.c_expand.specs.Expansion.{run_through, end_of, homes_for, parameter, parameters, locals, value_of, opened};
 
+use crate::emitting::mark;
 use crate::expressions::expression;
 use crate::here::{Here, deeper, one_more_open};
 use crate::statements::block;
@@ -131,8 +132,7 @@ pub fn run_through(here: Here, work: &mut Work) -> Result<(), Fail>
     let frame = here.frame;
     let at = frame.function.at;
     let body = frame.function.body.as_slice();
-    let begin = frame.point(PointKind::Begin, at)?;
-    work.mark(begin)?;
+    mark(frame, work, PointKind::Begin, at)?;
     block(here, work, body, true)?;
     let point = frame.point(PointKind::End, at)?;
     let leaves = any_leaves(body, true);

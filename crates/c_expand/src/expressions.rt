@@ -14,13 +14,14 @@ ghost use Rattle.c_expand.specs.Chains.{links};
 ghost use Rattle.c_expand.specs.Expressions.{expression, operands, targeted, value_or_zero};
 
 use crate::calls::called;
+use crate::emitting::bump;
 use crate::here::{Here, deeper};
 use crate::operators::{Step, chosen, linked};
 use c_token::ctype::CType;
 use c_tree::operator::Binary;
 use hls_base::place::Place;
 use hls_base::refusal::{Fail, impossible};
-use piece_making::assignments::{Change, bumped};
+use piece_making::assignments::Change;
 use piece_making::build::{Operator, bit, element};
 use piece_making::effects::{Effects, NO_EFFECTS, effects_of, effects_of_all};
 use piece_making::saving::save;
@@ -124,13 +125,14 @@ fn innermost(here: Here, work: &mut Work, e: &CoreExpr) -> Result<Pure, Fail>
             at,
         } => {
             let change = step_by_one(here, work, target, *up, *at)?;
-            bumped(here.frame, work, change, *post)
+            bump(here.frame, work, change, *post)
         }
         _ => Err(Fail::from(impossible())),
     }
 }
 
 /// The value of a call that has one.
+#[inline(never)]
 fn value_or_zero(value: Option<Pure>) -> Pure
     ensures { pure_of result ≡ value_or_zero (option_map pure_of value) }
 {

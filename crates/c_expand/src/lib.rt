@@ -3,6 +3,7 @@
 
 mod calls;
 mod declarations;
+mod emitting;
 pub mod expand;
 mod expressions;
 mod here;

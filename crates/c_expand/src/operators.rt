@@ -8,9 +8,12 @@ ghost use Rattle.piece_making.specs.Calls.{call_of};
 ghost use Rattle.piece_making.specs.Saving.{is_logical};
 ghost use Rattle.piece_making.specs.Stocks.{IsMade, IsTooHeavy, state_of, stock};
 ghost use Rattle.c_expand.specs.Callees.{callee_of, call_at};
+ghost use Rattle.pieces.specs.Trees as tree;
 ghost use Rattle.c_expand.specs.Chains.{link};
+ghost use Rattle.c_expand.specs.InPlace.{operated_in_place, chosen_in_place, forked_behind};
 ghost use Rattle.c_expand.specs.Expressions.{expression, operated, forked, chosen, arm, decided, same, to_bool, fork_of, is_call, may_be_unused, comma_left, discarded, set_unused, is_or};
 
+use crate::emitting::mark;
 use crate::expressions::expression;
 use crate::here::{Here, deeper};
 use c_token::ctype::CType;
@@ -29,6 +32,7 @@ use pieces::piece::Piece;
 use pieces::pure_expr::Pure;
 use pieces::pure_kind::kind_of;
 use pieces::resolved::expression::CoreExpr;
+use std::alloc::{AllocError, Global};
 
 /// An operator with all but the operand that a chain of operators goes on with. An assignment has the subscripts of its target, which are evaluated before.
 #[derive(Drop)]
@@ -63,8 +67,8 @@ pub fn linked(here: Here, work: &mut Work, step: Step, part: Pure) -> Result<Pur
     let here = Here { depth, ..here };
     let alloc = here.frame.context.alloc;
     match step {
-        Step::Unary { op, kind, at } => Ok(unary(alloc, op, part, kind, at)?),
-        Step::Cast { to } => Ok(cast(alloc, to, part)?),
+        Step::Unary { op, kind, at } => Ok(unary_of(alloc, op, part, kind, at)?),
+        Step::Cast { to } => Ok(cast_to(alloc, to, part)?),
         Step::Binary { operator, right } => operated(here, work, operator, part, right),
         Step::Assign(change) => assigned(here.frame, work, change, part),
         Step::Comma { left, right } => {
@@ -75,7 +79,22 @@ pub fn linked(here: Here, work: &mut Work, step: Step, part: Pure) -> Result<Pur
     }
 }
 
+#[inline(never)]
+fn unary_of(alloc: Global, op: Unary, arg: Pure, kind: CType, at: Place) -> Result<Pure, AllocError>
+    ensures { IfOk result (λ p. pure_of p ≡ tree.unary op (pure_of arg) kind at) }
+{
+    unary(alloc, op, arg, kind, at)
+}
+
+#[inline(never)]
+fn cast_to(alloc: Global, to: CType, arg: Pure) -> Result<Pure, AllocError>
+    ensures { IfOk result (λ p. pure_of p ≡ tree.cast to (pure_of arg)) }
+{
+    cast(alloc, to, arg)
+}
+
 /// The left operand of a comma. What it reads is saved where the right operand has effects, unless it is a call. Its value is not used.
+#[inline(never)]
 fn comma_left(
     context: &Context,
     work: &mut Work,
@@ -155,8 +174,26 @@ fn operated(
     if is_logical(operator.op) && later.is_some() {
         return forked(here, work, operator, left, right);
     }
+    operated_in_place(here, work, operator, left, right)
+}
+
+/// A binary operator whose right operand is evaluated in place.
+#[inline(never)]
+#[cycle(expansion)]
+fn operated_in_place(
+    here: Here,
+    work: &mut Work,
+    operator: Operator,
+    left: Pure,
+    right: &CoreExpr,
+) -> Result<Pure, Fail>
+    ensures made { IfOk result (λ v. IsMade (stock work.old) (stock work.new) (pure_of v) (operated_in_place operator.op operator.kind operator.at (pure_of left) (expression (callee_of here.entry) (call_at here.entry) (core_of right.now)) (state_of (stock work.old)))) }
+    ensures refused { IfRefused result (λ r. IsTooHeavy (stock work.old) r (operated_in_place operator.op operator.kind operator.at (pure_of left) (expression (callee_of here.entry) (call_at here.entry) (core_of right.now)) (state_of (stock work.old)))) }
+{
+    let depth = deeper(here.depth)?;
+    let here = Here { depth, ..here };
     let right = expression(here, work, right)?;
-    Ok(binary(context.alloc, operator, left, right)?)
+    Ok(binary(here.frame.context.alloc, operator, left, right)?)
 }
 
 fn is_logical(op: Binary) -> bool
@@ -186,11 +223,37 @@ fn forked(
 {
     let depth = deeper(here.depth)?;
     let here = Here { depth, ..here };
+    let own = work.fresh(operator.kind)?;
+    let pieces = truth_arm(here, work, own, right, operator.at)?;
+    fork_behind(here.frame, work, operator, test, Reached { own, pieces })
+}
+
+/// The branch that evaluates the right operand of a `&&` or `||`, and the variable that it sets.
+#[derive(Drop)]
+struct Reached {
+    own: VarId,
+    pieces: Vec<Piece>,
+}
+
+/// A `&&` or `||` behind the branch that evaluates its right operand.
+#[inline(never)]
+fn fork_behind(
+    frame: &Frame,
+    work: &mut Work,
+    operator: Operator,
+    test: Pure,
+    reached: Reached,
+) -> Result<Pure, Fail>
+    ensures made { IfOk result (λ v. IsMade (stock work.old) (stock work.new) (pure_of v) (forked_behind (call_of frame.now) operator.op operator.kind operator.at (pure_of test) (map piece_of reached.pieces.items) reached.own (state_of (stock work.old)))) }
+    ensures refused { IfRefused result (λ r. IsTooHeavy (stock work.old) r (forked_behind (call_of frame.now) operator.op operator.kind operator.at (pure_of test) (map piece_of reached.pieces.items) reached.own (state_of (stock work.old)))) }
+{
     let Operator { op, kind, at } = operator;
-    let own = work.fresh(kind)?;
-    let reached = truth_arm(here, work, own, right, at)?;
+    let Reached {
+        own,
+        pieces: reached,
+    } = reached;
     let is_or = is_or(op);
-    let other = decided(here.frame, work, own, is_or)?;
+    let other = decided(frame, work, own, is_or)?;
     if is_or {
         let arms = Arms {
             yes: other,
@@ -199,7 +262,7 @@ fn forked(
             kind,
             at,
         };
-        fork(here.frame, work, test, arms)
+        fork(frame, work, test, arms)
     } else {
         let arms = Arms {
             yes: reached,
@@ -208,7 +271,7 @@ fn forked(
             kind,
             at,
         };
-        fork(here.frame, work, test, arms)
+        fork(frame, work, test, arms)
     }
 }
 
@@ -240,6 +303,7 @@ fn fork(frame: &Frame, work: &mut Work, test: Pure, arms: Arms) -> Result<Pure, 
 }
 
 /// The branch of a `&&` or `||` that sets the number 0 or 1.
+#[inline(never)]
 fn decided(frame: &Frame, work: &mut Work, own: VarId, is_one: bool) -> Result<Vec<Piece>, Fail>
     ensures made { IfOk result (λ v. IsMade (stock work.old) (stock work.new) (record { value = tt; pieces = map piece_of v.items }) (decided is_one own (state_of (stock work.old)))) }
     ensures refused { IfRefused result (λ r. IsTooHeavy (stock work.old) r (decided is_one own (state_of (stock work.old)))) }
@@ -267,10 +331,9 @@ fn truth_arm(
     let here = Here { depth, ..here };
     let alloc = here.frame.context.alloc;
     let outer = work.begin(alloc);
-    let point = here.frame.point(PointKind::Arm, at)?;
-    work.mark(point)?;
+    mark(here.frame, work, PointKind::Arm, at)?;
     let value = expression(here, work, e)?;
-    let truth = cast(alloc, CType::Bool, value)?;
+    let truth = cast_to(alloc, CType::Bool, value)?;
     work.set(own, truth)?;
     Ok(work.finish(outer))
 }
@@ -285,8 +348,7 @@ fn arm(here: Here, work: &mut Work, own: VarId, e: &CoreExpr, at: Place) -> Resu
     let depth = deeper(here.depth)?;
     let here = Here { depth, ..here };
     let outer = work.begin(here.frame.context.alloc);
-    let point = here.frame.point(PointKind::Arm, at)?;
-    work.mark(point)?;
+    mark(here.frame, work, PointKind::Arm, at)?;
     let value = expression(here, work, e)?;
     work.set(own, value)?;
     Ok(work.finish(outer))
@@ -355,9 +417,7 @@ fn selected(here: Here, work: &mut Work, test: Pure, operands: Choice) -> Result
     let third = effects_of(no);
     let later = second.or(third);
     if !later.is_some() {
-        let yes = expression(here, work, yes)?;
-        let no = expression(here, work, no)?;
-        return Ok(choice(context.alloc, kind, test, yes, no)?);
+        return chosen_in_place(here, work, test, operands);
     }
     let test = save(context, work, test, later)?;
     let own = work.fresh(kind)?;
@@ -375,4 +435,19 @@ fn selected(here: Here, work: &mut Work, test: Pure, operands: Choice) -> Result
             at,
         },
     )
+}
+
+/// A `?:` behind its test whose second and third operand are evaluated in place.
+#[inline(never)]
+#[cycle(expansion)]
+fn chosen_in_place(here: Here, work: &mut Work, test: Pure, operands: Choice) -> Result<Pure, Fail>
+    ensures made { IfOk result (λ v. IsMade (stock work.old) (stock work.new) (pure_of v) (chosen_in_place operands.entry.kind (pure_of test) (expression (callee_of here.entry) (call_at here.entry) (core_of operands.entry.yes.now)) (expression (callee_of here.entry) (call_at here.entry) (core_of operands.entry.no.now)) (state_of (stock work.old)))) }
+    ensures refused { IfRefused result (λ r. IsTooHeavy (stock work.old) r (chosen_in_place operands.entry.kind (pure_of test) (expression (callee_of here.entry) (call_at here.entry) (core_of operands.entry.yes.now)) (expression (callee_of here.entry) (call_at here.entry) (core_of operands.entry.no.now)) (state_of (stock work.old)))) }
+{
+    let depth = deeper(here.depth)?;
+    let here = Here { depth, ..here };
+    let yes = expression(here, work, operands.yes)?;
+    let no = expression(here, work, operands.no)?;
+    let alloc = here.frame.context.alloc;
+    Ok(choice(alloc, operands.kind, test, yes, no)?)
 }

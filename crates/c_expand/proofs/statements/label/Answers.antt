@@ -11,8 +11,8 @@ returns-in_err-label-clause-refused c = through _ c.in_err-label.field-0.0 _ _ c
 
 pub returns-clause-made : goal.returns-clause-made
 returns-clause-made c =
-    IfOk-weaker c.mark.result _ _ (λ v h. made_behind _ _ _ _ _ _ _ c.in_ok-label.ensures.made (piece_made _ _ _ _ _ (ap (λ (p : Point). tree.mark p) c.in_ok-point.ensures) h)) c.mark.ensures.made
+    IfOk-weaker c.mark.result _ _ (λ v h. made_behind _ _ _ _ _ _ _ c.in_ok-label.ensures.made h) c.mark.ensures.made
 
 pub returns-clause-refused : goal.returns-clause-refused
 returns-clause-refused c =
-    IfRefused-weaker c.mark.result _ _ (λ r h. heavy_behind _ _ _ _ _ _ c.in_ok-label.ensures.made (piece_heavy _ _ _ _ (ap (λ (p : Point). tree.mark p) c.in_ok-point.ensures) h)) c.mark.ensures.refused
+    IfRefused-weaker c.mark.result _ _ (λ r h. heavy_behind _ _ _ _ _ _ c.in_ok-label.ensures.made h) c.mark.ensures.refused
