@@ -1,5 +1,5 @@
 //! Expressions: the pieces that have to come before them, and the value that is left.
-ghost use Rattle.std.specs.Prelude.{◌≡◌, IfOk, map, []};
+ghost use Rattle.std.specs.Prelude.{◌≡◌, ◌∷◌, ◌++◌, IfOk, map, []};
 ghost use Rattle.std.specs.Option.{option_map};
 ghost use Rattle.hls_base.specs.Refusals.{IfRefused};
 ghost use Rattle.pieces.specs.Resolved.Core as core;
@@ -8,6 +8,7 @@ ghost use Rattle.pieces.specs.Resolved.CoreView.{core_of, core_target_of};
 ghost use Rattle.pieces.specs.View.{pure_of};
 ghost use Rattle.piece_making.specs.Acting.{no_effects, effects};
 ghost use Rattle.piece_making.specs.Assigning.{change_of, step};
+ghost use Rattle.piece_making.specs.Calls.{call_of, scalar};
 ghost use Rattle.piece_making.specs.Stocks.{IsMade, IsTooHeavy, state_of, stock};
 ghost use Rattle.c_expand.specs.Callees.{callee_of, call_at};
 ghost use Rattle.c_expand.specs.Chains.{links};
@@ -24,10 +25,12 @@ use hls_base::refusal::{Fail, impossible};
 use piece_making::assignments::Change;
 use piece_making::build::{Operator, bit, element};
 use piece_making::effects::{Effects, NO_EFFECTS, effects_of, effects_of_all};
+use piece_making::frame::Frame;
 use piece_making::saving::save;
 use piece_making::work::Work;
 use pieces::pure_expr::Pure;
 use pieces::resolved::expression::{Cell, CoreExpr, CoreTarget};
+use std::alloc::AllocError;
 
 /// The value of an expression, behind the pieces that it needs. Operators are gone through in a loop, so that the depth of the recursion is bounded by how deep the source nests.
 #[cycle(expansion)]
@@ -43,11 +46,11 @@ pub fn expression(here: Here, work: &mut Work, e: &CoreExpr) -> Result<Pure, Fai
         match part {
             CoreExpr::Unary { op, arg, kind, at } => {
                 let (op, kind, at) = (*op, *kind, *at);
-                steps.push(Step::Unary { op, kind, at })?;
+                push_step(&mut steps, Step::Unary { op, kind, at })?;
                 part = arg;
             }
             CoreExpr::Cast { to, arg } => {
-                steps.push(Step::Cast { to: *to })?;
+                push_step(&mut steps, Step::Cast { to: *to })?;
                 part = arg;
             }
             CoreExpr::Binary {
@@ -62,7 +65,7 @@ pub fn expression(here: Here, work: &mut Work, e: &CoreExpr) -> Result<Pure, Fai
                     kind: *kind,
                     at: *at,
                 };
-                steps.push(Step::Binary { operator, right })?;
+                push_step(&mut steps, Step::Binary { operator, right })?;
                 part = left;
             }
             CoreExpr::Assign {
@@ -72,11 +75,11 @@ pub fn expression(here: Here, work: &mut Work, e: &CoreExpr) -> Result<Pure, Fai
                 at,
             } => {
                 let change = assignment(here, work, target, *op, value, *at)?;
-                steps.push(Step::Assign(change))?;
+                push_step(&mut steps, Step::Assign(change))?;
                 part = value;
             }
             CoreExpr::Comma { left, right } => {
-                steps.push(Step::Comma { left, right })?;
+                push_step(&mut steps, Step::Comma { left, right })?;
                 part = left;
             }
             _ => {
@@ -85,6 +88,15 @@ pub fn expression(here: Here, work: &mut Work, e: &CoreExpr) -> Result<Pure, Fai
             }
         }
     }
+}
+
+/// One more operator of a chain.
+#[inline(never)]
+fn push_step<'e>(steps: &mut Vec<Step<'e>>, step: Step<'e>) -> Result<(), AllocError>
+    ensures { IfOk result (λ u. steps.new.items ≡ steps.old.items ++ step.entry ∷ []) }
+{
+    steps.push(step)?;
+    Ok(())
 }
 
 /// An expression at whose top no operator of a chain stands.
@@ -101,7 +113,7 @@ fn innermost(here: Here, work: &mut Work, e: &CoreExpr) -> Result<Pure, Fail>
             value: *value,
             kind: *kind,
         }),
-        CoreExpr::Scalar { cell, kind, .. } => Ok(here.frame.scalar(*cell, *kind)?),
+        CoreExpr::Scalar { cell, kind, .. } => scalar_at(here.frame, *cell, *kind),
         CoreExpr::Element {
             array,
             subscripts,
@@ -129,6 +141,14 @@ fn innermost(here: Here, work: &mut Work, e: &CoreExpr) -> Result<Pure, Fail>
         }
         _ => Err(Fail::from(impossible())),
     }
+}
+
+#[inline(never)]
+fn scalar_at(frame: &Frame, cell: Cell, kind: CType) -> Result<Pure, Fail>
+    ensures made { IfOk result (λ v. pure_of v ≡ scalar (call_of frame.now) cell kind) }
+    ensures refused { IfRefused result (λ r. ⊥) }
+{
+    Ok(frame.scalar(cell, kind)?)
 }
 
 /// The value of a call that has one.

@@ -32,7 +32,7 @@ use pieces::piece::Piece;
 use pieces::pure_expr::Pure;
 use pieces::pure_kind::kind_of;
 use pieces::resolved::expression::CoreExpr;
-use std::alloc::{AllocError, Global};
+use std::alloc::Global;
 
 /// An operator with all but the operand that a chain of operators goes on with. An assignment has the subscripts of its target, which are evaluated before.
 #[derive(Drop)]
@@ -67,8 +67,8 @@ pub fn linked(here: Here, work: &mut Work, step: Step, part: Pure) -> Result<Pur
     let here = Here { depth, ..here };
     let alloc = here.frame.context.alloc;
     match step {
-        Step::Unary { op, kind, at } => Ok(unary_of(alloc, op, part, kind, at)?),
-        Step::Cast { to } => Ok(cast_to(alloc, to, part)?),
+        Step::Unary { op, kind, at } => unary_of(alloc, op, part, kind, at),
+        Step::Cast { to } => cast_to(alloc, to, part),
         Step::Binary { operator, right } => operated(here, work, operator, part, right),
         Step::Assign(change) => assigned(here.frame, work, change, part),
         Step::Comma { left, right } => {
@@ -80,17 +80,19 @@ pub fn linked(here: Here, work: &mut Work, step: Step, part: Pure) -> Result<Pur
 }
 
 #[inline(never)]
-fn unary_of(alloc: Global, op: Unary, arg: Pure, kind: CType, at: Place) -> Result<Pure, AllocError>
-    ensures { IfOk result (λ p. pure_of p ≡ tree.unary op (pure_of arg) kind at) }
+fn unary_of(alloc: Global, op: Unary, arg: Pure, kind: CType, at: Place) -> Result<Pure, Fail>
+    ensures made { IfOk result (λ p. pure_of p ≡ tree.unary op (pure_of arg) kind at) }
+    ensures refused { IfRefused result (λ r. ⊥) }
 {
-    unary(alloc, op, arg, kind, at)
+    Ok(unary(alloc, op, arg, kind, at)?)
 }
 
 #[inline(never)]
-fn cast_to(alloc: Global, to: CType, arg: Pure) -> Result<Pure, AllocError>
-    ensures { IfOk result (λ p. pure_of p ≡ tree.cast to (pure_of arg)) }
+fn cast_to(alloc: Global, to: CType, arg: Pure) -> Result<Pure, Fail>
+    ensures made { IfOk result (λ p. pure_of p ≡ tree.cast to (pure_of arg)) }
+    ensures refused { IfRefused result (λ r. ⊥) }
 {
-    cast(alloc, to, arg)
+    Ok(cast(alloc, to, arg)?)
 }
 
 /// The left operand of a comma. What it reads is saved where the right operand has effects, unless it is a call. Its value is not used.
@@ -333,7 +335,7 @@ fn truth_arm(
     let outer = work.begin(alloc);
     mark(here.frame, work, PointKind::Arm, at)?;
     let value = expression(here, work, e)?;
-    let truth = cast_to(alloc, CType::Bool, value)?;
+    let truth = cast(alloc, CType::Bool, value)?;
     work.set(own, truth)?;
     Ok(work.finish(outer))
 }

@@ -168,11 +168,17 @@ operators::chosen-returns-clause-refused t c =
 pub operators::linked-returns-in_err-comma_left-in-Comma-clause-refused : goal.operators::linked-returns-in_err-comma_left-in-Comma-clause-refused
 operators::linked-returns-in_err-comma_left-in-Comma-clause-refused t c = through _ c.in_err-comma_left-in-Comma.field-0.0 _ _ c.from_residual-in_err-comma_left-in-Comma.ensures.1 (λ y e. e) c.in_err-comma_left-in-Comma.ensures.refused (λ r h. as_heavy (λ (step : Step) s. link (callee_of c.args.here) (call_at c.args.here) step (pure_of c.args.part) s) _ _ _ _ c.in-Comma.is (heavy_at_once _ _ _ _ (heavy_as _ _ _ _ (ap (λ (l : Effects). comma_left (call_at c.args.here).file_variables (core_of c.in-Comma.left.now) (pure_of c.args.part) l (state_of (stock c.args.work.now))) c.effects_of-later.ensures) h)))
 
-pub operators::linked-returns-in_ok-unary_of-in-Unary-clause-made : goal.operators::linked-returns-in_ok-unary_of-in-Unary-clause-made
-operators::linked-returns-in_ok-unary_of-in-Unary-clause-made t c = as_made (λ (step : Step) s. link (callee_of c.args.here) (call_at c.args.here) step (pure_of c.args.part) s) _ _ _ _ _ c.in-Unary.is (given _ _ _ c.in_ok-unary_of-in-Unary.ensures)
+pub operators::linked-returns-in-Unary-clause-made : goal.operators::linked-returns-in-Unary-clause-made
+operators::linked-returns-in-Unary-clause-made t c = IfOk-weaker c.unary_of.result _ _ (λ v e. as_made (λ (step : Step) s. link (callee_of c.args.here) (call_at c.args.here) step (pure_of c.args.part) s) _ _ _ _ _ c.in-Unary.is (given _ _ _ e)) c.unary_of.ensures.made
 
-pub operators::linked-returns-in_ok-cast_to-in-Cast-clause-made : goal.operators::linked-returns-in_ok-cast_to-in-Cast-clause-made
-operators::linked-returns-in_ok-cast_to-in-Cast-clause-made t c = as_made (λ (step : Step) s. link (callee_of c.args.here) (call_at c.args.here) step (pure_of c.args.part) s) _ _ _ _ _ c.in-Cast.is (given _ _ _ c.in_ok-cast_to-in-Cast.ensures)
+pub operators::linked-returns-in-Unary-clause-refused : goal.operators::linked-returns-in-Unary-clause-refused
+operators::linked-returns-in-Unary-clause-refused t c = IfRefused-weaker c.unary_of.result _ _ (λ r h. absurd h) c.unary_of.ensures.refused
+
+pub operators::linked-returns-in-Cast-clause-made : goal.operators::linked-returns-in-Cast-clause-made
+operators::linked-returns-in-Cast-clause-made t c = IfOk-weaker c.cast_to.result _ _ (λ v e. as_made (λ (step : Step) s. link (callee_of c.args.here) (call_at c.args.here) step (pure_of c.args.part) s) _ _ _ _ _ c.in-Cast.is (given _ _ _ e)) c.cast_to.ensures.made
+
+pub operators::linked-returns-in-Cast-clause-refused : goal.operators::linked-returns-in-Cast-clause-refused
+operators::linked-returns-in-Cast-clause-refused t c = IfRefused-weaker c.cast_to.result _ _ (λ r h. absurd h) c.cast_to.ensures.refused
 
 pub operators::linked-returns-in-Binary-clause-made : goal.operators::linked-returns-in-Binary-clause-made
 operators::linked-returns-in-Binary-clause-made t c = IfOk-weaker c.operated.result _ _ (λ v h. as_made (λ (step : Step) s. link (callee_of c.args.here) (call_at c.args.here) step (pure_of c.args.part) s) _ _ _ _ _ c.in-Binary.is h) c.operated.ensures.made
@@ -243,8 +249,12 @@ expressions::joined-returns-clause-made t c = joined_end (callee_of c.args.here)
 pub expressions::innermost-returns-in-Number-clause-made : goal.expressions::innermost-returns-in-Number-clause-made
 expressions::innermost-returns-in-Number-clause-made t c = as_made (λ (e : CoreTree) s. expression (callee_of c.args.here) (call_at c.args.here) e s) _ _ _ _ _ (ap core_of c.in-Number.is ∙ number_core _ _) (given _ _ _ (number_tree _ _))
 
-pub expressions::innermost-returns-in_ok-scalar-in-Scalar-clause-made : goal.expressions::innermost-returns-in_ok-scalar-in-Scalar-clause-made
-expressions::innermost-returns-in_ok-scalar-in-Scalar-clause-made t c = as_made (λ (e : CoreTree) s. expression (callee_of c.args.here) (call_at c.args.here) e s) _ _ _ _ _ (ap core_of c.in-Scalar.is ∙ scalar_core _ _ _) (given _ _ _ c.in_ok-scalar-in-Scalar.ensures)
+pub expressions::innermost-returns-in-Scalar-clause-made : goal.expressions::innermost-returns-in-Scalar-clause-made
+expressions::innermost-returns-in-Scalar-clause-made t c =
+    IfOk-weaker c.scalar_at.result _ _ (λ v h. as_made (λ (e : CoreTree) s. expression (callee_of c.args.here) (call_at c.args.here) e s) _ _ _ _ _ (ap core_of c.in-Scalar.is ∙ scalar_core _ _ _) (given _ _ _ h)) c.scalar_at.ensures.made
+
+pub expressions::innermost-returns-in-Scalar-clause-refused : goal.expressions::innermost-returns-in-Scalar-clause-refused
+expressions::innermost-returns-in-Scalar-clause-refused t c = IfRefused-weaker c.scalar_at.result _ _ (λ r h. absurd h) c.scalar_at.ensures.refused
 
 pub expressions::innermost-returns-in-Element-clause-made : goal.expressions::innermost-returns-in-Element-clause-made
 expressions::innermost-returns-in-Element-clause-made t c =
@@ -298,7 +308,7 @@ expressions::expression-chain-preserved-in-Unary t c =
     ap core_of c.in-Unary.is ∙ (unary_core _ _ _ _ ∙ ap (λ (e : CoreExpr). core.unary c.in-Unary.op (core_of e) c.in-Unary.kind c.in-Unary.at) (sym c.deref-part.ensures)) in
     record {
       no_deeper = omega (arith, c.chain.invariant.no_deeper, ap size-CoreExpr c.deref-part.ensures, ap size-CoreExpr c.in-Unary.is, sized-Unary c.in-Unary.op c.in-Unary.arg c.in-Unary.kind c.in-Unary.at);
-      leads = chain_turn (callee_of c.args.here) (call_at c.args.here) _ _ (st.Unary c.in-Unary.op c.in-Unary.kind c.in-Unary.at) _ _ _ _ _ (ap (λ (e : CoreTree). expression (callee_of c.args.here) (call_at c.args.here) e (state_of (stock c.chain.work))) seen) c.in_ok-push-in-Unary.ensures.items c.chain.invariant.leads;
+      leads = chain_turn (callee_of c.args.here) (call_at c.args.here) _ _ (st.Unary c.in-Unary.op c.in-Unary.kind c.in-Unary.at) _ _ _ _ _ (ap (λ (e : CoreTree). expression (callee_of c.args.here) (call_at c.args.here) e (state_of (stock c.chain.work))) seen) c.in_ok-push_step-in-Unary.ensures c.chain.invariant.leads;
     }
 
 pub expressions::expression-chain-preserved-in-Cast : goal.expressions::expression-chain-preserved-in-Cast
@@ -307,7 +317,7 @@ expressions::expression-chain-preserved-in-Cast t c =
     ap core_of c.in-Cast.is ∙ (cast_core _ _ ∙ ap (λ (e : CoreExpr). core.cast c.in-Cast.to (core_of e)) (sym c.deref-part-in-Cast.ensures)) in
     record {
       no_deeper = omega (arith, c.chain.invariant.no_deeper, ap size-CoreExpr c.deref-part-in-Cast.ensures, ap size-CoreExpr c.in-Cast.is, sized-Cast c.in-Cast.to c.in-Cast.arg);
-      leads = chain_turn (callee_of c.args.here) (call_at c.args.here) _ _ (st.Cast c.in-Cast.to) _ _ _ _ _ (ap (λ (e : CoreTree). expression (callee_of c.args.here) (call_at c.args.here) e (state_of (stock c.chain.work))) seen) c.in_ok-push-in-Cast.ensures.items c.chain.invariant.leads;
+      leads = chain_turn (callee_of c.args.here) (call_at c.args.here) _ _ (st.Cast c.in-Cast.to) _ _ _ _ _ (ap (λ (e : CoreTree). expression (callee_of c.args.here) (call_at c.args.here) e (state_of (stock c.chain.work))) seen) c.in_ok-push_step-in-Cast.ensures c.chain.invariant.leads;
     }
 
 pub expressions::expression-chain-preserved-in-Binary : goal.expressions::expression-chain-preserved-in-Binary
@@ -317,7 +327,7 @@ expressions::expression-chain-preserved-in-Binary t c =
     ∙ ap (λ (e : CoreExpr). core.binary c.in-Binary.op (core_of c.deref-part-in-Binary.result.now) (core_of e) c.in-Binary.kind c.in-Binary.at) (sym c.deref.ensures))) in
     record {
       no_deeper = omega (arith, c.chain.invariant.no_deeper, ap size-CoreExpr c.deref-part-in-Binary.ensures, ap size-CoreExpr c.in-Binary.is, sized-Binary c.in-Binary.op c.in-Binary.left c.in-Binary.right c.in-Binary.kind c.in-Binary.at);
-      leads = chain_turn (callee_of c.args.here) (call_at c.args.here) _ _ (st.Binary (record { op = c.in-Binary.op; kind = c.in-Binary.kind; at = c.in-Binary.at }) c.deref.result) _ _ _ _ _ (ap (λ (e : CoreTree). expression (callee_of c.args.here) (call_at c.args.here) e (state_of (stock c.chain.work))) seen) c.in_ok-push-in-Binary.ensures.items c.chain.invariant.leads;
+      leads = chain_turn (callee_of c.args.here) (call_at c.args.here) _ _ (st.Binary (record { op = c.in-Binary.op; kind = c.in-Binary.kind; at = c.in-Binary.at }) c.deref.result) _ _ _ _ _ (ap (λ (e : CoreTree). expression (callee_of c.args.here) (call_at c.args.here) e (state_of (stock c.chain.work))) seen) c.in_ok-push_step-in-Binary.ensures c.chain.invariant.leads;
     }
 
 pub expressions::expression-chain-preserved : goal.expressions::expression-chain-preserved
@@ -329,7 +339,7 @@ expressions::expression-chain-preserved t c =
       no_deeper = omega (arith, c.chain.invariant.no_deeper, ap size-CoreExpr c.deref-part-in-Comma.ensures, ap size-CoreExpr c.in-Comma.is, sized-Comma c.in-Comma.left c.in-Comma.right);
       leads = chain_turn (callee_of c.args.here) (call_at c.args.here) _ _ (st.Comma c.deref-in-Comma.result c.deref-in-Comma-2.result) _ _ _ _ _
           ((ap (λ (e : CoreTree). expression (callee_of c.args.here) (call_at c.args.here) e (state_of (stock c.chain.work))) seen) ∙ comma_is (callee_of c.args.here) (call_at c.args.here) (core_of c.deref-part-in-Comma.result.now) (core_of c.deref-in-Comma-2.result.now) (core_of c.deref-in-Comma.result.now) (state_of (stock c.chain.work)) (ap core_of (c.deref-in-Comma.ensures ∙ sym c.deref-part-in-Comma.ensures)))
-          c.in_ok-push-in-Comma.ensures.items c.chain.invariant.leads;
+          c.in_ok-push_step-in-Comma.ensures c.chain.invariant.leads;
     }
 
 pub expressions::expression-returns-in_err-change-in-Assign-clause-refused : goal.expressions::expression-returns-in_err-change-in-Assign-clause-refused
@@ -345,7 +355,7 @@ expressions::expression-chain-preserved-in-Assign t c =
       no_deeper = omega (arith, c.chain.invariant.no_deeper, ap size-CoreExpr c.deref-part-in-Assign.ensures, ap size-CoreExpr c.in-Assign.is, sized-Assign c.in-Assign.target c.in-Assign.op c.in-Assign.value c.in-Assign.at);
       leads = chain_turn (callee_of c.args.here) (call_at c.args.here) _ _ (st.Assign change) _ _ _ _ _
           (ap (λ (e : CoreExpr). then_ (expression (callee_of c.args.here) (call_at c.args.here) (core_of e) after) (λ by s1. assigned (call_at c.args.here) (change_of change) by s1)) (sym c.deref-part-in-Assign.ensures))
-          c.in_ok-push-in-Assign.ensures.items turned;
+          c.in_ok-push_step-in-Assign.ensures turned;
     }
 
 pub expressions::expression-returns-in_err-first-in_default : goal.expressions::expression-returns-in_err-first-in_default
