@@ -2,7 +2,6 @@ use Rattle.std.specs.Prelude.{◌&&◌}
 use Rattle.std.proofs.Common.{◌≡◌, ◌+◌, ℕ, Bool, true, false, Option, Some, List, map, refl, sym, ap, ◌∙◌, arith, rules}
 use Rattle.std.specs.Option.{option_map}
 use Rattle.std.proofs.lemmas.List.{map_push, nil_from_length}
-use Rattle.hls_base.specs.declared.point.Point.{Point}
 use Rattle.hls_base.specs.declared.number.ArrayId.{ArrayId}
 use Rattle.hls_base.specs.declared.number.VarId.{VarId}
 use Rattle.pieces.specs.declared.resolved.expression.Argument.{Argument}
@@ -45,7 +44,7 @@ use Rattle.c_expand.proofs.Turning.{operands_turn, operands_heavy, operands_heav
 use Rattle.c_expand.proofs.Subscripts.{number_tree}
 use Rattle.c_expand.proofs.Calling.{calls_more, at_path, end_is}
 use Rattle.c_expand.proofs.Actions.{other_changed, no_step, some_steps}
-use Rattle.c_expand.proofs.PieceTrees.{fork_tree, repeat_tree, pick_tree, break_piece, next_piece, leave_piece}
+use Rattle.c_expand.proofs.PieceTrees.{leave_piece}
 use Rattle.c_expand.proofs.StatementTrees.{block_tree, declare_tree, act_tree, if_tree, else_tree, switch_tree, case_tree, while_tree, do_tree, for_tree, break_tree, continue_tree, return_tree, value_tree, array_tree}
 use Rattle.c_expand.proofs.+expansion.Goals.{operators::operated-else-is_logical-via-then-is_logical+else-is_some, operators::operated-else-is_logical-via-else-is_logical}
 use Rattle.c_expand.proofs.+expansion.Goals as goal

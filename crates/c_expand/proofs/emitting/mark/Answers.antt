@@ -1,6 +1,3 @@
-use Rattle.std.proofs.Common.{ap}
-use Rattle.hls_base.specs.declared.point.Point.{Point}
-use Rattle.pieces.specs.Trees as tree
 use Rattle.piece_making.proofs.Exits.{IfOk-weaker, IfRefused-weaker}
 use Rattle.c_expand.proofs.Marking.{mark_made, mark_heavy}
 use Rattle.c_expand.proofs.emitting.mark.Goals as goal

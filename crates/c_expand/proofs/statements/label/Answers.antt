@@ -1,9 +1,5 @@
-use Rattle.std.proofs.Common.{ap}
-use Rattle.hls_base.specs.declared.point.Point.{Point}
-use Rattle.pieces.specs.Trees as tree
 use Rattle.piece_making.proofs.Exits.{through, IfOk-weaker, IfRefused-weaker}
 use Rattle.piece_making.proofs.Parts.{made_behind, heavy_at_once, heavy_behind}
-use Rattle.c_expand.proofs.Leading.{piece_made, piece_heavy}
 use Rattle.c_expand.proofs.statements.label.Goals as goal
 
 pub returns-in_err-label-clause-refused : goal.returns-in_err-label-clause-refused
