@@ -163,7 +163,6 @@ fn value_or_zero(value: Option<Pure>) -> Pure
 }
 
 /// The operators of a chain, the last one first, around its first operand.
-#[inline(never)]
 #[cycle(expansion)]
 fn joined(here: Here, work: &mut Work, first: Pure, steps: Vec<Step>) -> Result<Pure, Fail>
     ensures made { IfOk result (λ v. IsMade (stock work.old) (stock work.new) (pure_of v) (links (callee_of here.entry) (call_at here.entry) steps.entry.items (pure_of first) (state_of (stock work.old)))) }
