@@ -8,7 +8,7 @@ use Rattle.std.proofs.lemmas.Bool.{lt-ltb}
 use Rattle.pieces.specs.Trees as tree
 use Rattle.pieces.specs.Weight.{weight}
 use Rattle.pieces.specs.View.{pure_of, piece_of, pieces_of}
-use Rattle.ir_core.specs.Trees.{sequence_of, shape_of, fork, loop, switch, side, side_of, more_arms, part_of, part_row, arm_row}
+use Rattle.ir_core.specs.Trees.{sequence_of, shape_of, fork, loop, switch, side, more_arms, part_of, part_row, arm_row}
 use Rattle.passes.specs.Lowering.Shapes as shapes
 use Rattle.passes.specs.Lowering.Blocks.{begun, is_live, ends_by_test, ends_by_fork, ends_by_cases}
 use Rattle.passes.specs.Lowering as spec

@@ -1,4 +1,4 @@
-use Rattle.std.proofs.Common.{◌∙◌, ap, sym}
+use Rattle.std.proofs.Common.{◌∙◌, ap}
 use Rattle.ir_core.specs.Trees.{shape_of, fork, side_of}
 use Rattle.ir_lower.proofs.Rows.{fork_out}
 use Rattle.ir_lower.proofs.shape.fork.Goals as goal

@@ -1,7 +1,6 @@
 use Rattle.std.proofs.Common.{◌∙◌, ap}
 use Rattle.ir_core.specs.Trees.{shape_of}
 use Rattle.passes.specs.Lowering.{followed}
-use Rattle.ir_lower.specs.declared.line.Line.{Line}
 use Rattle.ir_lower.specs.Lines.{open_of, behind, ended}
 use Rattle.ir_lower.proofs.line.Line.then.Goals as goal
 
