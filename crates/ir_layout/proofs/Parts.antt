@@ -10,6 +10,8 @@ use Rattle.ir_core.specs.declared.tree.Shape.TheFolds.{fold_out-Part, fold-roll-
 use Rattle.ir_core.specs.Trees.{ShapeTree, PartTree, SequenceTree, more_parts, part_row, part_of, shape_of, block_of, shape_step, part_step, sequence_step, fork, loop, switch, side_of, arm_row, sequence_of}
 use Rattle.ir_core.specs.Points as tp
 use Rattle.ir_core.specs.Points.{Points, points_of, part_points, shape_points, joined, where_there}
+use Rattle.ir_layout.specs.declared.boxes.SplitShape.TheVariants as split
+use Rattle.ir_layout.specs.Boxes.{shape_from}
 use Rattle.ir_layout.specs.Sizes.{parts_size, shape_size}
 
 pub part_out : (p : Part) → part_of p ≡ record { shape = shape_of p.shape; after = block_of p.after }
@@ -31,11 +33,13 @@ size_pushed ps p =
 
 -- ---- shapes by their variants
 
-pub fork_out : (left_ right_ : Option Sequence) (convertible : Bool) → shape_of (v.Fork left_ right_ convertible) ≡ fork (side_of (option_map sequence_of left_)) (side_of (option_map sequence_of right_)) convertible
+pub fork_out : (left right : Option (Box Sequence Global)) (convertible : Bool)
+    → shape_of (shape_from (split.Fork left right convertible)) ≡ fork (side_of (option_map (λ part. sequence_of part.value) left)) (side_of (option_map (λ part. sequence_of part.value) right)) convertible
 fork_out None None convertible = ap shape_of (sym (v.rolls-Fork None None convertible)) ∙ fold-roll-Shape ShapeTree PartTree SequenceTree shape_step part_step sequence_step (Shape-F.Fork None None convertible)
-fork_out None (Some r) convertible = ap shape_of (sym (v.rolls-Fork None (Some r) convertible)) ∙ fold-roll-Shape ShapeTree PartTree SequenceTree shape_step part_step sequence_step (Shape-F.Fork None (Some r) convertible)
-fork_out (Some l) None convertible = ap shape_of (sym (v.rolls-Fork (Some l) None convertible)) ∙ fold-roll-Shape ShapeTree PartTree SequenceTree shape_step part_step sequence_step (Shape-F.Fork (Some l) None convertible)
-fork_out (Some l) (Some r) convertible = ap shape_of (sym (v.rolls-Fork (Some l) (Some r) convertible)) ∙ fold-roll-Shape ShapeTree PartTree SequenceTree shape_step part_step sequence_step (Shape-F.Fork (Some l) (Some r) convertible)
+fork_out None (Some r) convertible = ap shape_of (sym (v.rolls-Fork None (Some r.value) convertible)) ∙ fold-roll-Shape ShapeTree PartTree SequenceTree shape_step part_step sequence_step (Shape-F.Fork None (Some r.value) convertible)
+fork_out (Some l) None convertible = ap shape_of (sym (v.rolls-Fork (Some l.value) None convertible)) ∙ fold-roll-Shape ShapeTree PartTree SequenceTree shape_step part_step sequence_step (Shape-F.Fork (Some l.value) None convertible)
+fork_out (Some l) (Some r) convertible =
+    ap shape_of (sym (v.rolls-Fork (Some l.value) (Some r.value) convertible)) ∙ fold-roll-Shape ShapeTree PartTree SequenceTree shape_step part_step sequence_step (Shape-F.Fork (Some l.value) (Some r.value) convertible)
 
 pub loop_out : (post : Bool) (test body : Box Sequence Global) (step : Option (Box Sequence Global)) (eligible : Bool)
     → shape_of (v.Loop post test body step eligible) ≡ loop post (sequence_of test.value) (sequence_of body.value) (side_of (option_map (λ part. sequence_of part.value) step)) eligible
