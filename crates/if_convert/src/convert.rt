@@ -6,8 +6,8 @@ ghost use Rattle.passes.specs.Conversion as spec;
 ghost use Rattle.if_convert.specs.Blocks.{scope_of, last_of, before_last, behind_shape};
 
 use crate::boxes::{
-    SplitPart, SplitSequence, SplitShape, boxed, deeper, push_from, split_part, split_sequence,
-    split_shape, whole_shape,
+    Held, SplitPart, SplitSequence, SplitShape, deeper, held_items, push_from, split_part,
+    split_sequence, split_shape, whole_shape,
 };
 use crate::line::Line;
 use crate::merging::Scope;
@@ -31,11 +31,11 @@ pub fn convert(alloc: Global, tree: BlockTree, loops: bool) -> Result<BlockTree,
         variables: frame.variables.as_slice(),
         loops,
     };
-    let blocks = Box::new(alloc, blocks)?;
+    let blocks = Held::new(alloc, blocks)?;
     let blocks = convert_sequence(scope, usize::MAX, blocks)?;
     Ok(BlockTree {
         frame,
-        blocks: Box::into_inner(blocks),
+        blocks: blocks.into_inner(),
         result,
     })
 }
@@ -45,8 +45,8 @@ pub fn convert(alloc: Global, tree: BlockTree, loops: bool) -> Result<BlockTree,
 fn convert_sequence(
     scope: Scope<'_>,
     depth: usize,
-    sequence: Box<Sequence>,
-) -> Result<Box<Sequence>, AllocError>
+    sequence: Held<Sequence>,
+) -> Result<Held<Sequence>, AllocError>
     ensures { IfOk result (λ converted. sequence_of converted.value ≡ spec.converted_sequence (scope_of scope.entry) (sequence_of sequence.value)) }
 {
     let depth = deeper(depth)?;
@@ -61,14 +61,14 @@ fn convert_sequence(
 fn convert_behind(
     scope: Scope<'_>,
     depth: usize,
-    line: Box<Line>,
+    line: Held<Line>,
     parts: Vec<Part>,
-) -> Result<Box<Sequence>, AllocError>
+) -> Result<Held<Sequence>, AllocError>
     ensures { IfOk result (λ converted. sequence_of converted.value ≡ before_last line.value (spec.converted_behind (scope_of scope.entry) (last_of line.value) (part_row (map part_of parts.items)))) }
 {
     let depth = deeper(depth)?;
     let mut line = line;
-    for part in boxed(scope.alloc, parts)? {
+    for part in held_items(scope.alloc, parts)? {
         line = convert_part(scope, depth, line, part)?;
     }
     close(scope.alloc, line)
@@ -80,9 +80,9 @@ fn convert_behind(
 fn convert_part(
     scope: Scope<'_>,
     depth: usize,
-    line: Box<Line>,
-    part: Box<Part>,
-) -> Result<Box<Line>, AllocError>
+    line: Held<Line>,
+    part: Held<Part>,
+) -> Result<Held<Line>, AllocError>
     ensures { (more : PartTrees) → IfOk result (λ gone. before_last gone.value (spec.converted_behind (scope_of scope.entry) (last_of gone.value) more) ≡ before_last line.value (behind_shape (scope_of scope.entry) (last_of line.value) (spec.converted_shape (scope_of scope.entry) (shape_of part.value.shape)) (block_of part.value.after) more)) }
 {
     let depth = deeper(depth)?;
@@ -103,8 +103,8 @@ fn overlaps(scope: Scope<'_>, eligible: bool) -> bool
 fn convert_shape(
     scope: Scope<'_>,
     depth: usize,
-    shape: Box<Shape>,
-) -> Result<Box<Shape>, AllocError>
+    shape: Held<Shape>,
+) -> Result<Held<Shape>, AllocError>
     ensures { IfOk result (λ converted. shape_of converted.value ≡ spec.converted_shape (scope_of scope.entry) (shape_of shape.value)) }
 {
     let depth = deeper(depth)?;
@@ -168,8 +168,8 @@ fn convert_shape(
 fn convert_side(
     scope: Scope<'_>,
     depth: usize,
-    side: Option<Box<Sequence>>,
-) -> Result<Option<Box<Sequence>>, AllocError>
+    side: Option<Held<Sequence>>,
+) -> Result<Option<Held<Sequence>>, AllocError>
     ensures { IfOk result (λ converted. side_of (option_map (λ part. sequence_of part.value) converted) ≡ spec.converted_side (scope_of scope.entry) (side_of (option_map (λ part. sequence_of part.value) side))) }
 {
     let depth = deeper(depth)?;
@@ -203,7 +203,7 @@ fn convert_arms(
 {
     let depth = deeper(depth)?;
     let mut done = Vec::new(scope.alloc);
-    for arm in boxed(scope.alloc, arms)? {
+    for arm in held_items(scope.alloc, arms)? {
         let arm = convert_sequence(scope, depth, arm)?;
         push_from(&mut done, arm)?;
     }

@@ -7,6 +7,7 @@ ghost use Rattle.passes.specs.Conversion.Merging.{opened};
 ghost use Rattle.passes.specs.Conversion.Overlapping as spec;
 ghost use Rattle.if_convert.specs.Blocks.{scope_of, last_of, before_last, behind_shape, open_of};
 
+use crate::boxes::{Held, whole_side};
 use crate::line::{self, Line};
 use crate::merging::{Open, Scope};
 use crate::overlap::{self, Parts};
@@ -18,31 +19,31 @@ use std::alloc::{AllocError, Global};
 /// The blocks of a loop.
 #[derive(Drop)]
 pub struct Round {
-    pub test: Box<Sequence>,
-    pub body: Box<Sequence>,
-    pub step: Option<Box<Sequence>>,
+    pub test: Held<Sequence>,
+    pub body: Held<Sequence>,
+    pub step: Option<Held<Sequence>>,
 }
 
-fn boxed_line(alloc: Global, last: Open) -> Result<Box<Line>, AllocError>
+fn boxed_line(alloc: Global, last: Open) -> Result<Held<Line>, AllocError>
     ensures last { IfOk result (λ line. last_of line.value ≡ open_of last) }
     ensures before { (s : SequenceTree) → IfOk result (λ line. before_last line.value s ≡ s) }
 {
-    Ok(Box::new(alloc, Line::Single(last))?)
+    Held::new(alloc, Line::Single(last))
 }
 
 /// A line of this block.
 #[inline(never)]
-pub fn begin(alloc: Global, first: Box<BasicBlock>) -> Result<Box<Line>, AllocError>
+pub fn begin(alloc: Global, first: Held<BasicBlock>) -> Result<Held<Line>, AllocError>
     ensures last { IfOk result (λ line. last_of line.value ≡ opened (block_of first.value)) }
     ensures before { (s : SequenceTree) → IfOk result (λ line. before_last line.value s ≡ s) }
 {
-    let open = Open::new(alloc, Box::into_inner(first))?;
+    let open = Open::new(alloc, first.into_inner())?;
     boxed_line(alloc, open)
 }
 
 /// A line of a block that leads to nothing, to stand before parts that nothing leads to.
 #[inline(never)]
-pub fn begin_nowhere(alloc: Global) -> Result<Box<Line>, AllocError>
+pub fn begin_nowhere(alloc: Global) -> Result<Held<Line>, AllocError>
     ensures last { IfOk result (λ line. (last_of line.value).exit ≡ break_) }
     ensures before { (s : SequenceTree) → IfOk result (λ line. before_last line.value s ≡ s) }
 {
@@ -78,34 +79,25 @@ fn nowhere(alloc: Global) -> Result<Open, AllocError>
 #[inline(never)]
 pub fn go_on(
     scope: Scope<'_>,
-    line: Box<Line>,
-    shape: Box<Shape>,
-    after: Box<BasicBlock>,
-) -> Result<Box<Line>, AllocError>
+    line: Held<Line>,
+    shape: Held<Shape>,
+    after: Held<BasicBlock>,
+) -> Result<Held<Line>, AllocError>
     ensures { (more : PartTrees) → IfOk result (λ gone. before_last gone.value (converted_behind (scope_of scope.entry) (last_of gone.value) more) ≡ before_last line.value (behind_shape (scope_of scope.entry) (last_of line.value) (shape_of shape.value) (block_of after.value) more)) }
 {
-    let line = Box::into_inner(line);
-    let shape = Box::into_inner(shape);
-    let gone = line::go_on(scope, line, shape, Box::into_inner(after))?;
-    Ok(Box::new(scope.alloc, gone)?)
+    let line = line.into_inner();
+    let shape = shape.into_inner();
+    let gone = line::go_on(scope, line, shape, after.into_inner())?;
+    Held::new(scope.alloc, gone)
 }
 
 /// Closes the last block.
 #[inline(never)]
-pub fn close(alloc: Global, line: Box<Line>) -> Result<Box<Sequence>, AllocError>
+pub fn close(alloc: Global, line: Held<Line>) -> Result<Held<Sequence>, AllocError>
     ensures { IfOk result (λ closed. sequence_of closed.value ≡ before_last line.value (sequence (last_of line.value) no_part)) }
 {
-    let blocks = line::close(alloc, Box::into_inner(line))?;
-    Ok(Box::new(alloc, blocks)?)
-}
-
-fn unboxed(side: Option<Box<Sequence>>) -> Option<Sequence>
-    ensures { option_map sequence_of result ≡ option_map (λ blocks. sequence_of blocks.value) side }
-{
-    match side {
-        Some(blocks) => Some(Box::into_inner(blocks)),
-        None => None,
-    }
+    let blocks = line::close(alloc, line.into_inner())?;
+    Held::new(alloc, blocks)
 }
 
 /// A loop, which is overlapped if it is to be and can be.
@@ -115,16 +107,16 @@ pub fn converted_loop(
     post: bool,
     round: Round,
     eligible: bool,
-) -> Result<Box<Shape>, AllocError>
+) -> Result<Held<Shape>, AllocError>
     ensures { IfOk result (λ shape. shape_of shape.value ≡ spec.converted_loop scope.entry.variables.now eligible post (sequence_of round.test.value) (sequence_of round.body.value) (side_of (option_map (λ blocks. sequence_of blocks.value) round.step))) }
 {
     let Round { test, body, step } = round;
     let parts = Parts {
         post,
-        test: Box::into_inner(test),
-        body: Box::into_inner(body),
-        step: unboxed(step),
+        test: test.into_inner(),
+        body: body.into_inner(),
+        step: whole_side(step),
     };
     let shape = overlap::converted_loop(scope, parts, eligible)?;
-    Ok(Box::new(scope.alloc, shape)?)
+    Held::new(scope.alloc, shape)
 }
