@@ -8,8 +8,8 @@ ghost use Rattle.value_number.specs.Settled.{is_sequence_settled, is_part_settle
 
 use crate::block::{Scope, number_block};
 use crate::boxes::{
-    SplitPart, SplitSequence, SplitShape, boxed, deeper, push_from, split_part, split_sequence,
-    split_shape, whole_part, whole_sequence, whole_shape,
+    Held, SplitPart, SplitSequence, SplitShape, deeper, held_items, push_from, split_part,
+    split_sequence, split_shape, whole_part, whole_sequence, whole_shape,
 };
 use ir_core::tree::{BasicBlock, BlockTree, Part, Sequence, Shape};
 use std::alloc::{AllocError, Global};
@@ -31,22 +31,22 @@ pub fn number(alloc: Global, tree: BlockTree) -> Result<BlockTree, AllocError>
         variables: frame.variables.as_slice(),
         apart: false,
     };
-    let blocks = Box::new(alloc, blocks)?;
+    let blocks = Held::new(alloc, blocks)?;
     let blocks = number_sequence(scope, usize::MAX, blocks)?;
     Ok(BlockTree {
         frame,
-        blocks: Box::into_inner(blocks),
+        blocks: blocks.into_inner(),
         result,
     })
 }
 
 #[inline(never)]
-fn number_boxed(scope: Scope<'_>, block: Box<BasicBlock>) -> Result<Box<BasicBlock>, AllocError>
+fn number_boxed(scope: Scope<'_>, block: Held<BasicBlock>) -> Result<Held<BasicBlock>, AllocError>
     ensures block { IfOk result (λ numbered. block_of numbered.value ≡ n.numbered_block (scope_of scope.entry) (block_of block.value)) }
     ensures settled { IfOk result (λ numbered. is_block_settled numbered.value ≡ true) }
 {
-    let block = number_block(scope, Box::into_inner(block))?;
-    Ok(Box::new(scope.alloc, block)?)
+    let block = number_block(scope, block.into_inner())?;
+    Held::new(scope.alloc, block)
 }
 
 #[inline(never)]
@@ -55,8 +55,8 @@ fn number_boxed(scope: Scope<'_>, block: Box<BasicBlock>) -> Result<Box<BasicBlo
 fn number_sequence(
     scope: Scope<'_>,
     depth: usize,
-    sequence: Box<Sequence>,
-) -> Result<Box<Sequence>, AllocError>
+    sequence: Held<Sequence>,
+) -> Result<Held<Sequence>, AllocError>
     ensures numbered { IfOk result (λ numbered. sequence_of numbered.value ≡ n.numbered_sequence (scope_of scope.entry) (sequence_of sequence.value)) }
     ensures settled { IfOk result (λ numbered. is_sequence_settled numbered.value ≡ true) }
 {
@@ -76,7 +76,7 @@ fn number_parts(scope: Scope<'_>, depth: usize, parts: Vec<Part>) -> Result<Vec<
 {
     let depth = deeper(depth)?;
     let mut done = Vec::new(scope.alloc);
-    for part in boxed(scope.alloc, parts)? {
+    for part in held_items(scope.alloc, parts)? {
         let part = number_part(scope, depth, part)?;
         push_from(&mut done, part)?;
     }
@@ -86,7 +86,7 @@ fn number_parts(scope: Scope<'_>, depth: usize, parts: Vec<Part>) -> Result<Vec<
 #[inline(never)]
 #[tactic(auto, using(crate::proofs::Adding::adding))]
 #[cycle(sequence)]
-fn number_part(scope: Scope<'_>, depth: usize, part: Box<Part>) -> Result<Box<Part>, AllocError>
+fn number_part(scope: Scope<'_>, depth: usize, part: Held<Part>) -> Result<Held<Part>, AllocError>
     ensures shape { IfOk result (λ numbered. shape_of numbered.value.shape ≡ n.numbered_shape (scope_of scope.entry) (shape_of part.value.shape)) }
     ensures after { IfOk result (λ numbered. block_of numbered.value.after ≡ n.numbered_block (scope_of scope.entry) (block_of part.value.after)) }
     ensures settled { IfOk result (λ numbered. is_part_settled numbered.value ≡ true) }
@@ -108,7 +108,11 @@ fn is_apart(scope: Scope<'_>, eligible: bool) -> bool
 #[inline(never)]
 #[tactic(auto, using(crate::proofs::Adding::adding))]
 #[cycle(sequence)]
-fn number_shape(scope: Scope<'_>, depth: usize, shape: Box<Shape>) -> Result<Box<Shape>, AllocError>
+fn number_shape(
+    scope: Scope<'_>,
+    depth: usize,
+    shape: Held<Shape>,
+) -> Result<Held<Shape>, AllocError>
     ensures numbered { IfOk result (λ numbered. shape_of numbered.value ≡ n.numbered_shape (scope_of scope.entry) (shape_of shape.value)) }
     ensures settled { IfOk result (λ numbered. is_shape_settled numbered.value ≡ true) }
 {
@@ -185,8 +189,8 @@ fn number_shape(scope: Scope<'_>, depth: usize, shape: Box<Shape>) -> Result<Box
 fn number_side(
     scope: Scope<'_>,
     depth: usize,
-    side: Option<Box<Sequence>>,
-) -> Result<Option<Box<Sequence>>, AllocError>
+    side: Option<Held<Sequence>>,
+) -> Result<Option<Held<Sequence>>, AllocError>
     ensures numbered { IfOk result (λ numbered. side_of (option_map (λ part. sequence_of part.value) numbered) ≡ n.numbered_side (scope_of scope.entry) (side_of (option_map (λ part. sequence_of part.value) side))) }
     ensures settled { IfOk result (λ numbered. where_there (option_map (λ part. is_sequence_settled part.value) numbered) ≡ true) }
 {
@@ -210,7 +214,7 @@ fn number_arms(
 {
     let depth = deeper(depth)?;
     let mut done = Vec::new(scope.alloc);
-    for arm in boxed(scope.alloc, arms)? {
+    for arm in held_items(scope.alloc, arms)? {
         let arm = number_sequence(scope, depth, arm)?;
         push_from(&mut done, arm)?;
     }
