@@ -9,34 +9,83 @@ use ir_core::body::Body;
 use ir_core::stamp::Untimed;
 use ir_core::tree::{BasicBlock, LandId, Part, Sequence, Shape};
 use std::alloc::{AllocError, Global};
+use std::marker::Model;
+
+/// A value in a box that is dropped by a call. The code that drops a box has a place for a copy of the value, which would be in the frame of each function that drops one.
+pub struct Held<T> {
+    value: Box<T>,
+}
+
+impl<T> Model for Held<T> {
+    ghost use Rattle.std.specs.declared.boxed.Box.{Box};
+    ghost use Rattle.std.specs.declared.alloc.Global.{Global};
+
+    ghost Value = { Box T Global };
+
+    ghost view = { λ held. held.value };
+}
+
+impl<T: Drop> Drop for Held<T> {
+    #[inline(never)]
+    fn drop(self) {
+        let Held { value } = self;
+        drop(value);
+    }
+}
+
+impl<T> Held<T> {
+    ghost use Rattle.std.specs.Prelude.{◌≡◌, IfOk};
+
+    pub fn new(alloc: Global, value: T) -> Result<Held<T>, AllocError>
+    where
+        T: Drop,
+        ensures { IfOk result (λ held. held.value ≡ value) }
+    {
+        let value = Box::new(alloc, value)?;
+        Ok(Held { value })
+    }
+
+    pub fn as_ref(&self) -> &T
+        ensures { result.now ≡ self.now.value }
+    {
+        &self.value
+    }
+
+    pub fn into_inner(self) -> T
+        ensures { result ≡ self.value }
+    {
+        let Held { value } = self;
+        Box::into_inner(value)
+    }
+}
 
 /// The first block of a sequence, and the parts behind it.
 #[derive(Drop)]
 pub struct SplitSequence {
-    pub first: Box<BasicBlock>,
+    pub first: Held<BasicBlock>,
     pub rest: Vec<Part>,
 }
 
 /// The shape of a part, and the block behind it.
 #[derive(Drop)]
 pub struct SplitPart {
-    pub shape: Box<Shape>,
-    pub after: Box<BasicBlock>,
+    pub shape: Held<Shape>,
+    pub after: Held<BasicBlock>,
 }
 
 /// A shape whose sequences are each in a box.
 #[derive(Drop)]
 pub enum SplitShape {
     Fork {
-        yes: Option<Box<Sequence>>,
-        no: Option<Box<Sequence>>,
+        yes: Option<Held<Sequence>>,
+        no: Option<Held<Sequence>>,
         convertible: bool,
     },
     Loop {
         post: bool,
-        test: Box<Sequence>,
-        body: Box<Sequence>,
-        step: Option<Box<Sequence>>,
+        test: Held<Sequence>,
+        body: Held<Sequence>,
+        step: Option<Held<Sequence>>,
         eligible: bool,
     },
     Choose {
@@ -47,8 +96,8 @@ pub enum SplitShape {
     },
     Land(LandId),
     Overlapped {
-        point: Box<Point>,
-        body: Box<Body<Untimed>>,
+        point: Held<Point>,
+        body: Held<Body<Untimed>>,
     },
 }
 
@@ -61,58 +110,67 @@ pub fn deeper(depth: usize) -> Result<usize, AllocError>
 
 /// The items, each in a box.
 #[inline(never)]
-pub fn boxed<T: Drop>(alloc: Global, items: Vec<T>) -> Result<Vec<Box<T>>, AllocError>
+pub fn held_items<T: Drop>(alloc: Global, items: Vec<T>) -> Result<Vec<Held<T>>, AllocError>
     ensures { IfOk result (λ boxes. map (λ b. b.value) boxes.items ≡ items.items) }
 {
     let mut boxes = Vec::with_capacity(alloc, items.len())?;
     for item in items {
-        boxes.push(Box::new(alloc, item)?)?;
+        boxes.push(Held::new(alloc, item)?)?;
     }
     Ok(boxes)
 }
 
 #[inline(never)]
-pub fn split_sequence(alloc: Global, sequence: Box<Sequence>) -> Result<SplitSequence, AllocError>
+pub fn split_sequence(alloc: Global, sequence: Held<Sequence>) -> Result<SplitSequence, AllocError>
     ensures first { IfOk result (λ split. split.first.value ≡ (out-Sequence sequence.value).first) }
     ensures rest { IfOk result (λ split. split.rest ≡ (out-Sequence sequence.value).rest) }
 {
-    let Sequence { first, rest } = Box::into_inner(sequence);
-    let first = Box::new(alloc, first)?;
+    let Sequence { first, rest } = sequence.into_inner();
+    let first = Held::new(alloc, first)?;
     Ok(SplitSequence { first, rest })
 }
 
 #[inline(never)]
-pub fn split_part(alloc: Global, part: Box<Part>) -> Result<SplitPart, AllocError>
+pub fn split_part(alloc: Global, part: Held<Part>) -> Result<SplitPart, AllocError>
     ensures shape { IfOk result (λ split. split.shape.value ≡ part.value.shape) }
     ensures after { IfOk result (λ split. split.after.value ≡ part.value.after) }
 {
-    let Part { shape, after } = Box::into_inner(part);
-    let shape = Box::new(alloc, shape)?;
-    let after = Box::new(alloc, after)?;
+    let Part { shape, after } = part.into_inner();
+    let shape = Held::new(alloc, shape)?;
+    let after = Held::new(alloc, after)?;
     Ok(SplitPart { shape, after })
 }
 
-fn boxed_side(alloc: Global, side: Option<Sequence>) -> Result<Option<Box<Sequence>>, AllocError>
+fn held_step(step: Option<Box<Sequence>>) -> Option<Held<Sequence>>
+    ensures { result ≡ step }
+{
+    match step {
+        Some(value) => Some(Held { value }),
+        None => None,
+    }
+}
+
+fn held_side(alloc: Global, side: Option<Sequence>) -> Result<Option<Held<Sequence>>, AllocError>
     ensures { IfOk result (λ boxed. side_from boxed ≡ side) }
 {
     match side {
-        Some(sequence) => Ok(Some(Box::new(alloc, sequence)?)),
+        Some(sequence) => Ok(Some(Held::new(alloc, sequence)?)),
         None => Ok(None),
     }
 }
 
 #[inline(never)]
-pub fn split_shape(alloc: Global, shape: Box<Shape>) -> Result<SplitShape, AllocError>
+pub fn split_shape(alloc: Global, shape: Held<Shape>) -> Result<SplitShape, AllocError>
     ensures { IfOk result (λ split. shape_from split ≡ shape.value) }
 {
-    match Box::into_inner(shape) {
+    match shape.into_inner() {
         Shape::Fork {
             yes,
             no,
             convertible,
         } => Ok(SplitShape::Fork {
-            yes: boxed_side(alloc, yes)?,
-            no: boxed_side(alloc, no)?,
+            yes: held_side(alloc, yes)?,
+            no: held_side(alloc, no)?,
             convertible,
         }),
         Shape::Loop {
@@ -123,9 +181,9 @@ pub fn split_shape(alloc: Global, shape: Box<Shape>) -> Result<SplitShape, Alloc
             eligible,
         } => Ok(SplitShape::Loop {
             post,
-            test,
-            body,
-            step,
+            test: Held { value: test },
+            body: Held { value: body },
+            step: held_step(step),
             eligible,
         }),
         Shape::Choose {
@@ -141,8 +199,8 @@ pub fn split_shape(alloc: Global, shape: Box<Shape>) -> Result<SplitShape, Alloc
         }),
         Shape::Land(number) => Ok(SplitShape::Land(number)),
         Shape::Overlapped { point, body } => Ok(SplitShape::Overlapped {
-            point: Box::new(alloc, point)?,
-            body: Box::new(alloc, body)?,
+            point: Held::new(alloc, point)?,
+            body: Held::new(alloc, body)?,
         }),
     }
 }

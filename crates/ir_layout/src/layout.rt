@@ -11,7 +11,8 @@ ghost use Rattle.ir_layout.specs.WellFormed.{IsWellFormed};
 ghost use Rattle.ir_layout.specs.Views.{number, stacked, around_of, ahead_view, laid_behind, after_first, block_node};
 
 use crate::boxes::{
-    SplitPart, SplitSequence, SplitShape, boxed, deeper, split_part, split_sequence, split_shape,
+    Held, SplitPart, SplitSequence, SplitShape, deeper, held_items, split_part, split_sequence,
+    split_shape,
 };
 use crate::counts::{parts_count, plus, sequence_count, shape_count};
 use crate::fits::check_tree;
@@ -28,7 +29,7 @@ use std::alloc::{AllocError, Global};
 /// A block, which is not there before shapes that nothing leads to, and the parts behind it.
 #[derive(Drop)]
 struct Row {
-    first: Option<Box<BasicBlock>>,
+    first: Option<Held<BasicBlock>>,
     parts: Vec<Part>,
 }
 
@@ -52,7 +53,7 @@ pub fn lay_out(alloc: Global, tree: BlockTree) -> Result<Cfg<Untimed>, AllocErro
         again: None,
         returned: result,
     };
-    let blocks = Box::new(alloc, blocks)?;
+    let blocks = Held::new(alloc, blocks)?;
     lay_sequence(&mut flat, usize::MAX, blocks, Ways::Return, around)?;
     Ok(Cfg {
         frame,
@@ -67,7 +68,7 @@ pub fn lay_out(alloc: Global, tree: BlockTree) -> Result<Cfg<Untimed>, AllocErro
 fn lay_sequence(
     flat: &mut Flat,
     depth: usize,
-    sequence: Box<Sequence>,
+    sequence: Held<Sequence>,
     ways: Ways,
     around: Around,
 ) -> Result<(), AllocError>
@@ -88,7 +89,7 @@ fn lay_sequence(
 #[inline(never)]
 fn lay_last(
     flat: &mut Flat,
-    block: Option<Box<BasicBlock>>,
+    block: Option<Held<BasicBlock>>,
     ways: &Ways,
     around: Around,
 ) -> Result<(), AllocError>
@@ -98,7 +99,7 @@ fn lay_last(
     ensures lands { flat.new.lands ≡ flat.old.lands }
 {
     match block {
-        Some(block) => flat.add_block(Box::into_inner(block), ways, around),
+        Some(block) => flat.add_block(block.into_inner(), ways, around),
         None => Ok(()),
     }
 }
@@ -107,7 +108,7 @@ fn lay_last(
 #[inline(never)]
 fn lay_before(
     flat: &mut Flat,
-    block: Option<Box<BasicBlock>>,
+    block: Option<Held<BasicBlock>>,
     shape: &Shape,
     around: Around,
 ) -> Result<(), AllocError>
@@ -125,7 +126,7 @@ fn lay_before(
 }
 
 /// Where the next node will stand behind a block, if there is one.
-fn place_behind(flat: &Flat, block: &Option<Box<BasicBlock>>) -> Result<u32, AllocError>
+fn place_behind(flat: &Flat, block: &Option<Held<BasicBlock>>) -> Result<u32, AllocError>
     ensures { IfOk result (λ place. place ≡ after_first (length flat.now.nodes.items) (option_map block_of (block_from block.now))) }
 {
     match block {
@@ -154,10 +155,10 @@ fn lay_parts(
     let depth = deeper(depth)?;
     let Row { first, parts } = row;
     let mut last = first;
-    for part in boxed(flat.alloc(), parts)? {
+    for part in held_items(flat.alloc(), parts)? {
         let SplitPart { shape, after } = split_part(flat.alloc(), part)?;
-        let behind = plus(place_behind(flat, &last)?, shape_count(&shape)?)?;
-        lay_before(flat, last, &shape, around)?;
+        let behind = plus(place_behind(flat, &last)?, shape_count(shape.as_ref())?)?;
+        lay_before(flat, last, shape.as_ref(), around)?;
         lay_shape(flat, depth, shape, NodeId(behind), around)?;
         last = Some(after);
     }
@@ -170,7 +171,7 @@ fn lay_parts(
 fn lay_shape(
     flat: &mut Flat,
     depth: usize,
-    shape: Box<Shape>,
+    shape: Held<Shape>,
     after: NodeId,
     around: Around,
 ) -> Result<(), AllocError>
@@ -191,7 +192,7 @@ fn lay_shape(
             step,
             ..
         } => {
-            let starts = loop_starts(flat.place()?, &test, &body, &step)?;
+            let starts = loop_starts(flat.place()?, test.as_ref(), body.as_ref(), &step)?;
             let inner = Around {
                 leave: Some(after),
                 again: Some(starts.again),
@@ -221,22 +222,22 @@ fn lay_shape(
 #[inline(never)]
 fn lay_loop(
     flat: &mut Flat,
-    point: Box<Point>,
-    body: Box<Body<Untimed>>,
+    point: Held<Point>,
+    body: Held<Body<Untimed>>,
     next: NodeId,
 ) -> Result<(), AllocError>
     ensures points { OnOk result (map node_point flat.new.nodes.items ≡ map node_point flat.old.nodes.items ++ point.value ∷ []) }
     ensures nodes { OnOk result (map node_of flat.new.nodes.items ≡ map node_of flat.old.nodes.items ++ looped point.value (body_of body.value) (number next) ∷ []) }
     ensures lands { flat.new.lands ≡ flat.old.lands }
 {
-    flat.add_loop(Box::into_inner(point), Box::into_inner(body), next)
+    flat.add_loop(point.into_inner(), body.into_inner(), next)
 }
 
 #[cycle(sequence)]
 fn lay_side(
     flat: &mut Flat,
     depth: usize,
-    side: Option<Box<Sequence>>,
+    side: Option<Held<Sequence>>,
     after: NodeId,
     around: Around,
 ) -> Result<(), AllocError>
@@ -291,8 +292,8 @@ fn lay_arms(
     ensures lands { OnOk result (stacked flat.new.lands.items ≡ stacked flat.old.lands.items) }
 {
     let depth = deeper(depth)?;
-    for arm in boxed(flat.alloc(), arms)? {
-        let behind = plus(flat.place()?, sequence_count(&arm)?)?;
+    for arm in held_items(flat.alloc(), arms)? {
+        let behind = plus(flat.place()?, sequence_count(arm.as_ref())?)?;
         lay_sequence(flat, depth, arm, Ways::Node(NodeId(behind)), around)?;
     }
     Ok(())

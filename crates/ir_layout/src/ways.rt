@@ -5,6 +5,7 @@ ghost use Rattle.ir_core.specs.Trees.{sequence_of, shape_of, arm_row, side_of};
 ghost use Rattle.ir_layout.specs.Layout.{side_start, body_start, step_start, ahead_of, behind_shape};
 ghost use Rattle.ir_layout.specs.Views.{number, arm_starts_from, other_in, ahead_view};
 
+use crate::boxes::Held;
 use crate::counts::{parts_count, plus, sequence_count, side_count};
 use hls_base::number::{NodeId, VarId};
 use ir_core::tree::{Sequence, Shape};
@@ -40,7 +41,7 @@ pub fn loop_starts(
     base: u32,
     test: &Sequence,
     body: &Sequence,
-    step: &Option<Box<Sequence>>,
+    step: &Option<Held<Sequence>>,
 ) -> Result<Starts, AllocError>
     ensures test { IfOk result (λ starts. number starts.test ≡ base) }
     ensures body { IfOk result (λ starts. number starts.body ≡ body_start base (sequence_of test.now)) }

@@ -34,7 +34,7 @@ lay_arms-loop-arm-preserved t c =
       lands = c.in_ok-lay_sequence.ensures.lands ∙ c.loop-arm.invariant.lands;
       nodes =
           arm_turn c.args.around (stacked c.args.flat.now.lands.items) (stacked c.loop-arm.flat.lands.items) (length old) (length new) c.in_ok-behind.behind arm (map (λ b. b.value) (into_iter_items c.next.new.self)) (map (λ b. b.value) (into_iter_items c.loop-arm.arm-iterator))
-          (map node_of old) (map node_of new) _ (ap (map (λ b. b.value)) step.0) (sym (length-map old node_of)) (sym (length-map new node_of)) (omega (arith, c.in_ok-behind.ensures, c.in_ok-place.ensures, c.in_ok-sequence_count.ensures, ap (λ s. sequence_size (sequence_of s)) c.deref.ensures)) c.loop-arm.invariant.lands c.in_ok-lay_sequence.ensures.nodes c.loop-arm.invariant.nodes;
+          (map node_of old) (map node_of new) _ (ap (map (λ b. b.value)) step.0) (sym (length-map old node_of)) (sym (length-map new node_of)) (omega (arith, c.in_ok-behind.ensures, c.in_ok-place.ensures, c.in_ok-sequence_count.ensures, ap (λ s. sequence_size (sequence_of s)) c.as_ref.ensures)) c.loop-arm.invariant.lands c.in_ok-lay_sequence.ensures.nodes c.loop-arm.invariant.nodes;
     }
 
 pub lay_parts-loop-part-preserved : goal.lay_parts-loop-part-preserved
@@ -51,7 +51,7 @@ lay_parts-loop-part-preserved t c =
     let after = c.in_ok-shape.ensures.after in
     let part : Part = record { shape = c.in_ok-shape.field-0.shape.value; after = c.in_ok-shape.field-0.after.value } in
     let same : part ≡ c.in-Some.part.value = λ i. record { shape = shape i; after = after i } in
-    let seen : c.deref-in-loop-part.result.now ≡ part.shape = c.deref-in-loop-part.ensures in
+    let seen : c.as_ref-in-loop-part.result.now ≡ part.shape = c.as_ref-in-loop-part.ensures in
     let before = c.in_ok-lay_before.ensures.nodes ∙ ap (λ s. map node_of l0 ++ block_node (around_of c.args.around (stacked c.loop-part.flat.lands.items)) (ahead_of (after_first (length l0) x) (shape_of s)) x) seen in
     let passed : (place : ℕ) (lands : List Landing) → stacked c.loop-part.flat.lands.items ≡ with_land place (shape_of part.shape) lands → stacked c.lay_before.new.flat.lands.items ≡ lands =
     λ place lands h. c.in_ok-lay_before.ensures.lands place lands (h ∙ ap (λ s. with_land place (shape_of s) lands) (sym seen)) in
@@ -120,8 +120,8 @@ lay_shape-returns-in-Loop-clause-nodes t c =
     let body_tree = sequence_of c.in-Loop.body.value in
     let step_tree = side_of (option_map (λ part. sequence_of part.value) c.in-Loop.step) in
     let same : shape_of c.args.shape.value ≡ loop c.in-Loop.post test_tree body_tree step_tree c.in-Loop.eligible = ap shape_of (sym c.in_ok-yes.ensures ∙ ap shape_from c.in-Loop.is) ∙ loop_out c.in-Loop.post c.in-Loop.test c.in-Loop.body c.in-Loop.step c.in-Loop.eligible in
-    let test_seen : c.deref.result.now ≡ c.in-Loop.test.value = c.deref.ensures ∙ ap (λ (b : Box Sequence Global). b.value) c.in-Loop.test-is in
-    let body_seen : c.deref-in-Loop.result.now ≡ c.in-Loop.body.value = c.deref-in-Loop.ensures ∙ ap (λ (b : Box Sequence Global). b.value) c.in-Loop.body-is in
+    let test_seen : c.as_ref.result.now ≡ c.in-Loop.test.value = c.as_ref.ensures ∙ ap (λ (b : Box Sequence Global). b.value) c.in-Loop.test-is in
+    let body_seen : c.as_ref-in-Loop.result.now ≡ c.in-Loop.body.value = c.as_ref-in-Loop.ensures ∙ ap (λ (b : Box Sequence Global). b.value) c.in-Loop.body-is in
     let l0 = c.args.flat.now.nodes.items in
     let l1 = c.lay_sequence.new.flat.nodes.items in
     let l2 = c.lay_sequence-in-Loop.new.flat.nodes.items in
@@ -138,8 +138,8 @@ lay_shape-returns-in-Loop-clause-nodes t c =
     c.in_ok-starts-in-Loop.ensures.body ∙ ap (λ s. body_start c.in_ok-place-in-Loop.field-0 (sequence_of s)) test_seen ∙ ap (λ i. body_start i test_tree) place in
     let at_again : g ≡ step_start (length l0) test_tree body_tree step_tree =
     c.in_ok-starts-in-Loop.ensures.again
-    ∙ ap (λ (x : Option (Box Sequence Global)). step_start c.in_ok-place-in-Loop.field-0 (sequence_of c.deref.result.now) (sequence_of c.deref-in-Loop.result.now) (side_of (option_map (λ part. sequence_of part.value) x))) c.in-Loop.step-is
-    ∙ ap (λ s. step_start c.in_ok-place-in-Loop.field-0 (sequence_of s) (sequence_of c.deref-in-Loop.result.now) step_tree) test_seen
+    ∙ ap (λ (x : Option (Box Sequence Global)). step_start c.in_ok-place-in-Loop.field-0 (sequence_of c.as_ref.result.now) (sequence_of c.as_ref-in-Loop.result.now) (side_of (option_map (λ part. sequence_of part.value) x))) c.in-Loop.step-is
+    ∙ ap (λ s. step_start c.in_ok-place-in-Loop.field-0 (sequence_of s) (sequence_of c.as_ref-in-Loop.result.now) step_tree) test_seen
     ∙ ap (λ s. step_start c.in_ok-place-in-Loop.field-0 test_tree (sequence_of s) step_tree) body_seen
     ∙ ap (λ i. step_start i test_tree body_tree step_tree) place in
     on_ok_weaker c.lay_side-in-Loop.result
