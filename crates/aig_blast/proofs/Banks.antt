@@ -8,8 +8,8 @@ use Rattle.std.proofs.lemmas.Option.{slice_get-get_or}
 use Rattle.aig_graph.specs.Graphs.{literal}
 use Rattle.aig_graph.specs.Making.{Gates, IsSound, IsLiteral, Extends, Always}
 use Rattle.aig_graph.proofs.Growing.{goes_on, stays, always_later}
-use Rattle.aig_words.specs.Words.{HasLength, bits, worded, numbers}
-use Rattle.aig_words.proofs.Making.{both, so, all_later}
+use Rattle.aig_graph.specs.Words.{HasLength, bits, worded, numbers}
+use Rattle.aig_graph.proofs.Making.{both, so, all_later}
 use Rattle.rtl_core.specs.declared.design.Atom.{Atom}
 use Rattle.rtl_core.specs.declared.design.Port.{Port}
 use Rattle.rtl_core.specs.declared.design.Mem.{Mem}

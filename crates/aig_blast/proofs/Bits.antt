@@ -9,9 +9,9 @@ use Rattle.std.proofs.Math.Nat.{mod-eq_of_lt}
 use Rattle.aig_graph.specs.Graphs.{literal, values}
 use Rattle.aig_graph.specs.Making.{Gates}
 use Rattle.aig_graph.proofs.Growing.{literal_later}
-use Rattle.aig_words.specs.Words.{number, bits, worded, numbers, HasLength}
-use Rattle.aig_words.proofs.Numbers.{bits_length, number_below}
-use Rattle.aig_words.proofs.Shifts.{cut_more, positive, next_power}
+use Rattle.aig_graph.specs.Words.{number, bits, worded, numbers, HasLength}
+use Rattle.aig_graph.proofs.Numbers.{bits_length, number_below}
+use Rattle.aig_graph.proofs.Shifts.{cut_more, positive, next_power}
 use Rattle.rtl_core.specs.Netlist.{Memory}
 use Rattle.rtl_core.specs.ClockStep.{Fit, fit_none, fit_one, AreMemories, no_memory, one_memory}
 use Rattle.aig_blast.specs.Weight.{memory_size}

@@ -9,9 +9,9 @@ use Rattle.std.proofs.lemmas.Option.{get_or_from_slice_get}
 use Rattle.std.proofs.Math.ListN.{get_or-map}
 use Rattle.std.proofs.Math.Nat.{mod-eq_of_lt}
 use Rattle.aig_graph.specs.Making.{Gates, IsLiteral}
-use Rattle.aig_words.specs.Words.{worded, numbers, word_at, bits}
-use Rattle.aig_words.proofs.Making.{Constants}
-use Rattle.aig_words.proofs.Constants.{constant_length, constant_fits, number_constant}
+use Rattle.aig_graph.specs.Words.{worded, numbers, word_at, bits}
+use Rattle.aig_graph.proofs.Making.{Constants}
+use Rattle.aig_graph.proofs.Constants.{constant_length, constant_fits, number_constant}
 use Rattle.rtl_core.specs.declared.design.Atom.{Atom}
 use Rattle.rtl_core.specs.declared.design.Atom.TheVariants as atom
 use Rattle.rtl_core.specs.declared.design.Wire.{Wire}

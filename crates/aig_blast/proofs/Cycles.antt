@@ -9,8 +9,8 @@ use Rattle.aig_graph.specs.Graphs.{AndGraph, literal, values, Ordered, graph_run
 use Rattle.aig_graph.specs.Graphs as graphs
 use Rattle.aig_graph.specs.Making.{Gates, IsLiteral, Always}
 use Rattle.aig_graph.proofs.Growing.{stays}
-use Rattle.aig_words.specs.Words.{bits, numbers, HasLength}
-use Rattle.aig_words.proofs.Numbers.{bits_length}
+use Rattle.aig_graph.specs.Words.{bits, numbers, HasLength}
+use Rattle.aig_graph.proofs.Numbers.{bits_length}
 use Rattle.rtl_core.specs.Netlist.{Netlist, Memory}
 use Rattle.rtl_core.specs.ClockStep.{State, input_widths, register_widths, outputs, stepped, IsState, ArePins}
 use Rattle.rtl_core.specs.Valid.{IsValid}

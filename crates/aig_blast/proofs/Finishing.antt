@@ -6,8 +6,8 @@ use Rattle.aig_graph.specs.declared.aig.Gate.{Gate}
 use Rattle.aig_graph.specs.Graphs.{literal}
 use Rattle.aig_graph.specs.Making.{Gates, IsLiteral}
 use Rattle.aig_graph.proofs.Growing.{goes_on}
-use Rattle.aig_words.specs.Words.{bits}
-use Rattle.aig_words.proofs.Making.{both, all_later}
+use Rattle.aig_graph.specs.Words.{bits}
+use Rattle.aig_graph.proofs.Making.{both, all_later}
 use Rattle.rtl_core.specs.Netlist.{Netlist}
 use Rattle.rtl_core.specs.ClockStep.{input_widths, register_widths, clocked_registers, clocked_memories, seen, outputs, stepped}
 use Rattle.rtl_core.specs.Valid.{IsValid}

@@ -6,7 +6,7 @@ use Rattle.std.proofs.lemmas.List.{append-nil, map_push, take_more, take_all, le
 use Rattle.std.proofs.lemmas.List.Sums.{sum_by_more, sum_by_more_le}
 use Rattle.std.proofs.lemmas.Grind.{flat_map-append}
 use Rattle.aig_graph.specs.Making.{Gates, IsLiteral, no_gates}
-use Rattle.aig_words.specs.Words.{HasLength, numbers}
+use Rattle.aig_graph.specs.Words.{HasLength, numbers}
 use Rattle.rtl_core.specs.declared.design.Mem.{Mem}
 use Rattle.rtl_core.specs.Netlist.{Netlist, Memory, memory_of}
 use Rattle.rtl_core.specs.ClockStep.{input_widths, register_widths}

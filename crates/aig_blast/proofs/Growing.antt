@@ -7,8 +7,8 @@ use Rattle.std.proofs.lemmas.List.Elements.{All-push, All-weaker}
 use Rattle.std.proofs.lemmas.Option.{none-some, same_Some, slice_get-get_or}
 use Rattle.aig_graph.specs.Making.{Gates, IsSound, IsLiteral, Extends}
 use Rattle.aig_graph.proofs.Growing.{always_later}
-use Rattle.aig_words.specs.Words.{Computes, worded, numbers}
-use Rattle.aig_words.proofs.Making.{Constants, both, all_later}
+use Rattle.aig_graph.specs.Words.{Computes, worded, numbers}
+use Rattle.aig_graph.proofs.Making.{Constants, both, all_later}
 use Rattle.rtl_core.specs.declared.design.Wire.{Wire}
 use Rattle.rtl_core.specs.Netlist.{Netlist}
 use Rattle.rtl_core.specs.ClockStep.{widths_after, wire_widths, bits_of, value_of, values_behind, net_value}

@@ -11,14 +11,14 @@ use Rattle.std.proofs.Math.ListN.{get_or-map}
 use Rattle.aig_graph.specs.Graphs.{literal}
 use Rattle.aig_graph.specs.Making.{Gates, IsLiteral}
 use Rattle.aig_graph.proofs.Growing.{stays}
-use Rattle.aig_words.specs.Words.{Computes, HasLength, Picks, Selects, IsNegation, number, numbers, bits, worded}
-use Rattle.aig_words.proofs.Numbers.{bits_length, take_whole}
-use Rattle.aig_words.proofs.Shifts.{number_take, map_take}
-use Rattle.aig_words.proofs.Lowering.{number_drop}
-use Rattle.aig_words.proofs.Making.{anyway, word_so}
-use Rattle.aig_words.proofs.Constants.{number_not}
-use Rattle.aig_words.proofs.Totals.{picks_whole}
-use Rattle.aig_words.proofs.Memories.{cond_number}
+use Rattle.aig_graph.specs.Words.{Computes, HasLength, Picks, Selects, IsNegation, number, numbers, bits, worded}
+use Rattle.aig_graph.proofs.Numbers.{bits_length, take_whole}
+use Rattle.aig_graph.proofs.Shifts.{number_take, map_take}
+use Rattle.aig_graph.proofs.Lowering.{number_drop}
+use Rattle.aig_graph.proofs.Making.{anyway, word_so}
+use Rattle.aig_graph.proofs.Constants.{number_not}
+use Rattle.aig_graph.proofs.Totals.{picks_whole}
+use Rattle.aig_graph.proofs.Memories.{cond_number}
 use Rattle.rtl_core.specs.declared.design.Atom.{Atom}
 use Rattle.rtl_core.specs.declared.design.Net.{Net}
 use Rattle.rtl_core.specs.declared.design.Net.TheVariants as net

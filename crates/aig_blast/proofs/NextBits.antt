@@ -5,8 +5,8 @@ use Rattle.std.proofs.lemmas.List.Elements.{All-append, All-nil}
 use Rattle.aig_graph.specs.Graphs.{literal}
 use Rattle.aig_graph.specs.Making.{Gates, IsSound, IsLiteral, Extends}
 use Rattle.aig_graph.proofs.Growing.{stays, goes_on}
-use Rattle.aig_words.specs.Words.{Computes, bits, worded, numbers, word_at}
-use Rattle.aig_words.proofs.Making.{Constants, both, anyway, so, all_later}
+use Rattle.aig_graph.specs.Words.{Computes, bits, worded, numbers, word_at}
+use Rattle.aig_graph.proofs.Making.{Constants, both, anyway, so, all_later}
 use Rattle.rtl_core.specs.declared.design.Atom.{Atom}
 use Rattle.rtl_core.specs.declared.design.Reg.{Reg}
 use Rattle.rtl_core.specs.declared.design.OutPin.{OutPin}

@@ -4,10 +4,10 @@ use Rattle.std.specs.Prelude.{Result, Ok, Err, IfOk}
 use Rattle.std.proofs.lemmas.List.Elements.{All-nil, All-cons}
 use Rattle.aig_graph.specs.Graphs.{literal}
 use Rattle.aig_graph.specs.Making.{Gates, IsLiteral, IsSound, Extends, Always}
-use Rattle.aig_words.specs.Words.{Computes, HasLength, IsEqualSoFar, Multiplies, ShiftsLeft, ShiftsRight, number, bits, worded}
-use Rattle.aig_words.proofs.Numbers.{take_whole}
-use Rattle.aig_words.proofs.Making.{so, word_so}
-use Rattle.aig_words.proofs.Totals.{whole_at}
+use Rattle.aig_graph.specs.Words.{Computes, HasLength, IsEqualSoFar, Multiplies, ShiftsLeft, ShiftsRight, number, bits, worded}
+use Rattle.aig_graph.proofs.Numbers.{take_whole}
+use Rattle.aig_graph.proofs.Making.{so, word_so}
+use Rattle.aig_graph.proofs.Totals.{whole_at}
 use Rattle.rtl_core.specs.declared.design.Pair.{Pair}
 use Rattle.rtl_core.specs.declared.design.Pair.TheVariants as pair
 use Rattle.rtl_core.specs.ClockStep.{bit_of, pair_value}

@@ -5,9 +5,9 @@ use Rattle.std.proofs.lemmas.List.Elements.{All-same, All-get_or}
 use Rattle.aig_graph.specs.Graphs.{literal, values}
 use Rattle.aig_graph.specs.Making.{Gates, IsLiteral}
 use Rattle.aig_graph.proofs.Growing.{goes_on}
-use Rattle.aig_words.specs.declared.memory.Write.{Write}
-use Rattle.aig_words.specs.Words.{MakesWords, AreWords, IsWrite, Writes, numbers, worded, words_after}
-use Rattle.aig_words.proofs.Making.{both}
+use Rattle.aig_graph.specs.declared.memory.Write.{Write}
+use Rattle.aig_graph.specs.Words.{MakesWords, AreWords, IsWrite, Writes, numbers, worded, words_after}
+use Rattle.aig_graph.proofs.Making.{both}
 use Rattle.rtl_core.specs.declared.design.Atom.{Atom}
 use Rattle.rtl_core.specs.declared.design.Port.{Port}
 use Rattle.rtl_core.specs.ClockStep.{written_words}

@@ -3,7 +3,7 @@ use Rattle.std.specs.Prelude.{◌≡◌, ℕ, List, sum}
 use Rattle.std.specs.List.{All}
 use Rattle.aig_graph.specs.Graphs.{AndGraph}
 use Rattle.aig_graph.specs.Making.{Gates, IsLiteral, Always}
-use Rattle.aig_words.specs.Words.{bits}
+use Rattle.aig_graph.specs.Words.{bits}
 use Rattle.rtl_core.specs.Netlist.{Netlist}
 use Rattle.rtl_core.specs.ClockStep.{input_widths, outputs, stepped}
 use Rattle.rtl_core.specs.Valid.{IsValid}

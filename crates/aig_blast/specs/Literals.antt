@@ -2,7 +2,7 @@
 use Rattle.std.specs.Prelude.{◌≡◌, ℕ, zero, suc, ◌≤◌, ◌*◌, ◌^◌, Bool, List, [], ◌∷◌, ◌++◌, map, length}
 use Rattle.std.specs.List.{All, flat_map}
 use Rattle.aig_graph.specs.Making.{Gates, IsSound, IsLiteral, Extends, Always}
-use Rattle.aig_words.specs.Words.{bits, worded, numbers, word_at, constant_word, HasLength}
+use Rattle.aig_graph.specs.Words.{bits, worded, numbers, word_at, constant_word, HasLength}
 use Rattle.rtl_core.specs.declared.design.Atom.{Atom}
 use Rattle.rtl_core.specs.declared.design.Atom.TheVariants as atom
 use Rattle.rtl_core.specs.declared.design.Net.{Net}

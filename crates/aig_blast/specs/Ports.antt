@@ -2,8 +2,8 @@
 use Rattle.std.specs.Prelude.{◌≡◌, ℕ, ◌<◌, ◌^◌, List, length, slice_index}
 use Rattle.std.specs.List.{All}
 use Rattle.aig_graph.specs.Making.{Gates, IsSound}
-use Rattle.aig_words.specs.declared.memory.Write.{Write}
-use Rattle.aig_words.specs.Words.{AreWords, MakesWords, numbers}
+use Rattle.aig_graph.specs.declared.memory.Write.{Write}
+use Rattle.aig_graph.specs.Words.{AreWords, MakesWords, numbers}
 use Rattle.rtl_core.specs.declared.design.Port.{Port}
 use Rattle.rtl_core.specs.ClockStep.{written_words}
 use Rattle.aig_blast.specs.declared.literals.Literals.{Literals}

@@ -11,7 +11,7 @@ ghost use Rattle.aig_blast.specs.Literals.{literals_from, joined, all_words, IsB
 
 use crate::literals::{Bank, Literals};
 use crate::weight::{input_bits, memory_size, register_bits};
-use aig_words::word::Word;
+use aig_graph::word::Word;
 use rtl_core::design::{Design, Mem, Pin, Reg};
 use std::alloc::{AllocError, Global};
 

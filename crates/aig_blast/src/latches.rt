@@ -1,7 +1,7 @@
 //! What the registers take at an edge, and what the outputs show.
 ghost use Rattle.std.specs.Prelude.{◌≡◌, ◌<◌, ◌==◌, if◌then◌else◌, List, Bool, length, take, map, IfOk};
 ghost use Rattle.aig_graph.specs.Making.{gates_of, IsSound};
-ghost use Rattle.aig_words.specs.Words.{Computes, worded, word_at};
+ghost use Rattle.aig_graph.specs.Words.{Computes, worded, word_at};
 ghost use Rattle.rtl_core.specs.Netlist.{netlist_of};
 ghost use Rattle.rtl_core.specs.ClockStep.{register_widths, clocked_registers, seen, outputs};
 ghost use Rattle.rtl_core.specs.Valid.{IsValid};

@@ -1,10 +1,10 @@
 //! The literals of the words of a circuit.
 ghost use Rattle.std.specs.Prelude.{◌≡◌, IfOk};
-ghost use Rattle.aig_words.specs.Words.{word_at};
+ghost use Rattle.aig_graph.specs.Words.{word_at};
 ghost use Rattle.aig_blast.specs.Literals.{literals_of};
 
-use aig_words::constant::constant;
-use aig_words::word::Word;
+use aig_graph::constant::constant;
+use aig_graph::word::Word;
 use rtl_core::design::Atom;
 use std::alloc::{AllocError, Global};
 use std::marker::Model;

@@ -10,8 +10,8 @@ ghost use Rattle.aig_blast.specs.Ports.{IsWriteOf, CanWrite, WritesAll};
 
 use crate::literals::{Literals, atom_word};
 use aig_graph::builder::Builder;
-use aig_words::memory::{Write, written};
-use aig_words::word::Word;
+use aig_graph::memory::{Write, written};
+use aig_graph::word::Word;
 use rtl_core::design::{Design, Port};
 use std::alloc::{AllocError, Global};
 

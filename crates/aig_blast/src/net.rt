@@ -2,14 +2,14 @@
 ghost use Rattle.std.specs.Prelude.{◌≡◌, ◌≤◌, ◌<◌, ◌+◌, ◌^◌, ◌==◌, ◌++◌, take, drop, if◌then◌else◌, ℕ, List, Bool, IfOk, length};
 ghost use Rattle.std.specs.List.{All};
 ghost use Rattle.aig_graph.specs.Making.{gates_of, IsSound, IsLiteral};
-ghost use Rattle.aig_words.specs.Words.{Computes, HasLength, worded, IsNegation};
+ghost use Rattle.aig_graph.specs.Words.{Computes, HasLength, worded, IsNegation};
 ghost use Rattle.aig_blast.specs.Literals.{CanMake, literals_of, net_shown};
 
 use crate::literals::{Literals, atom_word};
 use crate::pair::pair_word;
 use aig_graph::builder::Builder;
-use aig_words::constant::negated;
-use aig_words::select::{pick_word, select};
+use aig_graph::constant::negated;
+use aig_graph::select::{pick_word, select};
 use rtl_core::design::{Atom, Net, Pair, Wire};
 use std::alloc::{AllocError, Global};
 

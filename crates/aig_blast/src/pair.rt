@@ -2,16 +2,16 @@
 ghost use Rattle.std.specs.Prelude.{◌≡◌, ◌≤◌, ◌==◌, nat_lt, ℕ, List, Bool, [], ◌∷◌, IfOk, length};
 ghost use Rattle.std.specs.List.{All};
 ghost use Rattle.aig_graph.specs.Making.{gates_of, IsSound, IsLiteral};
-ghost use Rattle.aig_words.specs.Words.{Computes, HasLength, worded};
+ghost use Rattle.aig_graph.specs.Words.{Computes, HasLength, worded};
 ghost use Rattle.rtl_core.specs.ClockStep.{bit_of, pair_value};
 ghost use Rattle.rtl_core.specs.Valid.{OperandsFit};
 
+use aig_graph::bitwise::{BitOperator, bitwise};
 use aig_graph::builder::Builder;
-use aig_words::bitwise::{BitOperator, bitwise};
-use aig_words::compare::{below, equal};
-use aig_words::product::multiply;
-use aig_words::shift::{shift_left, shift_right};
-use aig_words::sum::{add, subtract};
+use aig_graph::compare::{below, equal};
+use aig_graph::product::multiply;
+use aig_graph::shift::{shift_left, shift_right};
+use aig_graph::sum::{add, subtract};
 use rtl_core::design::Pair;
 use std::alloc::{AllocError, Global};
 

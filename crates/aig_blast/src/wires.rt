@@ -8,7 +8,7 @@ ghost use Rattle.aig_blast.specs.Literals.{CanMake, IsBlasted};
 use crate::literals::Literals;
 use crate::net::wire_word;
 use aig_graph::builder::Builder;
-use aig_words::word::Word;
+use aig_graph::word::Word;
 use rtl_core::design::Design;
 use std::alloc::{AllocError, Global};
 

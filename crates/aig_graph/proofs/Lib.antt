@@ -1,2 +1,11 @@
 pub mod Bits
 pub mod Growing
+pub mod Numbers
+pub mod Making
+pub mod Shifts
+pub mod Lowering
+pub mod Constants
+pub mod Operators
+pub mod Totals
+pub mod Steps
+pub mod Memories

@@ -1,7 +1,7 @@
 use Rattle.std.proofs.Common.{◌<◌, length, subst, ap, sym, ◌∙◌, arith}
 use Rattle.std.proofs.lemmas.List.{get_or_default}
 use Rattle.aig_graph.specs.Making.{gates_of}
-use Rattle.aig_words.specs.Words.{AreWords}
+use Rattle.aig_graph.specs.Words.{AreWords}
 use Rattle.aig_blast.proofs.Growing.{of_later}
 use Rattle.aig_blast.proofs.Ports.{first_written, next_written, all_written, write_fits, words_wide, count_fits}
 use Rattle.aig_blast.proofs.memories.bank_after.Goals as goal

@@ -3,7 +3,7 @@ use Rattle.std.specs.List.{All}
 use Rattle.std.proofs.lemmas.List.{get_or_default}
 use Rattle.std.proofs.lemmas.List.Elements.{All-same}
 use Rattle.aig_graph.specs.Making.{gates_of, IsLiteral}
-use Rattle.aig_words.specs.Words.{HasLength}
+use Rattle.aig_graph.specs.Words.{HasLength}
 use Rattle.aig_blast.proofs.Context.{atom_fits}
 use Rattle.aig_blast.proofs.Nets.{selectable, select_shown}
 use Rattle.aig_blast.proofs.net.memory_word.Goals as goal

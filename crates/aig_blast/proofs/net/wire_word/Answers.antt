@@ -1,6 +1,6 @@
 use Rattle.std.proofs.Common.{◌≡◌, ◌+◌, ◌++◌, ◌<◌, Vec, ℕ, Global, length, take, drop, sym, subst}
 use Rattle.aig_graph.specs.Making.{gates_of}
-use Rattle.aig_words.specs.Words.{IsNegation}
+use Rattle.aig_graph.specs.Words.{IsNegation}
 use Rattle.rtl_core.specs.declared.design.Net.{Net}
 use Rattle.rtl_core.specs.declared.design.Net.TheVariants as net
 use Rattle.aig_blast.specs.Literals.{CanMake, literals_of}

@@ -1,5 +1,5 @@
 use Rattle.std.specs.Prelude.{nat_lt}
-use Rattle.aig_words.specs.Words.{worded}
+use Rattle.aig_graph.specs.Words.{worded}
 use Rattle.aig_blast.proofs.Pairs.{bit_word}
 use Rattle.aig_blast.proofs.pair.order.Goals as goal
 

@@ -1,5 +1,5 @@
 use Rattle.std.proofs.Common.{◌≤◌, Vec, ℕ, Global, sym, subst}
-use Rattle.aig_words.specs.Words.{HasLength}
+use Rattle.aig_graph.specs.Words.{HasLength}
 use Rattle.rtl_core.specs.declared.design.Pair.TheVariants as pair
 use Rattle.rtl_core.specs.Valid.{OperandsFit}
 use Rattle.aig_blast.proofs.Pairs.{alike_is, pair_returned}

@@ -1,9 +1,0 @@
-pub mod Numbers
-pub mod Making
-pub mod Shifts
-pub mod Lowering
-pub mod Constants
-pub mod Operators
-pub mod Totals
-pub mod Steps
-pub mod Memories

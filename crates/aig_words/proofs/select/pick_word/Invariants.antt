@@ -1,6 +1,0 @@
-use Rattle.aig_graph.specs.Making.{gates_of}
-use Rattle.aig_words.specs.Words.{Picks}
-use Rattle.aig_words.proofs.select.pick_word.Given as goal
-
-abbrev pub invariant-loop-i : goal.invariant-loop-i
-invariant-loop-i l = Picks (gates_of l.fn.graph) (gates_of l.graph) l.test l.xs l.ys l.i l.bits.items

@@ -1,6 +1,0 @@
-use Rattle.aig_graph.specs.Making.{gates_of}
-use Rattle.aig_words.specs.Words.{ShiftsLeft, IsStep}
-use Rattle.aig_words.proofs.shift.shift_left.Given as goal
-
-abbrev pub invariant-loop-i : goal.invariant-loop-i
-invariant-loop-i l = ShiftsLeft (gates_of l.fn.graph) (gates_of l.graph) l.xs l.counts l.i l.word.items × IsStep l.i l.step

@@ -1,5 +1,0 @@
-use Rattle.aig_words.proofs.Totals.{total_of}
-use Rattle.aig_words.proofs.sum.add.Goals as goal
-
-pub returns : goal.returns
-returns c = total_of _ _ c.args.xs.now c.args.ys.now _ _ c.requires.same c.in_ok-total.ensures
