@@ -1,7 +1,9 @@
 """And-inverter graphs in the ASCII form of AIGER, as combinational circuits: each latch is an input and its next literal an output. Used by same_circuit.py and read_alike.py."""
 import dataclasses
+import itertools
 import os
 import pathlib
+import resource
 import shutil
 import subprocess
 
@@ -41,6 +43,15 @@ class Graph:
         head = f"aig {len(given) + len(self.gates)} {len(given)} 0 {len(tops)} {len(self.gates)}\n"
         return head.encode() + "".join(f"{it}\n" for it in tops).encode() + bytes(body)
 
+    def values(self, words, count):
+        """What the outputs and the next literals show for these words of so many bits, one for each input and latch: bit k of each is the k-th case."""
+        every = (1 << count) - 1
+        found = {0: 0, **{literal: word for literal, word in zip(self.inputs + [latch for latch, _ in self.latches], words)}}
+        shown = lambda literal: found[literal] if literal in found else every ^ found[literal ^ 1]
+        for gate, left, right in self.gates:
+            found[gate] = shown(left) & shown(right)
+        return [shown(literal) for literal in self.outputs + [after for _, after in self.latches]]
+
 
 def delta(number):
     """A number in groups of seven bits, the lowest first."""
@@ -55,11 +66,10 @@ def read(text):
     """The graph of a text. Gates are put in order, each behind those that it names."""
     lines = text.splitlines()
     _, most, ins, latches, outs, ands = lines[0].split()
-    rows = [[int(word) for word in line.split()] for line in lines[1 : 1 + int(ins) + int(latches) + int(outs) + int(ands)]]
-    cut = lambda count: [rows.pop(0) for _ in range(int(count))]
-    inputs, registers, outputs, gates = cut(ins), cut(latches), cut(outs), cut(ands)
+    ends = list(itertools.accumulate([int(ins), int(latches), int(outs), int(ands)], initial=1))
+    inputs, registers, outputs, gates = ([[int(word) for word in line.split()] for line in lines[first:end]] for first, end in itertools.pairwise(ends))
     names = {}
-    for line in lines[1 + int(ins) + int(latches) + int(outs) + int(ands) :]:
+    for line in lines[ends[-1] :]:
         if line == "c":
             break
         kind, _, name = line.partition(" ")
@@ -98,15 +108,13 @@ def blasted(module, folder):
 
 
 def are_equal(one, other, folder, seconds=None):
-    """Whether two combinational circuits with the same inputs have the same outputs, by ABC: True, False, or None if it cannot tell, or not within so many seconds."""
+    """Whether two combinational circuits with the same inputs have the same outputs, by ABC: True, False, or None if it cannot tell, or not within so many seconds of a processor."""
     names = []
     for k, graph in enumerate((one, other)):
         names.append(f"graph{k}.aig")
         (pathlib.Path(folder) / names[k]).write_bytes(graph.combinational())
-    try:
-        ran = subprocess.run([ABC, "-c", f"cec -n {names[0]} {names[1]}"], cwd=folder, capture_output=True, text=True, timeout=seconds)
-    except subprocess.TimeoutExpired:
-        return None
+    limit = lambda: resource.setrlimit(resource.RLIMIT_CPU, (seconds, seconds)) if seconds else None
+    ran = subprocess.run([ABC, "-c", f"cec -n {names[0]} {names[1]}"], cwd=folder, capture_output=True, text=True, preexec_fn=limit)
     if "Networks are equivalent" in ran.stdout:
         return True
     return False if "NOT EQUIVALENT" in ran.stdout else None

@@ -4,12 +4,16 @@
     tools/read_alike.py [MODULE.v ..]   these modules, or those of all programs in corpus/programs and examples
 
 Of each module the compiler makes a graph (`blast`) and Yosys makes another from the same text (proc, memory_map, simplemap, aigmap). Inputs, outputs, registers and
-words of memories are matched by name, and ABC proves that every output and every next bit is equal, for all contents and all inputs. A bit that Yosys leaves
-undefined is taken as 0. A module that is too large for a graph is skipped. HLS names the program, else it is ./hls. The status is 1 where a module is read differently.
+words of memories are matched by name, and ABC proves that every output and every next bit is equal, for all contents and all inputs. Products are hard to compare, so
+each `*` is taken out of the text first: its operands become outputs and its result an input. The operator itself is compared at each width that a module has: by ABC
+in so many seconds, else at 12 bits by ABC and at its width by simulation of both graphs. A bit that Yosys leaves undefined is taken as 0, and the next bits of a
+register or word that Yosys leaves out are not compared. A module that is too large for a graph is skipped. HLS names the program, else it is ./hls. The status is 1
+where a module is read differently.
 """
 import concurrent.futures
 import os
 import pathlib
+import random
 import re
 import shutil
 import subprocess
@@ -18,10 +22,13 @@ import tempfile
 
 import graph
 
-SCRIPT = "read_verilog {text}; hierarchy -auto-top; proc -noopt; memory_collect; memory_map; simplemap; dffunmap; techmap; simplemap; aigmap; setundef -zero; write_aiger -ascii -map map.txt yosys.aag"
-# Products are hard to compare; ABC gets so long for a module.
-SECONDS = 10
-BIT = re.compile(r"(input|output|latch|invlatch) (\d+) (\d+) (\S+)")
+SCRIPT = "read_verilog {text}; hierarchy -auto-top; proc -noopt; memory_collect; memory_map; simplemap; dffunmap; techmap; simplemap; aigmap; setundef -zero; write_aiger -ascii -vmap map.txt yosys.aag"
+# ABC gets so long for a module.
+SECONDS = 60
+PRODUCT = re.compile(r"wire \[(\d+):0\] (\w+) = (\S+) \* (\S+);")
+# How many pairs of operands a product is simulated on.
+DRAWN = 2000
+BIT = re.compile(r"(input|output|latch|invlatch|wire) (\d+) (\d+) (\S+)")
 
 
 def order(text):
@@ -47,7 +54,7 @@ def by_yosys(module, folder):
     if ran.returncode:
         raise ValueError(f"{module}: yosys: {ran.stderr.strip()[-300:]}")
     made = graph.read((pathlib.Path(folder) / "yosys.aag").read_text())
-    places = {"input": {}, "latch": {}, "output": {}}
+    places = {"input": {}, "latch": {}, "output": {}, "wire": {}}
     for line in (pathlib.Path(folder) / "map.txt").read_text().splitlines():
         if match := BIT.match(line):
             places["latch" if match[1].endswith("latch") else match[1]][match[4], int(match[3])] = int(match[2])
@@ -55,25 +62,93 @@ def by_yosys(module, folder):
     # Outputs stand in the order of the pins; the map leaves out bits that are constant.
     if any(outputs[place] != bit for bit, place in places["output"].items() if bit in set(outputs)):
         raise ValueError(f"{module}: outputs of Yosys in another order")
-    return made.ordered([places["input"][bit] for bit in inputs], [places["latch"][bit] for bit in latches], range(len(made.outputs)))
+    there = [k for k, bit in enumerate(latches) if bit in places["latch"]]
+    missing = [k for k, bit in enumerate(latches) if bit not in places["latch"]]
+    found = made.ordered([places["input"][bit] for bit in inputs], [places["latch"][latches[k]] for k in there], range(len(made.outputs)))
+    # A bit that nothing changes is an input in the graph of Yosys; one that nothing reads is not there.
+    free = 2 + max([literal for literal in made.inputs] + [latch for latch, _ in made.latches] + [gate for gate, _, _ in made.gates], default=0)
+    found.inputs += [places["wire"].get(latches[k], free + 2 * k) for k in missing]
+    return found, there, missing
+
+
+def without_products(text):
+    """The text of a module in which the operands of each product are outputs and its result is an input, and the widths of the products."""
+    lines, inputs, outputs, shown, widths = [], [], [], [], []
+    for line in text.splitlines():
+        if match := PRODUCT.match(line):
+            high, number = match[1], len(widths)
+            widths.append(int(high) + 1)
+            inputs.append((f"product_{number}", high))
+            for side, atom in (("left", match[3]), ("right", match[4])):
+                outputs.append((f"{side}_{number}", high))
+                shown.append(f"assign {side}_{number} = {atom};")
+            line = f"wire [{high}:0] {match[2]} = product_{number};"
+        lines.append(line)
+    if not widths:
+        return text, widths
+    pins = ", ".join(name for name, _ in inputs)
+    last_input = max(k for k, line in enumerate(lines) if line.startswith("input "))
+    last_output = max(k for k, line in enumerate(lines) if line.startswith("output "))
+    last_assign = max(k for k, line in enumerate(lines) if line.startswith("assign "))
+    first_output = next(re.match(r"output (?:\[\d+:0\] )?(\w+);", line)[1] for line in lines if line.startswith("output "))
+    head = lines[0].replace(f" {first_output},", f" {pins}, {first_output},").replace(f" {first_output})", f" {pins}, {first_output})")
+    lines[0] = head.replace(");", ", " + ", ".join(name for name, _ in outputs) + ");")
+    more = {
+        last_input: [f"input [{high}:0] {name};" for name, high in inputs],
+        last_output: [f"output [{high}:0] {name};" for name, high in outputs],
+        last_assign: shown,
+    }
+    return "".join(f"{line}\n" for k, old in enumerate(lines) for line in [old, *more.get(k, [])]), widths
+
+
+def product(width):
+    """A module that multiplies numbers of so many bits."""
+    pins = "".join(f"{kind} [{width - 1}:0] {name};\n" for kind, name in (("input", "a"), ("input", "b"), ("output", "y")))
+    return f"module product (clk, a, b, y);\ninput clk;\n{pins}wire [{width - 1}:0] w0 = a * b;\nassign y = w0;\nendmodule\n"
+
+
+def graphs_of(text, folder):
+    """The graphs of the compiler and of Yosys of a module's text, and how many bits Yosys leaves out; or None where the module is too large."""
+    module = pathlib.Path(folder) / "compared.v"
+    module.write_text(text)
+    ours = graph.blasted(module, folder)
+    if not ours:
+        return None
+    theirs, there, missing = by_yosys(module, folder)
+    left_out = [ours.latches[k][0] for k in missing]
+    ours = ours.ordered(range(len(ours.inputs)), there, range(len(ours.outputs)))
+    ours.inputs += left_out
+    return ours, theirs, len(missing)
+
+
+def product_alike(width):
+    """Whether Yosys multiplies numbers of so many bits as the compiler does, and how that is known."""
+    with tempfile.TemporaryDirectory() as folder:
+        ours, theirs, _ = graphs_of(product(width), folder)
+        found = graph.are_equal(ours, theirs, folder, SECONDS)
+        if found is not None:
+            return found, "proved by ABC"
+        small = graphs_of(product(12), folder)
+        draw = random.Random(width)
+        words = [draw.getrandbits(DRAWN) for _ in ours.inputs]
+        same = ours.values(words, DRAWN) == theirs.values(words, DRAWN)
+        return same and graph.are_equal(*small[:2], folder) is True, f"proved by ABC at 12 bits, simulated on {DRAWN} pairs of operands"
 
 
 def verdict(module):
-    """What is said of one module, and whether it is read alike: True, False, or None where it was skipped."""
+    """What is said of one module, whether it is read alike (True, False, or None where it was skipped), and the widths of its products."""
+    text, widths = without_products(module.read_text())
     with tempfile.TemporaryDirectory() as folder:
-        ours = graph.blasted(module, folder)
-        if not ours:
-            return "too large for a graph, skipped", None
-        try:
-            theirs = by_yosys(module, folder)
-        except KeyError as bit:
-            return f"Yosys leaves out {bit}, skipped", None
+        both = graphs_of(text, folder)
+        if not both:
+            return "too large for a graph, skipped", None, []
+        ours, theirs, missing = both
         counts = [(len(it.inputs), len(it.latches), len(it.outputs)) for it in (ours, theirs)]
         if counts[0] != counts[1]:
-            return f"{counts[0]} inputs, latches and outputs, and {counts[1]}", False
+            return f"{counts[0]} inputs, latches and outputs, and {counts[1]}", False, widths
         found = graph.are_equal(ours, theirs, folder, SECONDS)
-        sizes = f"{len(ours.gates)} gates, {len(theirs.gates)} by Yosys"
-        return {True: f"read alike; {sizes}", False: f"READ DIFFERENTLY; {sizes}", None: f"no answer; {sizes}"}[found], found
+        sizes = f"{len(ours.gates)} gates, {len(theirs.gates)} by Yosys" + (f"; {missing} bits that Yosys leaves out" if missing else "")
+        return {True: f"read alike; {sizes}", False: f"READ DIFFERENTLY; {sizes}", None: f"no answer; {sizes}"}[found], found, widths
 
 
 def compiled(source, folder):
@@ -98,11 +173,14 @@ def main():
             sources = [it for where in ("corpus/programs", "examples", "examples/bench", "examples/pipeline") for it in sorted((graph.ROOT / where).glob("*.c"))]
             modules = list(pool.map(lambda it: compiled(it, folder), sources))
         rows = list(pool.map(verdict, modules))
-    for module, (said, _) in zip(modules, rows):
+    for module, (said, _, _) in zip(modules, rows):
         print(f"{module.stem}: {said}")
-    count = lambda kind: sum(found is kind for _, found in rows)
+    products = {width: product_alike(width) for width in sorted({width for _, _, widths in rows for width in widths})}
+    for width, (found, how) in products.items():
+        print(f"products of {width} bits: {'alike' if found else 'DIFFERENT'}, {how}")
+    count = lambda kind: sum(found is kind for _, found, _ in rows)
     print(f"read alike: {count(True)} of {len(rows)}, {count(False)} read differently; of {count(None)} nothing is known")
-    return 1 if count(False) else 0
+    return 1 if count(False) or not all(found for found, _ in products.values()) else 0
 
 
 if __name__ == "__main__":
