@@ -1,5 +1,6 @@
 pub mod LiveVariables
 pub mod Examples
+pub mod FreeBits
 pub mod Meeting
 pub mod Members
 pub mod Pools

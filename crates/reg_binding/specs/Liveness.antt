@@ -1,5 +1,5 @@
 -- Which variables of a flat program are live: on some way from there they are read before they are set.
-use Rattle.std.specs.Prelude.{◌≡◌, ℕ, ◌<◌, ◌==◌, ◌&&◌, ◌||◌, not, nat_lt, Bool, true, false, List, [], ◌∷◌, ◌++◌, map, length, slice_get, Some, option_to_list, ◌⊎◌}
+use Rattle.std.specs.Prelude.{◌≡◌, ℕ, ◌+◌, ◌<◌, ◌==◌, ◌&&◌, ◌||◌, not, nat_lt, Bool, true, false, List, [], ◌∷◌, ◌++◌, map, length, slice_get, Some, option_to_list}
 use Rattle.std.specs.List.{flat_map, list_any}
 use Rattle.hls_base.specs.declared.number.NodeId.{NodeId}
 use Rattle.hls_base.specs.declared.number.VarId.{VarId}
@@ -16,7 +16,7 @@ use Rattle.ir_core.specs.declared.cfg.Node.{Node}
 use Rattle.ir_core.specs.declared.cfg.Node.TheVariants as node
 use Rattle.reg_binding.specs.declared.live.Live.{Live}
 use Rattle.reg_binding.specs.declared.var_set.VarSet.{VarSet}
-use Rattle.reg_binding.specs.Sets.{has, has_in}
+use Rattle.reg_binding.specs.Sets.{has, has_in, free_bits}
 
 -- ---- what of a program matters
 
@@ -154,10 +154,23 @@ abbrev pub IsClosedAt : Flow → Live → ℕ → Type 0
 IsClosedAt flow live i =
     (summary : Summary) (n : ℕ) → slice_get flow.summaries i ≡ Some summary → n < flow.variables → is_entered summary (is_behind live summary) n ≡ true → entered_at live i n ≡ true
 
--- All variables that are live behind a node are found, and, unless all variables were taken for live everywhere, no others.
+-- how far the sets are from having all variables
+abbrev pub free_in : List VarSet → ℕ
+free_in [] = 0
+free_in (set ∷ sets) = free_bits set.words.items + free_in sets
+
+abbrev pub not_live : Live → ℕ
+not_live live = free_in live.entered.items
+
+-- the sets have the same members
+pub record HasSame (live other : Live) : Type 0 where
+  pub variables : live.variables ≡ other.variables
+  pub entered : live.entered.items ≡ other.entered.items
+  pub kept : live.kept ≡ other.kept
+
+-- Behind each node exactly those variables are found that are live there.
 pub record IsLiveness (flow : Flow) (live : Live) : Type 0 where
   pub count : live.variables ≡ flow.variables
   pub sized : IsSized live
   pub all : (summary : Summary) (n : ℕ) → n < flow.variables → IsLiveBehind flow summary n → is_behind live summary n ≡ true
-  pub only : ((i n : ℕ) → i < length flow.summaries → n < flow.variables → entered_at live i n ≡ true) ⊎
-      ((summary : Summary) (n : ℕ) → is_behind live summary n ≡ true → IsLiveBehind flow summary n)
+  pub only : (summary : Summary) (n : ℕ) → is_behind live summary n ≡ true → IsLiveBehind flow summary n

@@ -90,19 +90,14 @@ fn entered<S: Stamp>(
     Ok(set)
 }
 
-/// So many sets of all variables, or of none.
-fn filled_sets(
-    alloc: Global,
-    count: usize,
-    variables: usize,
-    all: bool,
-) -> Result<Vec<VarSet>, AllocError>
+/// So many sets without members.
+fn empty_sets(alloc: Global, count: usize, variables: usize) -> Result<Vec<VarSet>, AllocError>
     ensures count { IfOk result (λ sets. length sets.items ≡ count) }
-    ensures filled { IfOk result (λ sets. (i : ℕ) (set : VarSet) → slice_get sets.items i ≡ Some set → (set.variables ≡ variables) × ((n : ℕ) → n < variables → has set n ≡ all)) }
+    ensures empty { IfOk result (λ sets. (i : ℕ) (set : VarSet) → slice_get sets.items i ≡ Some set → (set.variables ≡ variables) × ((n : ℕ) → n < variables → has set n ≡ false)) }
 {
     let mut sets = Vec::with_capacity(alloc, count)?;
     for _number in 0..count {
-        sets.push(VarSet::filled(alloc, variables, all)?)?;
+        sets.push(VarSet::new(alloc, variables)?)?;
     }
     Ok(sets)
 }
@@ -113,7 +108,7 @@ impl Live {
         ensures { IfOk result (λ live. spec.Holds (spec.flow_of cfg.now) live) }
     {
         let variables = cfg.frame.variables.len();
-        let entered = filled_sets(alloc, cfg.nodes.len(), variables, false)?;
+        let entered = empty_sets(alloc, cfg.nodes.len(), variables)?;
         let mut kept = VarSet::new(alloc, variables)?;
         insert_kept(&mut kept, &cfg.frame.kept);
         Ok(Live {
@@ -152,7 +147,7 @@ impl Live {
         Ok(set)
     }
 
-    /// Finds anew what is live as a node is entered, and tells whether that is more than before.
+    /// Adds what is live as a node is entered by what is live behind it, and tells whether that is more than before.
     fn update<S: Stamp>(
         &mut self,
         alloc: Global,
@@ -162,23 +157,22 @@ impl Live {
         requires holds { spec.Holds (spec.flow_of cfg.now) self.old }
         requires number { number < length cfg.now.nodes.items }
         ensures holds { OnOk result (spec.Holds (spec.flow_of cfg.now) self.new) }
-        ensures same { IfOk result (λ more. more ≡ false → self.new ≡ self.old) }
+        ensures same { IfOk result (λ more. more ≡ false → spec.HasSame self.new self.old) }
+        ensures fewer { IfOk result (λ more. more ≡ true → spec.not_live self.new < spec.not_live self.old) }
         ensures closed { IfOk result (λ more. more ≡ false → spec.IsClosedAt (spec.flow_of cfg.now) self.old number) }
     {
         let node = &cfg.nodes[number];
         let behind = self.behind(alloc, node)?;
         let set = entered(alloc, self.variables, node, &behind)?;
-        if self.entered[number].is_same(&set) {
-            return Ok(false);
-        }
-        self.entered[number] = set;
-        Ok(true)
+        let more = self.entered[number].add_all(&set);
+        Ok(more)
     }
 
     /// Goes through all nodes once, the last one first, and tells whether more was found.
     fn pass<S: Stamp>(&mut self, alloc: Global, cfg: &Cfg<S>) -> Result<bool, AllocError>
         requires { spec.Holds (spec.flow_of cfg.now) self.old }
         ensures holds { OnOk result (spec.Holds (spec.flow_of cfg.now) self.new) }
+        ensures fewer { IfOk result (λ more. more ≡ true → spec.not_live self.new < spec.not_live self.old) }
         ensures closed { IfOk result (λ more. more ≡ false → (i : ℕ) → i < length cfg.now.nodes.items → spec.IsClosedAt (spec.flow_of cfg.now) self.new i) }
     {
         let count = cfg.nodes.len();
@@ -190,32 +184,16 @@ impl Live {
         }
         Ok(more)
     }
-
-    /// All variables are live everywhere.
-    fn filled<S: Stamp>(self, alloc: Global, cfg: &Cfg<S>) -> Result<Live, AllocError>
-        requires { spec.Holds (spec.flow_of cfg.now) self }
-        ensures { IfOk result (λ live. spec.IsLiveness (spec.flow_of cfg.now) live) }
-    {
-        Ok(Live {
-            variables: self.variables,
-            entered: filled_sets(alloc, cfg.nodes.len(), self.variables, true)?,
-            kept: self.kept,
-        })
-    }
 }
 
-/// The most passes that are made; loops in one another ask for one each, and one more.
-const MOST_PASSES: usize = 256;
-
-/// The variables that are live in a program. Where too many passes would be needed, all of them are.
+/// The variables that are live in a program. Loops in one another take a pass over the program each.
 pub fn live_variables<S: Stamp>(alloc: Global, cfg: &Cfg<S>) -> Result<Live, AllocError>
     ensures { IfOk result (λ live. spec.IsLiveness (spec.flow_of cfg.now) live) }
 {
     let mut live = Live::start(alloc, cfg)?;
-    for _pass in 0..MOST_PASSES {
+    'passes: loop {
         if !live.pass(alloc, cfg)? {
             return Ok(live);
         }
     }
-    live.filled(alloc, cfg)
 }

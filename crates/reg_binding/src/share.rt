@@ -170,7 +170,8 @@ fn is_lasting(life: &Life) -> bool
 
 /// Whether the values stand in the order of their widths, and of their first cycles where these are equal.
 fn are_in_order(lives: &[Life]) -> bool
-    ensures { result ≡ true → pools.AreInOrder lives.now (length lives.now) }
+    ensures yes { result ≡ true → pools.AreInOrder lives.now (length lives.now) }
+    ensures no { result ≡ false → pools.AreInOrder lives.now (length lives.now) → ⊥ }
 {
     for number in 0..lives.len() {
         if !is_lasting(&lives[number]) {

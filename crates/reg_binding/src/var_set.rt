@@ -1,6 +1,6 @@
 ghost use Rattle.std.specs.Prelude.{◌≤◌, ◌*◌, length};
 
-use crate::bits::{add_bits, clear_bit, filled_words, has_bit, set_bit};
+use crate::bits::{add_bits, clear_bit, empty_words, has_bit, set_bit};
 use hls_base::number::VarId;
 use std::alloc::{AllocError, Global};
 
@@ -15,25 +15,17 @@ pub struct VarSet {
 
 impl VarSet {
     ghost use Rattle.std.specs.Prelude.{◌≡◌, ◌==◌, ◌<◌, ℕ, Bool, true, false, IfOk, ◌↔◌};
-    ghost use Rattle.reg_binding.specs.Sets.{has, Gains, Loses};
-
-    /// The set of all variables of a program with so many, or of none.
-    pub fn filled(alloc: Global, variables: usize, all: bool) -> Result<VarSet, AllocError>
-        ensures count { IfOk result (λ set. set.variables ≡ variables) }
-        ensures members { IfOk result (λ set. (n : ℕ) → n < variables → has set n ≡ all) }
-    {
-        Ok(VarSet {
-            variables,
-            words: filled_words(alloc, variables / 64 + 1, all)?,
-        })
-    }
+    ghost use Rattle.reg_binding.specs.Sets.{has, free_bits, Gains, Loses};
 
     /// The empty set of a program with so many variables.
     pub fn new(alloc: Global, variables: usize) -> Result<VarSet, AllocError>
         ensures count { IfOk result (λ set. set.variables ≡ variables) }
         ensures members { IfOk result (λ set. (n : ℕ) → n < variables → has set n ≡ false) }
     {
-        VarSet::filled(alloc, variables, false)
+        Ok(VarSet {
+            variables,
+            words: empty_words(alloc, variables / 64 + 1)?,
+        })
     }
 
     pub fn contains(&self, variable: VarId) -> bool
@@ -54,17 +46,12 @@ impl VarSet {
         clear_bit(&mut self.words, variable.0);
     }
 
-    /// Adds what another set of the same program has.
-    pub fn add_all(&mut self, other: &VarSet)
-        ensures { self.old.variables ≡ other.now.variables → Gains self.old self.new (has other.now) }
+    /// Adds what another set of the same program has, and tells whether that is more than before.
+    pub fn add_all(&mut self, other: &VarSet) -> bool
+        ensures gains { self.old.variables ≡ other.now.variables → Gains self.old self.new (has other.now) }
+        ensures same { result ≡ false → self.new ≡ self.old }
+        ensures fewer { result ≡ true → free_bits self.new.words.items < free_bits self.old.words.items }
     {
-        add_bits(&mut self.words, &other.words);
-    }
-
-    /// Whether both sets have the same bits.
-    pub fn is_same(&self, other: &VarSet) -> bool
-        ensures { result ≡ true → (n : ℕ) → has self.now n ≡ has other.now n }
-    {
-        self.variables == other.variables && self.words == other.words
+        add_bits(&mut self.words, &other.words)
     }
 }

@@ -6,11 +6,11 @@ use Rattle.std.proofs.lemmas.Bool.{false≢true, and_parts, and_from, or_cases, 
 use Rattle.hls_base.specs.declared.number.NodeId.{NodeId}
 use Rattle.reg_binding.specs.declared.live.Live.{Live}
 use Rattle.reg_binding.specs.declared.var_set.VarSet.{VarSet}
-use Rattle.reg_binding.specs.Sets.{has, has_bit, has_in}
+use Rattle.reg_binding.specs.Sets.{has, has_bit, has_in, Gains}
 use Rattle.std.proofs.lemmas.List.{length-set}
 use Rattle.reg_binding.proofs.LiveVariables.Elements.{any_found, any_at, any_same, some_at, within, set_found}
 use Rattle.reg_binding.specs.Liveness as spec
-use Rattle.reg_binding.specs.Liveness.{Summary, Flow, IsLive, IsLiveBehind, Holds, IsClosedAt, IsSized, is_among, is_set, is_entered, is_behind, entered_at, goes_by, reads, goes, passes, leads, stays, IsLiveness}
+use Rattle.reg_binding.specs.Liveness.{Summary, Flow, IsLive, IsLiveBehind, Holds, IsClosedAt, IsSized, is_among, is_set, is_entered, is_behind, entered_at, goes_by, reads, goes, passes, leads, stays, IsLiveness, HasSame, free_in, not_live}
 
 has_within : (sets : List VarSet) (i n : ℕ) → has_in (slice_get sets i) n ≡ true → i < length sets
 has_within [] i n e = absurd (false≢true e)
@@ -78,37 +78,25 @@ module _ (flow : Flow) (live : Live) (count : live.variables ≡ flow.variables)
         (or_right (list_any (λ (next : NodeId). entered_at live next.0 n) summary.next) (summary.returns && has live.kept n)
         (and_from summary.returns (has live.kept n) r (kept n l ∙ k)))
 
--- ---- sets that are filled, or empty
+-- ---- empty sets
 
-module _ (sets : List VarSet) (variables : ℕ) (b : Bool)
-    (filled : (i : ℕ) (s : VarSet) → slice_get sets i ≡ Some s → (s.variables ≡ variables) × ((n : ℕ) → n < variables → has s n ≡ b)) where
-  pub filled_at : (i n : ℕ) → i < length sets → n < variables → has_in (slice_get sets i) n ≡ b
-  filled_at i n l m = let r = some_at sets i l in ap (λ o. has_in o n) r.1 ∙ (filled i r.0 r.1).1 n m
-
-  pub empty_at : b ≡ false → (i n : ℕ) → has_in (slice_get sets i) n ≡ true → ⊥
-  empty_at none i n e =
+module _ (sets : List VarSet) (variables : ℕ)
+    (empty : (i : ℕ) (s : VarSet) → slice_get sets i ≡ Some s → (s.variables ≡ variables) × ((n : ℕ) → n < variables → has s n ≡ false)) where
+  pub empty_at : (i n : ℕ) → has_in (slice_get sets i) n ≡ true → ⊥
+  empty_at i n e =
       let r = some_at sets i (has_within sets i n e) in
-      let f = filled i r.0 r.1 in
+      let f = empty i r.0 r.1 in
       let has_it : has r.0 n ≡ true = sym (ap (λ o. has_in o n) r.1) ∙ e in
       let small = ltb-true n r.0.variables (and_parts (nat_lt n r.0.variables) (has_bit r.0.words.items n) has_it).0 in
       let same = f.0 in
-      false≢true (sym none ∙ sym (f.1 n (omega arith)) ∙ has_it)
-
-pub liveness_filled : (flow : Flow) (live : Live) → live.variables ≡ flow.variables → IsSized live → ((n : ℕ) → n < flow.variables → has live.kept n ≡ is_among n flow.kept) →
-    ((i n : ℕ) → i < length flow.summaries → n < flow.variables → entered_at live i n ≡ true) → IsLiveness flow live
-liveness_filled flow live count sized kept full = record {
-  count = count;
-  sized = sized;
-  all = λ s n l b. behind_complete flow live count kept (λ i m summary k at small e. full i k m small) s n b l;
-  only = inl full;
-}
+      false≢true (sym (f.1 n (omega arith)) ∙ has_it)
 
 pub liveness_closed : (flow : Flow) (live : Live) → Holds flow live → ((i : ℕ) → i < length flow.summaries → IsClosedAt flow live i) → IsLiveness flow live
 liveness_closed flow live h closed = record {
   count = h.count;
   sized = h.sized;
   all = λ s n l b. behind_complete flow live h.count h.kept closed s n b l;
-  only = inr (λ s n e. (behind_sound flow live s n h e).1);
+  only = λ s n e. (behind_sound flow live s n h e).1;
 }
 
 -- ---- one node again
@@ -152,3 +140,37 @@ updated_holds flow live after k new s h variables kept entered count at sound = 
         | inr found ↦ h.sound i n summary g (ap (λ o. has_in o n) found ∙ has_it)
       ];
 }
+
+-- a set gains those that are live as the node is entered
+pub gained_sound : (flow : Flow) (live : Live) (s : Summary) (k : ℕ) (old behind new after : VarSet) → Holds flow live → slice_get flow.summaries k ≡ Some s → slice_get live.entered.items k ≡ Some old →
+    ((m : ℕ) → has behind m ≡ is_behind live s m) → new.variables ≡ live.variables → ((n : ℕ) → n < live.variables → has new n ≡ is_entered s (has behind) n) → Gains old after (has new) → (n : ℕ) → has after n ≡ true → IsLive flow s n
+gained_sound flow live s k old behind new after h at found same count members gains n e =
+    let small = ltb-true n after.variables (and_parts (nat_lt n after.variables) (has_bit after.words.items n) e).0 in
+    let within_old : n < old.variables = (let c = gains.count in omega arith) in
+    elim (or_cases (has old n) (has new n) (sym (gains.members n within_old) ∙ e)) [
+      | inl had ↦ h.sound k n s at (ap (λ o. has_in o n) found ∙ had)
+      | inr has_it ↦ set_sound flow live s behind new h same count members n has_it
+    ]
+
+-- ---- the same members
+
+pub same_turned : (a b : Live) → HasSame a b → HasSame b a
+same_turned a b s = record { variables = sym s.variables; entered = sym s.entered; kept = sym s.kept }
+
+pub same_twice : (a b c : Live) → HasSame a b → HasSame b c → HasSame a c
+same_twice a b c s t = record { variables = s.variables ∙ t.variables; entered = s.entered ∙ t.entered; kept = s.kept ∙ t.kept }
+
+pub same_not_live : (a b : Live) → HasSame a b → not_live a ≡ not_live b
+same_not_live a b s = ap free_in s.entered
+
+-- Sets with the same members are closed where the others are.
+pub closed_same : (flow : Flow) (live other : Live) (i : ℕ) → HasSame live other → IsClosedAt flow other i → IsClosedAt flow live i
+closed_same flow live other i same closed summary n at l e =
+    ap (λ xs. has_in (slice_get xs i) n) same.entered
+    ∙ closed summary n at l (sym (same_entered summary (is_behind live summary) (is_behind other summary) n behind) ∙ e)
+  where
+    behind : (m : ℕ) → is_behind live summary m ≡ is_behind other summary m
+    behind m =
+        ap (λ v. nat_lt m v && (list_any (λ (next : NodeId). entered_at live next.0 m) summary.next || (summary.returns && has live.kept m))) same.variables
+        ∙ ap (λ xs. nat_lt m other.variables && (list_any (λ (next : NodeId). has_in (slice_get xs next.0) m) summary.next || (summary.returns && has live.kept m))) same.entered
+        ∙ ap (λ v. nat_lt m other.variables && (list_any (λ (next : NodeId). entered_at other next.0 m) summary.next || (summary.returns && has v m))) same.kept

@@ -1,10 +1,10 @@
 -- One bit of words set or cleared, and words joined with others.
-use Rattle.std.proofs.Common.{◌≡◌, ℕ, ◌+◌, ◌-◌, ◌*◌, ◌/◌, ◌%◌, ◌^◌, ◌<◌, ◌≤◌, Bool, true, false, not, ◌&&◌, ◌||◌, ◌==◌, List, length, get_or, set, max, below_more, ◌⊎◌, inl, inr, w64, refl, sym, ap, ◌∙◌, arith}
+use Rattle.std.proofs.Common.{◌≡◌, ℕ, ◌+◌, ◌-◌, ◌*◌, ◌/◌, ◌%◌, ◌^◌, ◌<◌, ◌≤◌, Bool, true, false, not, ◌&&◌, ◌||◌, ◌==◌, List, length, get_or, set, max, below_more, ◌≢◌, ◌⊎◌, inl, inr, w64, refl, sym, ap, ◌∙◌, arith}
 use Rattle.std.specs.Prelude.{bit_and, bit_or, nat_lt, replicate}
 use Rattle.std.specs.Int.{bit_at}
 use Rattle.std.proofs.lemmas.Bool.{cases_eq, eq-eqb, ne_eqb, lt-ltb}
 use Rattle.std.proofs.lemmas.List.{get_or-set_same, get_or-set_other, get_or_past, get_or-replicate}
-use Rattle.std.proofs.lemmas.Nat.Bits.{bit_at_set_same, bit_at_set_other, bit_at_clear_same, bit_at_clear_other, bit_at_or, bit_at-lt, bit_at-zero, bit_at_ones}
+use Rattle.std.proofs.lemmas.Nat.Bits.{bit_at_set_same, bit_at_set_other, bit_at_clear_same, bit_at_clear_other, bit_at_or, bit_at-lt, bit_at-zero}
 use Rattle.std.proofs.lemmas.Nat.{or_comm}
 use Rattle.reg_binding.specs.Sets.{has_bit}
 use Rattle.reg_binding.proofs.LiveVariables.Members.{or_nothing, and_all}
@@ -77,26 +77,26 @@ or_has xs ys zs n e =
 -- ---- words joined one after another
 
 module _ (start others xs : List ℕ) (i : ℕ) (inside : i < length xs) where
-  pub joined_more : (w : ℕ) → ((k : ℕ) → k < i → get_or xs k 0 ≡ bit_or (get_or start k 0) (get_or others k 0)) → w ≡ bit_or (get_or start i 0) (get_or others i 0) →
-      (k : ℕ) → k < i + 1 → get_or (set xs i w) k 0 ≡ bit_or (get_or start k 0) (get_or others k 0)
-  joined_more w added is = below_more (λ k. get_or (set xs i w) k 0 ≡ bit_or (get_or start k 0) (get_or others k 0)) i
-      (λ k l. get_or-set_other xs i k w 0 (λ (e : k ≡ i). omega arith) ∙ added k l) (get_or-set_same xs i w 0 inside ∙ is)
+  -- the word at i takes the bits of the other one, and the rest stays
+  pub joined_more : (zs : List ℕ) → get_or zs i 0 ≡ bit_or (get_or xs i 0) (get_or others i 0) → ((k : ℕ) → k ≢ i → get_or zs k 0 ≡ get_or xs k 0) →
+      ((k : ℕ) → k < i → get_or xs k 0 ≡ bit_or (get_or start k 0) (get_or others k 0)) → ((k : ℕ) → i ≤ k → get_or xs k 0 ≡ get_or start k 0) →
+      (k : ℕ) → k < i + 1 → get_or zs k 0 ≡ bit_or (get_or start k 0) (get_or others k 0)
+  joined_more zs here rest added left = below_more (λ k. get_or zs k 0 ≡ bit_or (get_or start k 0) (get_or others k 0)) i
+      (λ k l. rest k (λ (e : k ≡ i). omega arith) ∙ added k l) (here ∙ ap (λ x. bit_or x (get_or others i 0)) (left i (omega arith)))
 
-  pub joined_left : (w : ℕ) → ((k : ℕ) → i ≤ k → get_or xs k 0 ≡ get_or start k 0) → (k : ℕ) → i + 1 ≤ k → get_or (set xs i w) k 0 ≡ get_or start k 0
-  joined_left w left k l = get_or-set_other xs i k w 0 (λ (e : k ≡ i). omega arith) ∙ left k (omega arith)
+  pub joined_left : (zs : List ℕ) → ((k : ℕ) → k ≢ i → get_or zs k 0 ≡ get_or xs k 0) → ((k : ℕ) → i ≤ k → get_or xs k 0 ≡ get_or start k 0) →
+      (k : ℕ) → i + 1 ≤ k → get_or zs k 0 ≡ get_or start k 0
+  joined_left zs rest left k l = rest k (λ (e : k ≡ i). omega arith) ∙ left k (omega arith)
 
   pub joined_past : ((k : ℕ) → k < i → get_or xs k 0 ≡ bit_or (get_or start k 0) (get_or others k 0)) → ((k : ℕ) → i ≤ k → get_or xs k 0 ≡ get_or start k 0) → length others ≤ i →
       (k : ℕ) → k < i + 1 → get_or xs k 0 ≡ bit_or (get_or start k 0) (get_or others k 0)
   joined_past added left past = below_more (λ k. get_or xs k 0 ≡ bit_or (get_or start k 0) (get_or others k 0)) i added
       (left i (omega arith) ∙ sym (or_comm (get_or start i 0) 0) ∙ ap (λ x. bit_or (get_or start i 0) x) (sym (get_or_past others i 0 past)))
 
--- ---- all bits alike
+-- ---- no bits
 
 pub nothing_has : (count n : ℕ) → n / 64 < count → has_bit (replicate count 0) n ≡ false
 nothing_has count n l = ap (λ x. bit_at x (n % 64) == 1) (get_or-replicate count (n / 64) 0 0 l) ∙ ap (λ b. b == 1) (bit_at-zero (n % 64))
-
-pub all_has : (count n : ℕ) → n / 64 < count → has_bit (replicate count 18446744073709551615) n ≡ true
-all_has count n l = ap (λ x. bit_at x (n % 64) == 1) (get_or-replicate count (n / 64) 18446744073709551615 0 l) ∙ ap (λ b. b == 1) (bit_at_ones 64 (n % 64) (omega arith))
 
 pub in_count : (variables n : ℕ) (words : List ℕ) (b : Bool) → n < variables → has_bit words n ≡ b → (nat_lt n variables && has_bit words n) ≡ b
 in_count variables n words b l e = ap (λ t. t && has_bit words n) (lt-ltb n variables l) ∙ e

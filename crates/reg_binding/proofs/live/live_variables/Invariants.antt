@@ -1,5 +1,8 @@
-use Rattle.reg_binding.specs.Liveness.{Holds, flow_of}
+use Rattle.reg_binding.specs.Liveness.{Holds, flow_of, not_live}
 use Rattle.reg_binding.proofs.live.live_variables.Given as goal
 
-abbrev pub invariant-loop-pass : goal.invariant-loop-pass
-invariant-loop-pass g l = Holds (flow_of l.cfg) l.live
+abbrev pub invariant-passes : goal.invariant-passes
+invariant-passes g l = Holds (flow_of l.cfg) l.live
+
+abbrev pub decreases-passes : goal.decreases-passes
+decreases-passes g l = not_live l.live

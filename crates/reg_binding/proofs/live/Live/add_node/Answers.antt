@@ -12,7 +12,7 @@ returns-in-Some c = λ sized e.
     let found = c.in-Some.ensures.lookup in
     let at : slice_get c.args.self.now.entered.items i ≡ Some entered =
     sym (ap (λ xs. slice_get xs i) c.deref.ensures.value) ∙ got_of c.deref.result.now i entered found.3.0 found.1 in
-    Gains-same c.args.set.now c.add_all.new.self (has entered) (entered_at c.args.self.now i) (c.add_all.ensures (e ∙ sym (sized.1 i entered at)))
+    Gains-same c.args.set.now c.add_all.new.self (has entered) (entered_at c.args.self.now i) (c.add_all.ensures.gains (e ∙ sym (sized.1 i entered at)))
     (λ n. sym (ap (λ o. has_in o n) at))
 
 pub returns-in_default : goal.returns-in_default

@@ -1,4 +1,4 @@
-use Rattle.std.proofs.Common.{◌<◌, ◌||◌, ◌==◌, ◌∙◌, sym, refl, ap, arith}
+use Rattle.std.proofs.Common.{◌<◌, ◌||◌, ◌==◌, ◌∙◌, sym, ap, arith}
 use Rattle.std.specs.List.{list_any}
 use Rattle.std.proofs.lemmas.List.{length-map}
 use Rattle.hls_base.specs.declared.number.Kept.{Kept}
@@ -11,7 +11,7 @@ use Rattle.reg_binding.proofs.live.Live.start.Goals as goal
 pub returns : goal.returns
 returns g c =
     let sets = c.in_ok-entered.entered.items in
-    let filled = c.in_ok-entered.ensures.filled in
+    let filled = c.in_ok-entered.ensures.empty in
     let long = c.in_ok-entered.ensures.count in
     let all = c.len.ensures in
     let count = c.len-variables.ensures in
@@ -29,5 +29,5 @@ returns g c =
           ∙ ap (λ b. b || list_any (λ (k : Kept). k.variable.0 == n) c.deref.result.now) (c.in_ok-kept.ensures.members n small)
           ∙ ap (list_any (λ (k : Kept). k.variable.0 == n)) c.deref.ensures.value
           ∙ sym (any_map (λ (v : VarId). v.0 == n) (λ (k : Kept). k.variable) kept);
-      sound = λ i n s at e. absurd (empty_at sets c.len-variables.result _ filled refl i n e);
+      sound = λ i n s at e. absurd (empty_at sets c.len-variables.result filled i n e);
     }
