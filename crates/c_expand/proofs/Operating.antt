@@ -1,13 +1,12 @@
 -- Operators whose operands may not be reached, step by step.
 use Rattle.std.specs.Prelude.{◌&&◌}
-use Rattle.std.proofs.Common.{◌≡◌, Bool, true, false, sym, ap, subst, ◌∙◌}
+use Rattle.std.proofs.Common.{◌≡◌, Bool, true, false, List, sym, ap, subst, ◌∙◌}
 use Rattle.hls_base.specs.declared.place.Place.{Place}
 use Rattle.hls_base.specs.declared.number.VarId.{VarId}
 use Rattle.hls_base.specs.declared.refusal.Refusal.{Refusal}
 use Rattle.c_token.specs.declared.ctype.CType.{CType}
 use Rattle.c_tree.specs.declared.operator.Binary.{Binary}
-use Rattle.pieces.specs.Trees as tree
-use Rattle.pieces.specs.Trees.{PureTree}
+use Rattle.pieces.specs.Trees.{PureTree, PieceTree}
 use Rattle.piece_making.specs.declared.effects.Effects.{Effects}
 use Rattle.piece_making.specs.Making.{State, Part, Inner, fresh}
 use Rattle.piece_making.specs.Calls.{Call}
@@ -15,8 +14,9 @@ use Rattle.piece_making.specs.Acting.{acts, either}
 use Rattle.piece_making.specs.Saving.{save, is_logical}
 use Rattle.piece_making.specs.Stocks.{Stock, state_of, IsMade, IsTooHeavy}
 use Rattle.piece_making.proofs.Parts.{made_behind, heavy_at_once, heavy_behind}
-use Rattle.c_expand.specs.Expressions.{operated, forked, chosen, arm, decided, to_bool, same, fork_of, is_or}
-use Rattle.c_expand.proofs.Leading.{given, first_made, second_made, first_heavy, second_heavy}
+use Rattle.c_expand.specs.Expressions.{operated, forked, chosen, arm, decided, same, fork_of, is_or}
+use Rattle.c_expand.specs.InPlace.{operated_in_place, chosen_in_place, forked_behind}
+use Rattle.c_expand.proofs.Leading.{first_made, second_made, first_heavy, second_heavy}
 
 -- ---- binary operators
 
@@ -38,36 +38,35 @@ module _ (c : Call) (op : Binary) (k : CType) (at : Place) (x : PureTree) (later
       → IsTooHeavy mid r (forked c op k at left right (state_of mid)) → IsTooHeavy old r (operated c op k at x later1 right (state_of old))
   operated_forked_heavy mid left r h e g = heavy_behind _ _ _ _ _ _ (saved_so mid left h) (first_heavy _ _ _ _ _ (test_so true e) g)
 
-  pub operated_plain : (mid new : Stock) (left y v : PureTree) → IsMade old mid left (save c.file_variables x later (state_of old)) → (is_logical op && acts later) ≡ false
-      → IsMade mid new y (right (state_of mid)) → v ≡ tree.binary op left y k at → IsMade old new v (operated c op k at x later1 right (state_of old))
-  operated_plain mid new left y v h e g same = made_behind _ _ _ _ _ _ _ (saved_so mid left h) (second_made _ _ _ _ _ _ (test_so false e) (made_behind _ _ _ _ _ _ _ g (given _ _ _ same)))
+  pub operated_plain : (mid new : Stock) (left v : PureTree) → IsMade old mid left (save c.file_variables x later (state_of old)) → (is_logical op && acts later) ≡ false
+      → IsMade mid new v (operated_in_place op k at left right (state_of mid)) → IsMade old new v (operated c op k at x later1 right (state_of old))
+  operated_plain mid new left v h e g = made_behind _ _ _ _ _ _ _ (saved_so mid left h) (second_made _ _ _ _ _ _ (test_so false e) g)
 
   pub operated_plain_heavy : (mid : Stock) (left : PureTree) (r : Refusal) → IsMade old mid left (save c.file_variables x later (state_of old)) → (is_logical op && acts later) ≡ false
-      → IsTooHeavy mid r (right (state_of mid)) → IsTooHeavy old r (operated c op k at x later1 right (state_of old))
-  operated_plain_heavy mid left r h e g = heavy_behind _ _ _ _ _ _ (saved_so mid left h) (second_heavy _ _ _ _ _ (test_so false e) (heavy_at_once _ _ _ _ g))
+      → IsTooHeavy mid r (operated_in_place op k at left right (state_of mid)) → IsTooHeavy old r (operated c op k at x later1 right (state_of old))
+  operated_plain_heavy mid left r h e g = heavy_behind _ _ _ _ _ _ (saved_so mid left h) (second_heavy _ _ _ _ _ (test_so false e) g)
 
--- ---- `&&` and `||` as forks
+-- ---- `&&` and `||` as forks, behind the branch that is reached
 
-module _ (c : Call) (op : Binary) (k : CType) (at : Place) (test : PureTree) (right : State → Part PureTree) (old mid1 mid2 : Stock) (own : VarId) (reached : Inner (Unit {0})) (b : Bool) (is : b ≡ is_or op)
-    (h : IsMade old mid1 own (fresh k (state_of old))) (g : IsMade mid1 mid2 reached (arm c at right to_bool own (state_of mid1))) where
-  pub forked_heavy_other : (r : Refusal) → IsTooHeavy mid2 r (decided b own (state_of mid2)) → IsTooHeavy old r (forked c op k at test right (state_of old))
-  forked_heavy_other r e = heavy_behind _ _ _ _ _ _ h (heavy_behind _ _ _ _ _ _ g (heavy_at_once _ _ _ _ (subst (λ (z : Bool). IsTooHeavy mid2 r (decided z own (state_of mid2))) is e)))
+module _ (c : Call) (op : Binary) (k : CType) (at : Place) (test : PureTree) (reached : List PieceTree) (own : VarId) (b : Bool) (is : b ≡ is_or op) (old : Stock) where
+  pub forked_heavy_other : (r : Refusal) → IsTooHeavy old r (decided b own (state_of old)) → IsTooHeavy old r (forked_behind c op k at test reached own (state_of old))
+  forked_heavy_other r h = heavy_at_once _ _ _ _ (subst (λ (z : Bool). IsTooHeavy old r (decided z own (state_of old))) is h)
 
-  module _ (mid3 : Stock) (other : Inner (Unit {0})) (d : IsMade mid2 mid3 other (decided b own (state_of mid2))) where
-    decided_so : IsMade mid2 mid3 other (decided (is_or op) own (state_of mid2))
-    decided_so = subst (λ (z : Bool). IsMade mid2 mid3 other (decided z own (state_of mid2))) is d
+  module _ (mid : Stock) (other : Inner (Unit {0})) (d : IsMade old mid other (decided b own (state_of old))) where
+    decided_so : IsMade old mid other (decided (is_or op) own (state_of old))
+    decided_so = subst (λ (z : Bool). IsMade old mid other (decided z own (state_of old))) is d
 
-    pub forked_or : (new : Stock) (v : PureTree) → b ≡ true → IsMade mid3 new v (fork_of c at test other.pieces reached.pieces own k (state_of mid3)) → IsMade old new v (forked c op k at test right (state_of old))
-    forked_or new v e f = made_behind _ _ _ _ _ _ _ h (made_behind _ _ _ _ _ _ _ g (made_behind _ _ _ _ _ _ _ decided_so (first_made _ _ _ _ _ _ (sym is ∙ e) f)))
+    pub forked_or : (new : Stock) (v : PureTree) → b ≡ true → IsMade mid new v (fork_of c at test other.pieces reached own k (state_of mid)) → IsMade old new v (forked_behind c op k at test reached own (state_of old))
+    forked_or new v e f = made_behind _ _ _ _ _ _ _ decided_so (first_made _ _ _ _ _ _ (sym is ∙ e) f)
 
-    pub forked_and : (new : Stock) (v : PureTree) → b ≡ false → IsMade mid3 new v (fork_of c at test reached.pieces other.pieces own k (state_of mid3)) → IsMade old new v (forked c op k at test right (state_of old))
-    forked_and new v e f = made_behind _ _ _ _ _ _ _ h (made_behind _ _ _ _ _ _ _ g (made_behind _ _ _ _ _ _ _ decided_so (second_made _ _ _ _ _ _ (sym is ∙ e) f)))
+    pub forked_and : (new : Stock) (v : PureTree) → b ≡ false → IsMade mid new v (fork_of c at test reached other.pieces own k (state_of mid)) → IsMade old new v (forked_behind c op k at test reached own (state_of old))
+    forked_and new v e f = made_behind _ _ _ _ _ _ _ decided_so (second_made _ _ _ _ _ _ (sym is ∙ e) f)
 
-    pub forked_or_heavy : (r : Refusal) → b ≡ true → IsTooHeavy mid3 r (fork_of c at test other.pieces reached.pieces own k (state_of mid3)) → IsTooHeavy old r (forked c op k at test right (state_of old))
-    forked_or_heavy r e f = heavy_behind _ _ _ _ _ _ h (heavy_behind _ _ _ _ _ _ g (heavy_behind _ _ _ _ _ _ decided_so (first_heavy _ _ _ _ _ (sym is ∙ e) f)))
+    pub forked_or_heavy : (r : Refusal) → b ≡ true → IsTooHeavy mid r (fork_of c at test other.pieces reached own k (state_of mid)) → IsTooHeavy old r (forked_behind c op k at test reached own (state_of old))
+    forked_or_heavy r e f = heavy_behind _ _ _ _ _ _ decided_so (first_heavy _ _ _ _ _ (sym is ∙ e) f)
 
-    pub forked_and_heavy : (r : Refusal) → b ≡ false → IsTooHeavy mid3 r (fork_of c at test reached.pieces other.pieces own k (state_of mid3)) → IsTooHeavy old r (forked c op k at test right (state_of old))
-    forked_and_heavy r e f = heavy_behind _ _ _ _ _ _ h (heavy_behind _ _ _ _ _ _ g (heavy_behind _ _ _ _ _ _ decided_so (second_heavy _ _ _ _ _ (sym is ∙ e) f)))
+    pub forked_and_heavy : (r : Refusal) → b ≡ false → IsTooHeavy mid r (fork_of c at test reached other.pieces own k (state_of mid)) → IsTooHeavy old r (forked_behind c op k at test reached own (state_of old))
+    forked_and_heavy r e f = heavy_behind _ _ _ _ _ _ decided_so (second_heavy _ _ _ _ _ (sym is ∙ e) f)
 
 -- ---- `?:`
 
@@ -78,19 +77,13 @@ module _ (c : Call) (k : CType) (at colon : Place) (test : PureTree) (later late
   acts_so : (b : Bool) → acts later ≡ b → acts later1 ≡ b
   acts_so b e = ap acts (sym is) ∙ e
 
-  pub chosen_plain : (mid new : Stock) (x y v : PureTree) → acts later ≡ false → IsMade old mid x (left (state_of old)) → IsMade mid new y (right (state_of mid)) → v ≡ tree.choice test x y k
-      → IsMade old new v (chosen c k at colon test later1 left right (state_of old))
+  pub chosen_plain : (new : Stock) (v : PureTree) → acts later ≡ false → IsMade old new v (chosen_in_place k test left right (state_of old)) → IsMade old new v (chosen c k at colon test later1 left right (state_of old))
   unfolding chosen
-  chosen_plain mid new x y v e h g same = second_made _ _ _ _ _ _ (acts_so false e) (made_behind _ _ _ _ _ _ _ h (made_behind _ _ _ _ _ _ _ g (given _ _ _ same)))
+  chosen_plain new v e h = second_made _ _ _ _ _ _ (acts_so false e) h
 
-  pub chosen_plain_heavy : (r : Refusal) → acts later ≡ false → IsTooHeavy old r (left (state_of old)) → IsTooHeavy old r (chosen c k at colon test later1 left right (state_of old))
+  pub chosen_plain_heavy : (r : Refusal) → acts later ≡ false → IsTooHeavy old r (chosen_in_place k test left right (state_of old)) → IsTooHeavy old r (chosen c k at colon test later1 left right (state_of old))
   unfolding chosen
-  chosen_plain_heavy r e h = second_heavy _ _ _ _ _ (acts_so false e) (heavy_at_once _ _ _ _ h)
-
-  pub chosen_plain_heavy_second : (mid : Stock) (x : PureTree) (r : Refusal) → acts later ≡ false → IsMade old mid x (left (state_of old)) → IsTooHeavy mid r (right (state_of mid))
-      → IsTooHeavy old r (chosen c k at colon test later1 left right (state_of old))
-  unfolding chosen
-  chosen_plain_heavy_second mid x r e h g = second_heavy _ _ _ _ _ (acts_so false e) (heavy_behind _ _ _ _ _ _ h (heavy_at_once _ _ _ _ g))
+  chosen_plain_heavy r e h = second_heavy _ _ _ _ _ (acts_so false e) h
 
   pub chosen_heavy_saved : (r : Refusal) → acts later ≡ true → IsTooHeavy old r (save c.file_variables test later (state_of old)) → IsTooHeavy old r (chosen c k at colon test later1 left right (state_of old))
   unfolding chosen

@@ -5,3 +5,4 @@ pub mod Callees
 pub mod Chains
 pub mod Loops
 pub mod Outlines
+pub mod InPlace

@@ -11,7 +11,9 @@ ghost use Rattle.c_expand.specs.Callees.{callee_of, call_at, given_of};
 ghost use Rattle.c_expand.specs.Expressions.{argument, arguments, called};
 ghost use Rattle.c_expand.specs.Expansion.{run_through, end_of, homes_for, parameter, parameters, locals, value_of, opened};
 
+use crate::emitting::mark;
 use crate::expressions::expression;
+use crate::held::{Held, save, set};
 use crate::here::{Here, deeper, one_more_open};
 use crate::statements::block;
 use c_token::ctype::CType;
@@ -23,7 +25,6 @@ use piece_making::effects::{Effects, effects_of_arguments};
 use piece_making::frame::{Context, Frame, Home};
 use piece_making::leaving::any_leaves;
 use piece_making::objects::local;
-use piece_making::saving::save;
 use piece_making::work::Work;
 use pieces::piece::{CallId, Piece};
 use pieces::pure_expr::Pure;
@@ -34,7 +35,7 @@ use std::alloc::{AllocError, Global};
 /// What is given for a parameter: a value, or an array of the caller.
 #[derive(Drop)]
 pub enum Given {
-    Value(Pure),
+    Value(Held),
     Array(ArrayId),
 }
 
@@ -47,7 +48,7 @@ pub fn called(
     function: u32,
     args: &[Argument],
     at: Place,
-) -> Result<Option<Pure>, Fail>
+) -> Result<Option<Held>, Fail>
     ensures made { IfOk result (λ v. IsMade (stock work.old) (stock work.new) (option_map pure_of v) (called (callee_of here.entry) (call_at here.entry) function (argument_row (map core_argument_of args.now)) at (state_of (stock work.old)))) }
     ensures refused { IfRefused result (λ r. IsTooHeavy (stock work.old) r (called (callee_of here.entry) (call_at here.entry) function (argument_row (map core_argument_of args.now)) at (state_of (stock work.old)))) }
 {
@@ -75,7 +76,7 @@ fn opened(
     function: &CoreFunction,
     given: Vec<Given>,
     at: Place,
-) -> Result<Option<Pure>, Fail>
+) -> Result<Option<Held>, Fail>
     ensures made { IfOk result (λ v. IsMade (stock work.old) (stock work.new) (option_map pure_of v) (opened (callee_of here.entry) (core_function_of function.now) (map given_of given.items) (call_at here.entry) at (state_of (stock work.old)))) }
     ensures refused { IfRefused result (λ r. IsTooHeavy (stock work.old) r (opened (callee_of here.entry) (core_function_of function.now) (map given_of given.items) (call_at here.entry) at (state_of (stock work.old)))) }
 {
@@ -106,16 +107,21 @@ fn opened(
         },
         work,
     )?;
-    Ok(value_of(result, function.result))
+    Ok(value_of(context.alloc, result, function.result)?)
 }
 
 /// The variable of a call's result.
-fn value_of(variable: Option<VarId>, kind: Option<CType>) -> Option<Pure>
-    ensures { option_map pure_of result ≡ value_of variable kind }
+#[inline(never)]
+fn value_of(
+    alloc: Global,
+    variable: Option<VarId>,
+    kind: Option<CType>,
+) -> Result<Option<Held>, AllocError>
+    ensures { IfOk result (λ v. option_map pure_of v ≡ value_of variable kind) }
 {
     match (variable, kind) {
-        (Some(own), Some(kind)) => Some(Pure::Variable(own, kind)),
-        _ => None,
+        (Some(own), Some(kind)) => Ok(Some(Held::new(alloc, Pure::Variable(own, kind))?)),
+        _ => Ok(None),
     }
 }
 
@@ -131,8 +137,7 @@ pub fn run_through(here: Here, work: &mut Work) -> Result<(), Fail>
     let frame = here.frame;
     let at = frame.function.at;
     let body = frame.function.body.as_slice();
-    let begin = frame.point(PointKind::Begin, at)?;
-    work.mark(begin)?;
+    mark(frame, work, PointKind::Begin, at)?;
     block(here, work, body, true)?;
     let point = frame.point(PointKind::End, at)?;
     let leaves = any_leaves(body, true);
@@ -239,7 +244,7 @@ fn parameter(work: &mut Work, object: &CoreObject, given: Given) -> Result<Home,
         Given::Array(array) => Ok(Home::Array(array)),
         Given::Value(value) => {
             let own = work.fresh(object.kind)?;
-            work.set(own, value)?;
+            set(work, own, value)?;
             Ok(Home::Variable(own))
         }
     }

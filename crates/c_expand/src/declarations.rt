@@ -10,11 +10,11 @@ ghost use Rattle.c_expand.specs.Callees.{callee_of, call_at};
 ghost use Rattle.c_expand.specs.Statements.{declare, scalar_declared, initialised, filled, item_value, subscripts_at, at_least_one};
 
 use crate::expressions::expression;
+use crate::held::{Held, bit, set};
 use crate::here::{Here, deeper};
 use c_value::kind::INT;
 use hls_base::number::{ArrayId, VarId};
 use hls_base::refusal::{Fail, impossible};
-use piece_making::build::bit;
 use piece_making::frame::Home;
 use piece_making::objects::local_array;
 use piece_making::work::Work;
@@ -56,7 +56,7 @@ fn declare_scalar(here: Here, work: &mut Work, own: VarId, init: &CoreInit) -> R
         CoreInit::Unwritten => work.charge(1),
         CoreInit::Scalar(e) => {
             let value = expression(here, work, e)?;
-            work.set(own, value)
+            set(work, own, value)
         }
         CoreInit::Elements(_) => Ok(()),
     }
@@ -102,21 +102,21 @@ fn fill(
     for (i, item) in items.iter().enumerate() {
         let value = item_value(here, work, item)?;
         let subscripts = subscripts_at(alloc, lengths, i as u64)?;
-        work.put(array, subscripts, value, at)?;
+        work.put(array, subscripts, value.into_inner(), at)?;
     }
     Ok(())
 }
 
 /// The value of an item. A missing one is 0.
 #[cycle(expansion)]
-fn item_value(here: Here, work: &mut Work, item: &Option<CoreExpr>) -> Result<Pure, Fail>
+fn item_value(here: Here, work: &mut Work, item: &Option<CoreExpr>) -> Result<Held, Fail>
     ensures made { IfOk result (λ v. IsMade (stock work.old) (stock work.new) (pure_of v) (item_value (callee_of here.entry) (call_at here.entry) (option_map core_of item.now) (state_of (stock work.old)))) }
     ensures refused { IfRefused result (λ r. IsTooHeavy (stock work.old) r (item_value (callee_of here.entry) (call_at here.entry) (option_map core_of item.now) (state_of (stock work.old)))) }
 {
     let depth = deeper(here.depth)?;
     let here = Here { depth, ..here };
     match item {
-        None => Ok(bit(false)),
+        None => Ok(bit(here.frame.context.alloc, false)?),
         Some(e) => expression(here, work, e),
     }
 }

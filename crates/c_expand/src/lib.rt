@@ -2,9 +2,12 @@
 #![tactic(auto)]
 
 mod calls;
+mod chain;
 mod declarations;
+mod emitting;
 pub mod expand;
 mod expressions;
+mod held;
 mod here;
 mod operators;
 mod statements;

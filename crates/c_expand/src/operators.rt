@@ -8,10 +8,14 @@ ghost use Rattle.piece_making.specs.Calls.{call_of};
 ghost use Rattle.piece_making.specs.Saving.{is_logical};
 ghost use Rattle.piece_making.specs.Stocks.{IsMade, IsTooHeavy, state_of, stock};
 ghost use Rattle.c_expand.specs.Callees.{callee_of, call_at};
+ghost use Rattle.pieces.specs.Trees as tree;
 ghost use Rattle.c_expand.specs.Chains.{link};
+ghost use Rattle.c_expand.specs.InPlace.{operated_in_place, chosen_in_place, forked_behind};
 ghost use Rattle.c_expand.specs.Expressions.{expression, operated, forked, chosen, arm, decided, same, to_bool, fork_of, is_call, may_be_unused, comma_left, discarded, set_unused, is_or};
 
+use crate::emitting::mark;
 use crate::expressions::expression;
+use crate::held::{Held, HeldChange, assigned, binary, cast, choice, save, set, unary};
 use crate::here::{Here, deeper};
 use c_token::ctype::CType;
 use c_tree::operator::{Binary, Unary};
@@ -19,16 +23,14 @@ use hls_base::number::VarId;
 use hls_base::place::Place;
 use hls_base::point::PointKind;
 use hls_base::refusal::{Fail, impossible};
-use piece_making::assignments::{Change, assigned};
-use piece_making::build::{Operator, binary, bit, cast, choice, unary, variable};
+use piece_making::build::{Operator, bit, variable};
 use piece_making::effects::{Effects, effects_of};
 use piece_making::frame::{Context, Frame};
-use piece_making::saving::save;
 use piece_making::work::Work;
 use pieces::piece::Piece;
-use pieces::pure_expr::Pure;
 use pieces::pure_kind::kind_of;
 use pieces::resolved::expression::CoreExpr;
+use std::alloc::Global;
 
 /// An operator with all but the operand that a chain of operators goes on with. An assignment has the subscripts of its target, which are evaluated before.
 #[derive(Drop)]
@@ -45,7 +47,7 @@ pub enum Step<'e> {
         operator: Operator,
         right: &'e CoreExpr,
     },
-    Assign(Change<'e>),
+    Assign(HeldChange<'e>),
     Comma {
         left: &'e CoreExpr,
         right: &'e CoreExpr,
@@ -55,7 +57,7 @@ pub enum Step<'e> {
 /// An operator behind the operand that it goes on with.
 #[inline(never)]
 #[cycle(expansion)]
-pub fn linked(here: Here, work: &mut Work, step: Step, part: Pure) -> Result<Pure, Fail>
+pub fn linked(here: Here, work: &mut Work, step: Step, part: Held) -> Result<Held, Fail>
     ensures made { IfOk result (λ v. IsMade (stock work.old) (stock work.new) (pure_of v) (link (callee_of here.entry) (call_at here.entry) step.entry (pure_of part) (state_of (stock work.old)))) }
     ensures refused { IfRefused result (λ r. IsTooHeavy (stock work.old) r (link (callee_of here.entry) (call_at here.entry) step.entry (pure_of part) (state_of (stock work.old)))) }
 {
@@ -63,8 +65,8 @@ pub fn linked(here: Here, work: &mut Work, step: Step, part: Pure) -> Result<Pur
     let here = Here { depth, ..here };
     let alloc = here.frame.context.alloc;
     match step {
-        Step::Unary { op, kind, at } => Ok(unary(alloc, op, part, kind, at)?),
-        Step::Cast { to } => Ok(cast(alloc, to, part)?),
+        Step::Unary { op, kind, at } => unary_of(alloc, op, part, kind, at),
+        Step::Cast { to } => cast_to(alloc, to, part),
         Step::Binary { operator, right } => operated(here, work, operator, part, right),
         Step::Assign(change) => assigned(here.frame, work, change, part),
         Step::Comma { left, right } => {
@@ -75,12 +77,29 @@ pub fn linked(here: Here, work: &mut Work, step: Step, part: Pure) -> Result<Pur
     }
 }
 
+#[inline(never)]
+fn unary_of(alloc: Global, op: Unary, arg: Held, kind: CType, at: Place) -> Result<Held, Fail>
+    ensures made { IfOk result (λ p. pure_of p ≡ tree.unary op (pure_of arg) kind at) }
+    ensures refused { IfRefused result (λ r. ⊥) }
+{
+    Ok(unary(alloc, op, arg, kind, at)?)
+}
+
+#[inline(never)]
+fn cast_to(alloc: Global, to: CType, arg: Held) -> Result<Held, Fail>
+    ensures made { IfOk result (λ p. pure_of p ≡ tree.cast to (pure_of arg)) }
+    ensures refused { IfRefused result (λ r. ⊥) }
+{
+    Ok(cast(alloc, to, arg)?)
+}
+
 /// The left operand of a comma. What it reads is saved where the right operand has effects, unless it is a call. Its value is not used.
+#[inline(never)]
 fn comma_left(
     context: &Context,
     work: &mut Work,
     left: &CoreExpr,
-    value: Pure,
+    value: Held,
     later: Effects,
 ) -> Result<(), Fail>
     ensures made { IfOk result (λ v. IsMade (stock work.old) (stock work.new) v (comma_left context.now.file_variables (core_of left.now) (pure_of value) later (state_of (stock work.old)))) }
@@ -114,7 +133,7 @@ fn may_be_unused(e: &CoreExpr) -> bool
 }
 
 /// A value that is not used. It is set into a variable of its own, unless it may be let go.
-pub fn discard(work: &mut Work, is_let_go: bool, value: Pure) -> Result<(), Fail>
+pub fn discard(work: &mut Work, is_let_go: bool, value: Held) -> Result<(), Fail>
     ensures made { IfOk result (λ v. IsMade (stock work.old) (stock work.new) v (discarded is_let_go (pure_of value) (state_of (stock work.old)))) }
     ensures refused { IfRefused result (λ r. IsTooHeavy (stock work.old) r (discarded is_let_go (pure_of value) (state_of (stock work.old)))) }
 {
@@ -125,10 +144,11 @@ pub fn discard(work: &mut Work, is_let_go: bool, value: Pure) -> Result<(), Fail
 }
 
 /// A value that is not used is set into a variable of its own.
-fn set_unused(work: &mut Work, value: Pure) -> Result<(), Fail>
+fn set_unused(work: &mut Work, value: Held) -> Result<(), Fail>
     ensures made { IfOk result (λ v. IsMade (stock work.old) (stock work.new) v (set_unused (pure_of value) (state_of (stock work.old)))) }
     ensures refused { IfRefused result (λ r. IsTooHeavy (stock work.old) r (set_unused (pure_of value) (state_of (stock work.old)))) }
 {
+    let value = value.into_inner();
     let kind = kind_of(&value);
     let _ = work.set_own(kind, value)?;
     Ok(())
@@ -141,9 +161,9 @@ fn operated(
     here: Here,
     work: &mut Work,
     operator: Operator,
-    left: Pure,
+    left: Held,
     right: &CoreExpr,
-) -> Result<Pure, Fail>
+) -> Result<Held, Fail>
     ensures made { IfOk result (λ v. IsMade (stock work.old) (stock work.new) (pure_of v) (operated (call_at here.entry) operator.op operator.kind operator.at (pure_of left) (effects (core_of right.now)) (expression (callee_of here.entry) (call_at here.entry) (core_of right.now)) (state_of (stock work.old)))) }
     ensures refused { IfRefused result (λ r. IsTooHeavy (stock work.old) r (operated (call_at here.entry) operator.op operator.kind operator.at (pure_of left) (effects (core_of right.now)) (expression (callee_of here.entry) (call_at here.entry) (core_of right.now)) (state_of (stock work.old)))) }
 {
@@ -155,8 +175,26 @@ fn operated(
     if is_logical(operator.op) && later.is_some() {
         return forked(here, work, operator, left, right);
     }
+    operated_in_place(here, work, operator, left, right)
+}
+
+/// A binary operator whose right operand is evaluated in place.
+#[inline(never)]
+#[cycle(expansion)]
+fn operated_in_place(
+    here: Here,
+    work: &mut Work,
+    operator: Operator,
+    left: Held,
+    right: &CoreExpr,
+) -> Result<Held, Fail>
+    ensures made { IfOk result (λ v. IsMade (stock work.old) (stock work.new) (pure_of v) (operated_in_place operator.op operator.kind operator.at (pure_of left) (expression (callee_of here.entry) (call_at here.entry) (core_of right.now)) (state_of (stock work.old)))) }
+    ensures refused { IfRefused result (λ r. IsTooHeavy (stock work.old) r (operated_in_place operator.op operator.kind operator.at (pure_of left) (expression (callee_of here.entry) (call_at here.entry) (core_of right.now)) (state_of (stock work.old)))) }
+{
+    let depth = deeper(here.depth)?;
+    let here = Here { depth, ..here };
     let right = expression(here, work, right)?;
-    Ok(binary(context.alloc, operator, left, right)?)
+    Ok(binary(here.frame.context.alloc, operator, left, right)?)
 }
 
 fn is_logical(op: Binary) -> bool
@@ -178,19 +216,45 @@ fn forked(
     here: Here,
     work: &mut Work,
     operator: Operator,
-    test: Pure,
+    test: Held,
     right: &CoreExpr,
-) -> Result<Pure, Fail>
+) -> Result<Held, Fail>
     ensures made { IfOk result (λ v. IsMade (stock work.old) (stock work.new) (pure_of v) (forked (call_at here.entry) operator.op operator.kind operator.at (pure_of test) (expression (callee_of here.entry) (call_at here.entry) (core_of right.now)) (state_of (stock work.old)))) }
     ensures refused { IfRefused result (λ r. IsTooHeavy (stock work.old) r (forked (call_at here.entry) operator.op operator.kind operator.at (pure_of test) (expression (callee_of here.entry) (call_at here.entry) (core_of right.now)) (state_of (stock work.old)))) }
 {
     let depth = deeper(here.depth)?;
     let here = Here { depth, ..here };
+    let own = work.fresh(operator.kind)?;
+    let pieces = truth_arm(here, work, own, right, operator.at)?;
+    fork_behind(here.frame, work, operator, test, Reached { own, pieces })
+}
+
+/// The branch that evaluates the right operand of a `&&` or `||`, and the variable that it sets.
+#[derive(Drop)]
+struct Reached {
+    own: VarId,
+    pieces: Vec<Piece>,
+}
+
+/// A `&&` or `||` behind the branch that evaluates its right operand.
+#[inline(never)]
+fn fork_behind(
+    frame: &Frame,
+    work: &mut Work,
+    operator: Operator,
+    test: Held,
+    reached: Reached,
+) -> Result<Held, Fail>
+    ensures made { IfOk result (λ v. IsMade (stock work.old) (stock work.new) (pure_of v) (forked_behind (call_of frame.now) operator.op operator.kind operator.at (pure_of test) (map piece_of reached.pieces.items) reached.own (state_of (stock work.old)))) }
+    ensures refused { IfRefused result (λ r. IsTooHeavy (stock work.old) r (forked_behind (call_of frame.now) operator.op operator.kind operator.at (pure_of test) (map piece_of reached.pieces.items) reached.own (state_of (stock work.old)))) }
+{
     let Operator { op, kind, at } = operator;
-    let own = work.fresh(kind)?;
-    let reached = truth_arm(here, work, own, right, at)?;
+    let Reached {
+        own,
+        pieces: reached,
+    } = reached;
     let is_or = is_or(op);
-    let other = decided(here.frame, work, own, is_or)?;
+    let other = decided(frame, work, own, is_or)?;
     if is_or {
         let arms = Arms {
             yes: other,
@@ -199,7 +263,7 @@ fn forked(
             kind,
             at,
         };
-        fork(here.frame, work, test, arms)
+        fork(frame, work, test, arms)
     } else {
         let arms = Arms {
             yes: reached,
@@ -208,7 +272,7 @@ fn forked(
             kind,
             at,
         };
-        fork(here.frame, work, test, arms)
+        fork(frame, work, test, arms)
     }
 }
 
@@ -223,7 +287,8 @@ struct Arms {
 }
 
 /// A fork of an operator. Its value stands in the variable that the arms set.
-fn fork(frame: &Frame, work: &mut Work, test: Pure, arms: Arms) -> Result<Pure, Fail>
+#[inline(never)]
+fn fork(frame: &Frame, work: &mut Work, test: Held, arms: Arms) -> Result<Held, Fail>
     ensures made { IfOk result (λ v. IsMade (stock work.old) (stock work.new) (pure_of v) (fork_of (call_of frame.now) arms.at (pure_of test) (map piece_of arms.yes.items) (map piece_of arms.no.items) arms.own arms.kind (state_of (stock work.old)))) }
     ensures refused { IfRefused result (λ r. IsTooHeavy (stock work.old) r (fork_of (call_of frame.now) arms.at (pure_of test) (map piece_of arms.yes.items) (map piece_of arms.no.items) arms.own arms.kind (state_of (stock work.old)))) }
 {
@@ -235,11 +300,13 @@ fn fork(frame: &Frame, work: &mut Work, test: Pure, arms: Arms) -> Result<Pure, 
         at,
     } = arms;
     let end = frame.point(PointKind::End, at)?;
+    let test = test.into_inner();
     work.emit(Piece::Fork { test, yes, no, end })?;
-    Ok(variable(own, kind))
+    Ok(Held::new(frame.context.alloc, variable(own, kind))?)
 }
 
 /// The branch of a `&&` or `||` that sets the number 0 or 1.
+#[inline(never)]
 fn decided(frame: &Frame, work: &mut Work, own: VarId, is_one: bool) -> Result<Vec<Piece>, Fail>
     ensures made { IfOk result (λ v. IsMade (stock work.old) (stock work.new) (record { value = tt; pieces = map piece_of v.items }) (decided is_one own (state_of (stock work.old)))) }
     ensures refused { IfRefused result (λ r. IsTooHeavy (stock work.old) r (decided is_one own (state_of (stock work.old)))) }
@@ -267,11 +334,10 @@ fn truth_arm(
     let here = Here { depth, ..here };
     let alloc = here.frame.context.alloc;
     let outer = work.begin(alloc);
-    let point = here.frame.point(PointKind::Arm, at)?;
-    work.mark(point)?;
+    mark(here.frame, work, PointKind::Arm, at)?;
     let value = expression(here, work, e)?;
     let truth = cast(alloc, CType::Bool, value)?;
-    work.set(own, truth)?;
+    set(work, own, truth)?;
     Ok(work.finish(outer))
 }
 
@@ -285,10 +351,9 @@ fn arm(here: Here, work: &mut Work, own: VarId, e: &CoreExpr, at: Place) -> Resu
     let depth = deeper(here.depth)?;
     let here = Here { depth, ..here };
     let outer = work.begin(here.frame.context.alloc);
-    let point = here.frame.point(PointKind::Arm, at)?;
-    work.mark(point)?;
+    mark(here.frame, work, PointKind::Arm, at)?;
     let value = expression(here, work, e)?;
-    work.set(own, value)?;
+    set(work, own, value)?;
     Ok(work.finish(outer))
 }
 
@@ -305,7 +370,7 @@ struct Choice<'e> {
 /// A `?:`.
 #[inline(never)]
 #[cycle(expansion)]
-pub fn chosen(here: Here, work: &mut Work, e: &CoreExpr) -> Result<Pure, Fail>
+pub fn chosen(here: Here, work: &mut Work, e: &CoreExpr) -> Result<Held, Fail>
     ensures made { IfOk result (λ v. IsMade (stock work.old) (stock work.new) (pure_of v) (expression (callee_of here.entry) (call_at here.entry) (core_of e.now) (state_of (stock work.old)))) }
     ensures refused { IfRefused result (λ r. IsTooHeavy (stock work.old) r (expression (callee_of here.entry) (call_at here.entry) (core_of e.now) (state_of (stock work.old)))) }
 {
@@ -337,7 +402,7 @@ pub fn chosen(here: Here, work: &mut Work, e: &CoreExpr) -> Result<Pure, Fail>
 /// A `?:` behind its test. It becomes a fork where its second or third operand needs pieces of its own.
 #[inline(never)]
 #[cycle(expansion)]
-fn selected(here: Here, work: &mut Work, test: Pure, operands: Choice) -> Result<Pure, Fail>
+fn selected(here: Here, work: &mut Work, test: Held, operands: Choice) -> Result<Held, Fail>
     ensures made { IfOk result (λ v. IsMade (stock work.old) (stock work.new) (pure_of v) (chosen (call_at here.entry) operands.entry.kind operands.entry.at operands.entry.colon (pure_of test) (either (effects (core_of operands.entry.yes.now)) (effects (core_of operands.entry.no.now))) (expression (callee_of here.entry) (call_at here.entry) (core_of operands.entry.yes.now)) (expression (callee_of here.entry) (call_at here.entry) (core_of operands.entry.no.now)) (state_of (stock work.old)))) }
     ensures refused { IfRefused result (λ r. IsTooHeavy (stock work.old) r (chosen (call_at here.entry) operands.entry.kind operands.entry.at operands.entry.colon (pure_of test) (either (effects (core_of operands.entry.yes.now)) (effects (core_of operands.entry.no.now))) (expression (callee_of here.entry) (call_at here.entry) (core_of operands.entry.yes.now)) (expression (callee_of here.entry) (call_at here.entry) (core_of operands.entry.no.now)) (state_of (stock work.old)))) }
 {
@@ -355,9 +420,7 @@ fn selected(here: Here, work: &mut Work, test: Pure, operands: Choice) -> Result
     let third = effects_of(no);
     let later = second.or(third);
     if !later.is_some() {
-        let yes = expression(here, work, yes)?;
-        let no = expression(here, work, no)?;
-        return Ok(choice(context.alloc, kind, test, yes, no)?);
+        return chosen_in_place(here, work, test, operands);
     }
     let test = save(context, work, test, later)?;
     let own = work.fresh(kind)?;
@@ -375,4 +438,19 @@ fn selected(here: Here, work: &mut Work, test: Pure, operands: Choice) -> Result
             at,
         },
     )
+}
+
+/// A `?:` behind its test whose second and third operand are evaluated in place.
+#[inline(never)]
+#[cycle(expansion)]
+fn chosen_in_place(here: Here, work: &mut Work, test: Held, operands: Choice) -> Result<Held, Fail>
+    ensures made { IfOk result (λ v. IsMade (stock work.old) (stock work.new) (pure_of v) (chosen_in_place operands.entry.kind (pure_of test) (expression (callee_of here.entry) (call_at here.entry) (core_of operands.entry.yes.now)) (expression (callee_of here.entry) (call_at here.entry) (core_of operands.entry.no.now)) (state_of (stock work.old)))) }
+    ensures refused { IfRefused result (λ r. IsTooHeavy (stock work.old) r (chosen_in_place operands.entry.kind (pure_of test) (expression (callee_of here.entry) (call_at here.entry) (core_of operands.entry.yes.now)) (expression (callee_of here.entry) (call_at here.entry) (core_of operands.entry.no.now)) (state_of (stock work.old)))) }
+{
+    let depth = deeper(here.depth)?;
+    let here = Here { depth, ..here };
+    let yes = expression(here, work, operands.yes)?;
+    let no = expression(here, work, operands.no)?;
+    let alloc = here.frame.context.alloc;
+    Ok(choice(alloc, operands.kind, test, yes, no)?)
 }

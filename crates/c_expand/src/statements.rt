@@ -9,22 +9,23 @@ ghost use Rattle.piece_making.specs.Making.{inside};
 ghost use Rattle.piece_making.specs.Calls.{call_of};
 ghost use Rattle.piece_making.specs.Stocks.{IsMade, IsTooHeavy, state_of, stock};
 ghost use Rattle.c_expand.specs.Callees.{callee_of, call_at};
-ghost use Rattle.c_expand.specs.Loops.{loop_of, loop_tree, repeat_of, test_of};
+ghost use Rattle.c_expand.specs.Loops.{loop_of, loop_tree, repeat_of, test_of, if_of};
 ghost use Rattle.c_expand.specs.Statements.{statement, statements, other_branch, branch, labelled, switched, loop_body, stepped, tested, returned, result_set, actions, action, changed, valued};
 
 use crate::declarations::declare;
+use crate::emitting::{
+    Branches, Cases, Turn, emit_break, emit_fork, emit_next, emit_pick, emit_repeat, mark,
+};
 use crate::expressions::{assignment, expression, step_by_one};
+use crate::held::{Held, apply, bit, set};
 use crate::here::{Here, deeper};
 use crate::operators::{discard, is_call};
 use hls_base::place::Place;
 use hls_base::point::PointKind;
 use hls_base::refusal::{Fail, impossible};
-use piece_making::assignments::apply;
-use piece_making::build::bit;
 use piece_making::frame::Frame;
 use piece_making::work::Work;
 use pieces::piece::Piece;
-use pieces::pure_expr::Pure;
 use pieces::resolved::expression::CoreExpr;
 use pieces::resolved::statement::{CoreAction, CoreElse, CoreStmt};
 
@@ -64,11 +65,17 @@ fn statement(here: Here, work: &mut Work, stmt: &CoreStmt, tail: bool) -> Result
         CoreStmt::Declare { object, init } => declare(here, work, *object, init),
         CoreStmt::Act(list) => actions(here, work, list),
         CoreStmt::If { test, yes, no, at } => {
-            let test = expression(here, work, test)?;
-            let yes = branch(here, work, yes, tail, *at)?;
-            let no = second_branch(here, work, no, tail)?;
-            let end = here.frame.point(PointKind::End, *at)?;
-            work.emit(Piece::Fork { test, yes, no, end })
+            conditional(
+                here,
+                work,
+                If {
+                    test,
+                    yes,
+                    no,
+                    at: *at,
+                },
+                tail,
+            )
         }
         CoreStmt::Switch { test, body, at, .. } => switch(here, work, test, body, *at),
         CoreStmt::Case { value, body, at } => {
@@ -88,13 +95,38 @@ fn statement(here: Here, work: &mut Work, stmt: &CoreStmt, tail: bool) -> Result
             block(here, work, init, false)?;
             repeat(here, work, Loop::of_for(test, step, body, *at))
         }
-        CoreStmt::Break => work.emit(Piece::Break),
-        CoreStmt::Continue => work.emit(Piece::Next),
+        CoreStmt::Break => emit_break(work),
+        CoreStmt::Continue => emit_next(work),
         CoreStmt::Return(value) => returned(here, work, value, tail),
     }
 }
 
+/// The parts of an `if`.
+#[derive(Clone, Copy)]
+pub struct If<'s> {
+    test: &'s CoreExpr,
+    yes: &'s CoreStmt,
+    no: &'s Option<CoreElse>,
+    at: Place,
+}
+
+#[inline(never)]
+#[cycle(expansion)]
+fn conditional(here: Here, work: &mut Work, parts: If, tail: bool) -> Result<(), Fail>
+    ensures made { IfOk result (λ v. IsMade (stock work.old) (stock work.new) v (statement (callee_of here.entry) (call_at here.entry) (if_of parts.entry) tail (state_of (stock work.old)))) }
+    ensures refused { IfRefused result (λ r. IsTooHeavy (stock work.old) r (statement (callee_of here.entry) (call_at here.entry) (if_of parts.entry) tail (state_of (stock work.old)))) }
+{
+    let depth = deeper(here.depth)?;
+    let here = Here { depth, ..here };
+    let If { test, yes, no, at } = parts;
+    let test = expression(here, work, test)?;
+    let yes = branch(here, work, yes, tail, at)?;
+    let no = second_branch(here, work, no, tail)?;
+    emit_fork(here.frame, work, test, Branches { yes, no }, at)
+}
+
 /// A branch of an `if`.
+#[inline(never)]
 #[cycle(expansion)]
 fn branch(
     here: Here,
@@ -109,8 +141,7 @@ fn branch(
     let depth = deeper(here.depth)?;
     let here = Here { depth, ..here };
     let outer = work.begin(here.frame.context.alloc);
-    let point = here.frame.point(PointKind::Arm, at)?;
-    work.mark(point)?;
+    mark(here.frame, work, PointKind::Arm, at)?;
     statement(here, work, stmt, tail)?;
     Ok(work.finish(outer))
 }
@@ -134,13 +165,13 @@ fn second_branch(
 }
 
 /// A label of the switch round it, and its mark.
+#[inline(never)]
 fn label(frame: &Frame, work: &mut Work, value: Option<u64>, at: Place) -> Result<(), Fail>
     ensures made { IfOk result (λ v. IsMade (stock work.old) (stock work.new) v (labelled (call_of frame.now) value at (state_of (stock work.old)))) }
     ensures refused { IfRefused result (λ r. IsTooHeavy (stock work.old) r (labelled (call_of frame.now) value at (state_of (stock work.old)))) }
 {
     work.label(value)?;
-    let point = frame.point(PointKind::Arm, at)?;
-    work.mark(point)
+    mark(frame, work, PointKind::Arm, at)
 }
 
 #[inline(never)]
@@ -164,13 +195,7 @@ fn switch(
     block(here, work, body, false)?;
     let labels = work.finish_labels(outer_labels);
     let body = work.finish(outer);
-    let end = here.frame.point(PointKind::End, at)?;
-    work.emit(Piece::Pick {
-        test,
-        labels,
-        body,
-        end,
-    })
+    emit_pick(here.frame, work, test, Cases { labels, body }, at)
 }
 
 /// The parts of a loop. Without a test it has the number 1.
@@ -247,38 +272,35 @@ fn repeat(here: Here, work: &mut Work, parts: Loop) -> Result<(), Fail>
     let alloc = here.frame.context.alloc;
     let id = work.next_loop()?;
     let outer = work.begin(alloc);
-    let start = here.frame.point(PointKind::Test, at)?;
-    work.mark(start)?;
+    mark(here.frame, work, PointKind::Test, at)?;
     let test = tested(here, work, test)?;
     let before = work.finish(outer);
     let body = loop_body(here, work, body, at)?;
     let step = step_of(here, work, step, at)?;
-    let end = here.frame.point(PointKind::End, at)?;
-    work.emit(Piece::Repeat {
-        id,
-        post,
+    let turn = Turn {
         before,
         test,
         body,
         step,
-        end,
-    })
+    };
+    emit_repeat(here.frame, work, id, post, turn, at)
 }
 
 #[cycle(expansion)]
-fn tested(here: Here, work: &mut Work, test: Option<&CoreExpr>) -> Result<Pure, Fail>
+fn tested(here: Here, work: &mut Work, test: Option<&CoreExpr>) -> Result<Held, Fail>
     ensures made { IfOk result (λ v. IsMade (stock work.old) (stock work.new) (pure_of v) (tested (callee_of here.entry) (call_at here.entry) (test_of test.entry) (state_of (stock work.old)))) }
     ensures refused { IfRefused result (λ r. IsTooHeavy (stock work.old) r (tested (callee_of here.entry) (call_at here.entry) (test_of test.entry) (state_of (stock work.old)))) }
 {
     let depth = deeper(here.depth)?;
     let here = Here { depth, ..here };
     match test {
-        None => Ok(bit(true)),
+        None => Ok(bit(here.frame.context.alloc, true)?),
         Some(test) => expression(here, work, test),
     }
 }
 
 /// The body of a loop, behind its mark.
+#[inline(never)]
 #[cycle(expansion)]
 fn loop_body(here: Here, work: &mut Work, body: &CoreStmt, at: Place) -> Result<Vec<Piece>, Fail>
     ensures made { IfOk result (λ v. IsMade (stock work.old) (stock work.new) (record { value = tt; pieces = map piece_of v.items }) (loop_body (call_at here.entry) at (statement (callee_of here.entry) (call_at here.entry) (core_stmt_of body.now) false) (state_of (stock work.old)))) }
@@ -287,13 +309,13 @@ fn loop_body(here: Here, work: &mut Work, body: &CoreStmt, at: Place) -> Result<
     let depth = deeper(here.depth)?;
     let here = Here { depth, ..here };
     let outer = work.begin(here.frame.context.alloc);
-    let point = here.frame.point(PointKind::Body, at)?;
-    work.mark(point)?;
+    mark(here.frame, work, PointKind::Body, at)?;
     statement(here, work, body, false)?;
     Ok(work.finish(outer))
 }
 
 /// The third part of a `for`, if there is one.
+#[inline(never)]
 #[cycle(expansion)]
 fn step_of(here: Here, work: &mut Work, step: &[CoreAction], at: Place) -> Result<Vec<Piece>, Fail>
     ensures made { IfOk result (λ v. IsMade (stock work.old) (stock work.new) (record { value = tt; pieces = map piece_of v.items }) (inside (stepped (callee_of here.entry) (call_at here.entry) (map core_action_of step.now) at) (state_of (stock work.old)))) }
@@ -316,12 +338,12 @@ fn stepped(here: Here, work: &mut Work, step: &[CoreAction], at: Place) -> Resul
     if step.is_empty() {
         return Ok(());
     }
-    let point = here.frame.point(PointKind::Step, at)?;
-    work.mark(point)?;
+    mark(here.frame, work, PointKind::Step, at)?;
     actions(here, work, step)
 }
 
 /// A return. In a tail position control goes on to the end of the call by itself.
+#[inline(never)]
 #[cycle(expansion)]
 fn returned(here: Here, work: &mut Work, value: &Option<CoreExpr>, tail: bool) -> Result<(), Fail>
     ensures made { IfOk result (λ v. IsMade (stock work.old) (stock work.new) v (returned (callee_of here.entry) (call_at here.entry) (option_map core_of value.now) tail (state_of (stock work.old)))) }
@@ -349,7 +371,7 @@ fn set_result(here: Here, work: &mut Work, value: &Option<CoreExpr>) -> Result<(
         Some(e) => {
             let value = expression(here, work, e)?;
             let result = here.frame.result.ok_or(impossible())?;
-            work.set(result, value)
+            set(work, result, value)
         }
     }
 }
@@ -402,7 +424,7 @@ fn changed(here: Here, work: &mut Work, e: &CoreExpr) -> Result<(), Fail>
         }
         CoreExpr::Bump { target, up, at, .. } => {
             let change = step_by_one(here, work, target, *up, *at)?;
-            let one = bit(true);
+            let one = bit(here.frame.context.alloc, true)?;
             apply(here.frame, work, change, one)
         }
         _ => valued(here, work, e),

@@ -1,11 +1,10 @@
 -- Shapes by their variants, and rows of parts and arms.
-use Rattle.std.proofs.Common.{vec_len, ◌≡◌, ◌∙◌, ℕ, zero, suc, min, drop, true, false, length, arith, List, [], ◌∷◌, ◌++◌, map, refl, ap, ap₂, sym, Bool, Option, Some, None, Box, Vec, Global}
+use Rattle.std.proofs.Common.{vec_len, ◌≡◌, ◌∙◌, ℕ, zero, suc, min, drop, true, false, length, arith, List, [], ◌∷◌, ◌++◌, map, refl, ap, ap₂, sym, Bool, None, Vec, Global}
 use Rattle.std.proofs.lemmas.Bool.{eqb-true}
 use Rattle.std.proofs.lemmas.List.{map-append}
 use Rattle.std.specs.Prelude.{◌==◌, IfOk}
 use Rattle.std.specs.declared.result.Result.{Result}
 use Rattle.std.specs.declared.result.Result.TheVariants.{Ok, Err}
-use Rattle.std.specs.Option.{option_map}
 use Rattle.hls_base.specs.declared.point.Point.{Point}
 use Rattle.ir_core.specs.declared.body.Body.{Body}
 use Rattle.ir_core.specs.declared.stamp.Untimed.{Untimed}
@@ -15,7 +14,7 @@ use Rattle.ir_core.specs.declared.tree.Sequence.{Sequence, out-Sequence, roll-Se
 use Rattle.ir_core.specs.declared.tree.Shape.TheVariants as v
 use Rattle.ir_core.specs.declared.tree.Shape.TheOpen.{Shape-F}
 use Rattle.ir_core.specs.declared.tree.Shape.TheFolds.{fold_out-Part, fold_out-Sequence, fold-roll-Sequence, fold-roll-Shape}
-use Rattle.ir_core.specs.Trees.{BlockTree, ShapeTree, PartTree, PartTrees, no_part, more_parts, ArmTrees, no_arm, more_arms, SequenceTree, sequence, part_row, part_of, shape_of, block_of, shape_step, part_step, sequence_step, fork, loop, switch, side_of, arm_row, sequence_of, exit_of, break_, overlapped, body_of}
+use Rattle.ir_core.specs.Trees.{BlockTree, ShapeTree, PartTree, PartTrees, no_part, more_parts, ArmTrees, no_arm, more_arms, SequenceTree, sequence, part_row, part_of, shape_of, block_of, shape_step, part_step, sequence_step, arm_row, sequence_of, exit_of, break_, overlapped, body_of}
 use Rattle.passes.specs.Conversion.Merging.{is_only, test_of}
 use Rattle.passes.specs.Conversion.Overlapping.{test_if, test_alone}
 use Rattle.passes.specs.Conversion.{Scope, converted_sequence, converted_behind, converted_parts, converted_shape, converted_arms}
@@ -61,21 +60,6 @@ not_alone s h = ap test_alone (sequence_out s) ∙ by (out-Sequence s).rest.item
   by (p ∷ ps) h = refl
 
 -- ---- shapes by their variants
-
-pub fork_out : (left_ right_ : Option Sequence) (convertible : Bool) → shape_of (v.Fork left_ right_ convertible) ≡ fork (side_of (option_map sequence_of left_)) (side_of (option_map sequence_of right_)) convertible
-fork_out None None convertible = ap shape_of (sym (v.rolls-Fork None None convertible)) ∙ fold-roll-Shape ShapeTree PartTree SequenceTree shape_step part_step sequence_step (Shape-F.Fork None None convertible)
-fork_out None (Some r) convertible = ap shape_of (sym (v.rolls-Fork None (Some r) convertible)) ∙ fold-roll-Shape ShapeTree PartTree SequenceTree shape_step part_step sequence_step (Shape-F.Fork None (Some r) convertible)
-fork_out (Some l) None convertible = ap shape_of (sym (v.rolls-Fork (Some l) None convertible)) ∙ fold-roll-Shape ShapeTree PartTree SequenceTree shape_step part_step sequence_step (Shape-F.Fork (Some l) None convertible)
-fork_out (Some l) (Some r) convertible = ap shape_of (sym (v.rolls-Fork (Some l) (Some r) convertible)) ∙ fold-roll-Shape ShapeTree PartTree SequenceTree shape_step part_step sequence_step (Shape-F.Fork (Some l) (Some r) convertible)
-
-pub loop_out : (post : Bool) (test body : Box Sequence Global) (step : Option (Box Sequence Global)) (eligible : Bool)
-    → shape_of (v.Loop post test body step eligible) ≡ loop post (sequence_of test.value) (sequence_of body.value) (side_of (option_map (λ part. sequence_of part.value) step)) eligible
-loop_out post test body None eligible = ap shape_of (sym (v.rolls-Loop post test body None eligible)) ∙ fold-roll-Shape ShapeTree PartTree SequenceTree shape_step part_step sequence_step (Shape-F.Loop post test body None eligible)
-loop_out post test body (Some step) eligible = ap shape_of (sym (v.rolls-Loop post test body (Some step) eligible)) ∙ fold-roll-Shape ShapeTree PartTree SequenceTree shape_step part_step sequence_step (Shape-F.Loop post test body (Some step) eligible)
-
-pub switch_out : (dead : Vec Part Global) (targets : Vec ℕ Global) (other : Option ℕ) (arms : Vec Sequence Global)
-    → shape_of (v.Choose dead targets other arms) ≡ switch (part_row (map part_of dead.items)) targets.items other (arm_row (map sequence_of arms.items))
-switch_out dead targets other arms = ap shape_of (sym (v.rolls-Choose dead targets other arms)) ∙ fold-roll-Shape ShapeTree PartTree SequenceTree shape_step part_step sequence_step (Shape-F.Choose dead targets other arms)
 
 pub overlapped_out : (point : Point) (body : Body Untimed) → shape_of (v.Overlapped point body) ≡ overlapped point (body_of body)
 overlapped_out point body = ap shape_of (sym (v.rolls-Overlapped point body)) ∙ fold-roll-Shape ShapeTree PartTree SequenceTree shape_step part_step sequence_step (Shape-F.Overlapped point body)

@@ -1,16 +1,18 @@
 //! All forks and loops of a program.
 ghost use Rattle.std.specs.Prelude.{◌≡◌, ◌&&◌, IfOk, map};
 ghost use Rattle.std.specs.Option.{option_map};
-ghost use Rattle.ir_core.specs.Trees.{sequence_of, shape_of, part_of, part_row, side_of, arm_row, break_};
+ghost use Rattle.ir_core.specs.Trees.{sequence_of, shape_of, block_of, part_of, part_row, PartTrees, side_of, arm_row};
 ghost use Rattle.passes.specs.Conversion as spec;
-ghost use Rattle.if_convert.specs.Blocks.{scope_of, open_of};
+ghost use Rattle.if_convert.specs.Blocks.{scope_of, last_of, before_last, behind_shape};
 
-use crate::line::{Line, close, go_on};
-use crate::merging::{Open, Scope};
-use crate::overlap::{Parts, converted_loop};
-use hls_base::place::{Path, Place};
-use hls_base::point::{Point, PointKind};
-use ir_core::tree::{BasicBlock, BlockTree, Exit, Part, Sequence, Shape};
+use crate::boxes::{
+    Held, SplitPart, SplitSequence, SplitShape, held_items, push_from, split_part, split_sequence,
+    split_shape, whole_shape,
+};
+use crate::line::Line;
+use crate::merging::Scope;
+use crate::steps::{Round, begin, begin_nowhere, close, converted_loop, go_on};
+use ir_core::tree::{BlockTree, Part, Sequence, Shape};
 use std::alloc::{AllocError, Global};
 
 /// The program in which each convertible fork is merged into the block before it, and, with `loops`, each eligible loop is one whose iterations may overlap.
@@ -29,59 +31,58 @@ pub fn convert(alloc: Global, tree: BlockTree, loops: bool) -> Result<BlockTree,
         variables: frame.variables.as_slice(),
         loops,
     };
+    let blocks = Held::new(alloc, blocks)?;
     let blocks = convert_sequence(scope, blocks)?;
     Ok(BlockTree {
         frame,
-        blocks,
+        blocks: blocks.into_inner(),
         result,
     })
 }
 
+#[inline(never)]
 #[cycle(sequence)]
-fn convert_sequence(scope: Scope<'_>, sequence: Sequence) -> Result<Sequence, AllocError>
-    ensures { IfOk result (λ converted. sequence_of converted ≡ spec.converted_sequence (scope_of scope.entry) (sequence_of sequence)) }
+fn convert_sequence(
+    scope: Scope<'_>,
+    sequence: Held<Sequence>,
+) -> Result<Held<Sequence>, AllocError>
+    ensures { IfOk result (λ converted. sequence_of converted.value ≡ spec.converted_sequence (scope_of scope.entry) (sequence_of sequence.value)) }
 {
-    let Sequence { first, rest } = sequence;
-    let open = Open::new(scope.alloc, first)?;
-    convert_behind(scope, open, rest)
+    let SplitSequence { first, rest } = split_sequence(scope.alloc, sequence)?;
+    let line = begin(scope.alloc, first)?;
+    convert_behind(scope, line, rest)
 }
 
-/// A block, and the parts behind it.
+/// The parts behind a line.
+#[inline(never)]
 #[cycle(sequence)]
-fn convert_behind(scope: Scope<'_>, first: Open, parts: Vec<Part>) -> Result<Sequence, AllocError>
-    ensures { IfOk result (λ converted. sequence_of converted ≡ spec.converted_behind (scope_of scope.entry) (open_of first) (part_row (map part_of parts.items))) }
+fn convert_behind(
+    scope: Scope<'_>,
+    line: Held<Line>,
+    parts: Vec<Part>,
+) -> Result<Held<Sequence>, AllocError>
+    ensures { IfOk result (λ converted. sequence_of converted.value ≡ before_last line.value (spec.converted_behind (scope_of scope.entry) (last_of line.value) (part_row (map part_of parts.items)))) }
 {
-    let mut line = Line::Single(first);
-    for part in parts {
-        let Part { shape, after } = part;
-        let shape = convert_shape(scope, shape)?;
-        line = go_on(scope, line, shape, after)?;
+    let mut line = line;
+    for part in held_items(scope.alloc, parts)? {
+        line = convert_part(scope, line, part)?;
     }
     close(scope.alloc, line)
 }
 
-/// A block that leads to nothing, to stand before parts that nothing leads to.
-fn nowhere(alloc: Global) -> Result<Open, AllocError>
-    ensures { IfOk result (λ opened. (open_of opened).exit ≡ break_) }
+/// A part behind a line.
+#[inline(never)]
+#[cycle(sequence)]
+fn convert_part(
+    scope: Scope<'_>,
+    line: Held<Line>,
+    part: Held<Part>,
+) -> Result<Held<Line>, AllocError>
+    ensures { (more : PartTrees) → IfOk result (λ gone. before_last gone.value (spec.converted_behind (scope_of scope.entry) (last_of gone.value) more) ≡ before_last line.value (behind_shape (scope_of scope.entry) (last_of line.value) (spec.converted_shape (scope_of scope.entry) (shape_of part.value.shape)) (block_of part.value.after) more)) }
 {
-    let point = Point {
-        path: Path::new(Vec::new(alloc)),
-        at: Place {
-            line: 0,
-            column: 0,
-            part: 0,
-        },
-        kind: PointKind::Begin,
-    };
-    Open::new(
-        alloc,
-        BasicBlock {
-            point,
-            ops: Vec::new(alloc),
-            outs: Vec::new(alloc),
-            exit: Exit::Break,
-        },
-    )
+    let SplitPart { shape, after } = split_part(scope.alloc, part)?;
+    let shape = convert_shape(scope, shape)?;
+    go_on(scope, line, shape, after)
 }
 
 /// Whether an eligible loop is to be overlapped.
@@ -91,56 +92,73 @@ fn overlaps(scope: Scope<'_>, eligible: bool) -> bool
     eligible && scope.loops
 }
 
+#[inline(never)]
 #[cycle(sequence)]
-fn convert_shape(scope: Scope<'_>, shape: Shape) -> Result<Shape, AllocError>
-    ensures { IfOk result (λ converted. shape_of converted ≡ spec.converted_shape (scope_of scope.entry) (shape_of shape)) }
+fn convert_shape(scope: Scope<'_>, shape: Held<Shape>) -> Result<Held<Shape>, AllocError>
+    ensures { IfOk result (λ converted. shape_of converted.value ≡ spec.converted_shape (scope_of scope.entry) (shape_of shape.value)) }
 {
-    match shape {
-        Shape::Fork {
+    let alloc = scope.alloc;
+    match split_shape(alloc, shape)? {
+        SplitShape::Fork {
             yes,
             no,
             convertible,
-        } => Ok(Shape::Fork {
-            yes: convert_side(scope, yes)?,
-            no: convert_side(scope, no)?,
-            convertible,
-        }),
-        Shape::Loop {
+        } => {
+            let yes = convert_side(scope, yes)?;
+            let no = convert_side(scope, no)?;
+            whole_shape(
+                alloc,
+                SplitShape::Fork {
+                    yes,
+                    no,
+                    convertible,
+                },
+            )
+        }
+        SplitShape::Loop {
             post,
             test,
             body,
             step,
             eligible,
         } => {
-            let parts = Parts {
-                post,
-                test: convert_sequence(scope, Box::into_inner(test))?,
-                body: convert_sequence(scope, Box::into_inner(body))?,
-                step: convert_step(scope, step)?,
-            };
-            converted_loop(scope, parts, overlaps(scope, eligible))
+            let test = convert_sequence(scope, test)?;
+            let body = convert_sequence(scope, body)?;
+            let step = convert_side(scope, step)?;
+            let round = Round { test, body, step };
+            converted_loop(scope, post, round, overlaps(scope, eligible))
         }
-        Shape::Choose {
+        SplitShape::Choose {
             dead,
             targets,
             other,
             arms,
         } => {
-            let Sequence { rest: dead, .. } = convert_behind(scope, nowhere(scope.alloc)?, dead)?;
-            Ok(Shape::Choose {
-                dead,
-                targets,
-                other,
-                arms: convert_arms(scope, arms)?,
-            })
+            let dead = convert_dead(scope, dead)?;
+            let arms = convert_arms(scope, arms)?;
+            whole_shape(
+                alloc,
+                SplitShape::Choose {
+                    dead,
+                    targets,
+                    other,
+                    arms,
+                },
+            )
         }
-        Shape::Land(_) | Shape::Overlapped { .. } => Ok(shape),
+        SplitShape::Land(number) => whole_shape(alloc, SplitShape::Land(number)),
+        SplitShape::Overlapped { point, body } => {
+            whole_shape(alloc, SplitShape::Overlapped { point, body })
+        }
     }
 }
 
 #[cycle(sequence)]
-fn convert_side(scope: Scope<'_>, side: Option<Sequence>) -> Result<Option<Sequence>, AllocError>
-    ensures { IfOk result (λ converted. side_of (option_map sequence_of converted) ≡ spec.converted_side (scope_of scope.entry) (side_of (option_map sequence_of side))) }
+fn convert_side(
+    scope: Scope<'_>,
+    side: Option<Held<Sequence>>,
+) -> Result<Option<Held<Sequence>>, AllocError>
+    ensures { IfOk result (λ converted. side_of (option_map (λ part. sequence_of part.value) converted) ≡ spec.converted_side (scope_of scope.entry) (side_of (option_map (λ part. sequence_of part.value) side))) }
 {
     match side {
         Some(sequence) => Ok(Some(convert_sequence(scope, sequence)?)),
@@ -148,26 +166,27 @@ fn convert_side(scope: Scope<'_>, side: Option<Sequence>) -> Result<Option<Seque
     }
 }
 
+/// What stands before the first arm of a switch.
+#[inline(never)]
 #[cycle(sequence)]
-fn convert_step(
-    scope: Scope<'_>,
-    step: Option<Box<Sequence>>,
-) -> Result<Option<Sequence>, AllocError>
-    ensures { IfOk result (λ converted. side_of (option_map sequence_of converted) ≡ spec.converted_side (scope_of scope.entry) (side_of (option_map (λ part. sequence_of part.value) step))) }
+fn convert_dead(scope: Scope<'_>, dead: Vec<Part>) -> Result<Vec<Part>, AllocError>
+    ensures { IfOk result (λ converted. part_row (map part_of converted.items) ≡ spec.converted_parts (scope_of scope.entry) (part_row (map part_of dead.items))) }
 {
-    match step {
-        Some(sequence) => Ok(Some(convert_sequence(scope, Box::into_inner(sequence))?)),
-        None => Ok(None),
-    }
+    let line = begin_nowhere(scope.alloc)?;
+    let sequence = convert_behind(scope, line, dead)?;
+    let SplitSequence { rest, .. } = split_sequence(scope.alloc, sequence)?;
+    Ok(rest)
 }
 
+#[inline(never)]
 #[cycle(sequence)]
 fn convert_arms(scope: Scope<'_>, arms: Vec<Sequence>) -> Result<Vec<Sequence>, AllocError>
     ensures { IfOk result (λ converted. arm_row (map sequence_of converted.items) ≡ spec.converted_arms (scope_of scope.entry) (arm_row (map sequence_of arms.items))) }
 {
     let mut done = Vec::new(scope.alloc);
-    for arm in arms {
-        done.push(convert_sequence(scope, arm)?)?;
+    for arm in held_items(scope.alloc, arms)? {
+        let arm = convert_sequence(scope, arm)?;
+        push_from(&mut done, arm)?;
     }
     Ok(done)
 }

@@ -1,6 +1,7 @@
 //! Forks become selects with guards, and simple loops become loops whose iterations may overlap.
 #![tactic(auto)]
 
+mod boxes;
 pub mod convert;
 mod fork;
 mod joining;
@@ -8,3 +9,4 @@ mod line;
 mod merging;
 mod outs;
 mod overlap;
+mod steps;

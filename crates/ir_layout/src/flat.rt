@@ -6,7 +6,7 @@ ghost use Rattle.ir_layout.specs.Layout as spec;
 ghost use Rattle.ir_layout.specs.Nodes.{end_of, jumps, chooses};
 ghost use Rattle.ir_layout.specs.Views.{number, stacked};
 
-use crate::counts::{parts_count, plus, shape_count};
+use crate::counts::{end_at, shape_ends};
 use crate::ways::{Around, Ways};
 use hls_base::number::{NodeId, VarId};
 use hls_base::point::Point;
@@ -107,6 +107,7 @@ impl Flat {
     ghost use Rattle.std.specs.List.{zip};
     ghost use Rattle.ir_core.specs.Trees.{exit_of, block_of, body_of, part_of, part_row, shape_of};
     ghost use Rattle.ir_layout.specs.Layout as spec;
+    ghost use Rattle.ir_layout.specs.Listing.{ArePartsSized};
     ghost use Rattle.ir_layout.specs.Nodes.{node_point, node_of, end_of, looped};
     ghost use Rattle.ir_layout.specs.Views.{number, stacked, around_of, ahead_view};
 
@@ -139,19 +140,17 @@ impl Flat {
     }
 
     /// Notes the places in these parts that are left to from within, of which the first shape begins at this place.
-    pub fn note_lands(&mut self, base: u32, parts: &[Part]) -> Result<(), AllocError>
+    pub fn note_lands(&mut self, sizes: &[u32], base: u32, parts: &[Part]) -> Result<(), AllocError>
+        requires { ArePartsSized sizes.now base (part_row (map part_of parts.now)) }
         ensures nodes { self.new.nodes ≡ self.old.nodes }
         ensures lands { OnOk result (stacked self.new.lands.items ≡ spec.lands_in base (part_row (map part_of parts.now)) (stacked self.old.lands.items)) }
     {
-        let mut place = plus(base, parts_count(parts)?)?;
+        let ends = shape_ends(self.alloc, sizes, base, parts)?;
         let mut left = parts.len();
         while left > 0 {
             left -= 1;
-            let shape = &parts[left].shape;
-            let behind = place - 1;
-            let count = shape_count(shape)?;
-            self.note(shape, behind)?;
-            place = behind - count;
+            let behind = end_at(&ends, left);
+            self.note(&parts[left].shape, behind)?;
         }
         Ok(())
     }

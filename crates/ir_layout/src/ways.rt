@@ -1,11 +1,13 @@
 //! Where control goes from a block.
 ghost use Rattle.std.specs.Prelude.{◌≡◌, ◌+◌, map, get_or, IfOk};
 ghost use Rattle.std.specs.Option.{option_map};
-ghost use Rattle.ir_core.specs.Trees.{sequence_of, shape_of, arm_row, side_of};
+ghost use Rattle.ir_core.specs.Trees.{SequenceTree, sequence_of, shape_of, arm_row, side_of};
 ghost use Rattle.ir_layout.specs.Layout.{side_start, body_start, step_start, ahead_of, behind_shape};
+ghost use Rattle.ir_layout.specs.Listing.{IsSized, IsShapeSized, AreArmsSized};
 ghost use Rattle.ir_layout.specs.Views.{number, arm_starts_from, other_in, ahead_view};
 
-use crate::counts::{parts_count, plus, sequence_count, side_count};
+use crate::boxes::Held;
+use crate::counts::{behind_parts, behind_sequence, behind_side};
 use hls_base::number::{NodeId, VarId};
 use ir_core::tree::{Sequence, Shape};
 use std::alloc::{AllocError, Global};
@@ -37,17 +39,16 @@ pub struct Starts {
 
 /// The parts of a loop whose first node is at this place.
 pub fn loop_starts(
+    sizes: &[u32],
     base: u32,
-    test: &Sequence,
-    body: &Sequence,
-    step: &Option<Box<Sequence>>,
+    step: &Option<Held<Sequence>>,
 ) -> Result<Starts, AllocError>
     ensures test { IfOk result (λ starts. number starts.test ≡ base) }
-    ensures body { IfOk result (λ starts. number starts.body ≡ body_start base (sequence_of test.now)) }
-    ensures again { IfOk result (λ starts. number starts.again ≡ step_start base (sequence_of test.now) (sequence_of body.now) (side_of (option_map (λ part. sequence_of part.value) step.now))) }
+    ensures body { (test : SequenceTree) → IsSized sizes.now base test → IfOk result (λ starts. number starts.body ≡ body_start base test) }
+    ensures again { (test body : SequenceTree) → IsSized sizes.now base test → IsSized sizes.now (body_start base test) body → IfOk result (λ starts. number starts.again ≡ step_start base test body (side_of (option_map (λ part. sequence_of part.value) step.now))) }
 {
-    let behind_test = plus(base, sequence_count(test)?)?;
-    let behind_body = plus(behind_test, sequence_count(body)?)?;
+    let behind_test = behind_sequence(sizes, base)?;
+    let behind_body = behind_sequence(sizes, behind_test)?;
     let again = match step {
         Some(_) => behind_body,
         None => base,
@@ -60,14 +61,20 @@ pub fn loop_starts(
 }
 
 /// The first node of each arm, where the first arm begins at this place.
-fn arm_starts(alloc: Global, base: u32, arms: &[Sequence]) -> Result<Vec<NodeId>, AllocError>
+fn arm_starts(
+    alloc: Global,
+    sizes: &[u32],
+    base: u32,
+    arms: &[Sequence],
+) -> Result<Vec<NodeId>, AllocError>
+    requires { AreArmsSized sizes.now base (arm_row (map sequence_of arms.now)) }
     ensures { IfOk result (λ starts. map number starts.items ≡ arm_starts_from base (arm_row (map sequence_of arms.now))) }
 {
     let mut starts = Vec::new(alloc);
     let mut place = base;
-    for arm in arms {
+    for _ in arms {
         starts.push(NodeId(place))?;
-        place = plus(place, sequence_count(arm)?)?;
+        place = behind_sequence(sizes, place)?;
     }
     Ok(starts)
 }
@@ -119,17 +126,24 @@ fn side_node(side: &Option<Sequence>, base: u32, after: u32) -> NodeId
 }
 
 /// Where control goes from the block before a shape, whose first node is at this place, and behind which stands another one.
-pub fn ways_into(alloc: Global, shape: &Shape, base: u32, after: u32) -> Result<Ways, AllocError>
-    requires { after ≡ behind_shape base (shape_of shape.now) }
+pub fn ways_into(
+    alloc: Global,
+    sizes: &[u32],
+    shape: &Shape,
+    base: u32,
+    after: u32,
+) -> Result<Ways, AllocError>
+    requires after { after ≡ behind_shape base (shape_of shape.now) }
+    requires sized { IsShapeSized sizes.now base (shape_of shape.now) }
     ensures { IfOk result (λ ways. ahead_view ways ≡ ahead_of base (shape_of shape.now)) }
 {
     match shape {
         Shape::Fork { yes, no, .. } => Ok(Ways::Test {
             yes: side_node(yes, base, after),
-            no: side_node(no, plus(base, side_count(yes)?)?, after),
+            no: side_node(no, behind_side(sizes, base, yes)?, after),
         }),
-        Shape::Loop { post, test, .. } => {
-            let body = plus(base, sequence_count(test)?)?;
+        Shape::Loop { post, .. } => {
+            let body = behind_sequence(sizes, base)?;
             Ok(Ways::Node(NodeId(if *post { body } else { base })))
         }
         Shape::Choose {
@@ -138,8 +152,8 @@ pub fn ways_into(alloc: Global, shape: &Shape, base: u32, after: u32) -> Result<
             other,
             arms,
         } => {
-            let first = plus(base, parts_count(dead)?)?;
-            let starts = arm_starts(alloc, first, arms)?;
+            let first = behind_parts(sizes, base, dead)?;
+            let starts = arm_starts(alloc, sizes, first, arms)?;
             let cases = case_nodes(alloc, &starts, targets, NodeId(after))?;
             let other = other_node(&starts, other, NodeId(after));
             Ok(Ways::Cases { cases, other })

@@ -39,7 +39,7 @@ with_arms (s ∷ ss) more = more_arms s (with_arms ss more)
 
 -- the arms that are closed, the open one with what follows its open block, and further arms
 abbrev pub ended_arms : Arms → Rest → ArmTrees → ArmTrees
-ended_arms arms rest more = with_arms (map sequence_of arms.closed.items) (more_arms (ended arms.line rest) more)
+ended_arms arms rest more = with_arms (map sequence_of arms.closed.items) (more_arms (ended arms.line.value rest) more)
 
 -- the parts of the first arm
 abbrev pub first_parts : ArmTrees → PartTrees

@@ -124,7 +124,7 @@ pub fn other_target(
 #[derive(Drop)]
 pub struct Arms {
     pub closed: Vec<Sequence>,
-    pub line: Line,
+    pub line: Box<Line>,
 }
 
 /// The parts that stand before the first arm of a switch and are never reached, and the arms.
@@ -152,6 +152,7 @@ impl Arms {
     }
 
     /// Where an arm begins, the one that was open is closed.
+    #[inline(never)]
     pub fn begin(self, alloc: Global, begins: bool, point: &Point) -> Result<Arms, AllocError>
         ensures { (rest : Rest) (more : ArmTrees) → IfOk result (λ arms. ended_arms arms rest more ≡ (if begins then ended_arms self last (more_arms (rest (begun point.now)) more) else ended_arms self rest more)) }
     {
@@ -159,7 +160,8 @@ impl Arms {
             return Ok(self);
         }
         let Arms { mut closed, line } = self;
-        closed.push(line.finish(alloc)?)?;
+        let arm = Line::finish(alloc, line)?;
+        closed.push(Box::into_inner(arm))?;
         Ok(Arms {
             closed,
             line: Line::new(alloc, point)?,
@@ -167,12 +169,14 @@ impl Arms {
     }
 
     /// The last arm is closed.
+    #[inline(never)]
     pub fn finish(self, alloc: Global) -> Result<Blocks, AllocError>
         ensures dead { IfOk result (λ blocks. part_row (map part_of blocks.dead.items) ≡ first_parts (ended_arms self last no_arm)) }
         ensures arms { IfOk result (λ blocks. arm_row (map sequence_of blocks.arms.items) ≡ later_arms (ended_arms self last no_arm)) }
     {
         let Arms { mut closed, line } = self;
-        closed.push(line.finish(alloc)?)?;
+        let arm = Line::finish(alloc, line)?;
+        closed.push(Box::into_inner(arm))?;
         Ok(split_first(closed))
     }
 }

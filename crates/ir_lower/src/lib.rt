@@ -8,3 +8,4 @@ mod line;
 pub mod lower;
 mod points;
 mod sets;
+mod shape;

@@ -19,6 +19,7 @@ use pieces::expanded::Expanded;
 use pieces::piece::{Label, Piece};
 use pieces::pure_expr::Pure;
 use std::alloc::{AllocError, Global};
+use std::mem;
 
 /// The blocks of a sequence that are closed, and the shape behind the last of them.
 #[derive(Drop)]
@@ -72,15 +73,15 @@ fn set_before(expanded: &Expanded, draft: &mut Draft, branch: &Vec<Piece>) -> Re
 impl Line {
     ghost use Rattle.std.specs.Prelude.{◌≡◌, IfOk, if◌then◌else◌};
     ghost use Rattle.pieces.specs.View.{pure_of, pures_of, pieces_of};
-    ghost use Rattle.ir_core.specs.Trees.{exit_of, break_, block_of, shape_of, sequence_of};
+    ghost use Rattle.ir_core.specs.Trees.{exit_of, break_, block_of, shape_of, SequenceTree, sequence_of};
     ghost use Rattle.passes.specs.Lowering.Blocks as spec;
     ghost use Rattle.passes.specs.Lowering.{Rest, last, followed};
     ghost use Rattle.block_draft.specs.Drafts.{scope_of};
-    ghost use Rattle.ir_lower.specs.Lines.{open_of, ended};
+    ghost use Rattle.ir_lower.specs.Lines.{open_of, behind, ended};
 
-    /// A block that begins at this point.
-    pub fn new(alloc: Global, point: &Point) -> Result<Line, AllocError>
-        ensures { (rest : Rest) → IfOk result (λ line. ended line rest ≡ rest (spec.begun point.now)) }
+    fn at(alloc: Global, point: &Point) -> Result<Line, AllocError>
+        ensures closed { (blocks : SequenceTree) → IfOk result (λ line. behind line.closed blocks ≡ blocks) }
+        ensures open_ { IfOk result (λ line. open_of line ≡ spec.begun point.now) }
     {
         Ok(Line {
             closed: Closed::Nothing,
@@ -90,16 +91,27 @@ impl Line {
         })
     }
 
-    /// A block that is never reached.
-    pub fn dead(alloc: Global, point: &Point) -> Result<Line, AllocError>
-        ensures { (rest : Rest) → IfOk result (λ line. ended line rest ≡ rest (record (spec.begun point.now) { exit = break_ })) }
+    /// A block that begins at this point.
+    #[inline(never)]
+    pub fn new(alloc: Global, point: &Point) -> Result<Box<Line>, AllocError>
+        ensures { (rest : Rest) → IfOk result (λ line. ended line.value rest ≡ rest (spec.begun point.now)) }
     {
-        Ok(Line {
+        let line = Line::at(alloc, point)?;
+        Ok(Box::new(alloc, line)?)
+    }
+
+    /// A block that is never reached.
+    #[inline(never)]
+    pub fn dead(alloc: Global, point: &Point) -> Result<Box<Line>, AllocError>
+        ensures { (rest : Rest) → IfOk result (λ line. ended line.value rest ≡ rest (record (spec.begun point.now) { exit = break_ })) }
+    {
+        let line = Line {
             closed: Closed::Nothing,
             point: point.copy(alloc)?,
             draft: Draft::new(alloc),
             exit: Exit::Break,
-        })
+        };
+        Ok(Box::new(alloc, line)?)
     }
 
     /// Whether control may come to the end of the block.
@@ -109,183 +121,135 @@ impl Line {
         matches!(self.exit, Exit::Next)
     }
 
-    /// The line with this exit of its block, if it has none.
-    pub fn with_exit(self, exit: Exit) -> Line
-        ensures { (rest : Rest) → ended result rest ≡ ended self (λ b. rest (spec.with_exit (exit_of exit) b)) }
+    /// The block has this exit, if it had none.
+    #[inline(never)]
+    pub fn leave(&mut self, exit: Exit)
+        ensures { (rest : Rest) → ended self.new rest ≡ ended self.old (λ b. rest (spec.with_exit (exit_of exit) b)) }
     {
-        if !self.is_live() {
-            return self;
-        }
-        let Line {
-            closed,
-            point,
-            draft,
-            ..
-        } = self;
-        Line {
-            closed,
-            point,
-            draft,
-            exit,
+        if self.is_live() {
+            self.exit = exit;
         }
     }
 
     /// The variable holds the value from here on.
-    pub fn set(self, expanded: &Expanded, variable: VarId, value: &Pure) -> Result<Line, AllocError>
-        ensures { (rest : Rest) → IfOk result (λ line. ended line rest ≡ ended self (λ b. rest (if spec.is_live b then spec.set (scope_of expanded.now) variable (pure_of value.now) b else b))) }
+    #[inline(never)]
+    pub fn set(
+        &mut self,
+        expanded: &Expanded,
+        variable: VarId,
+        value: &Pure,
+    ) -> Result<(), AllocError>
+        ensures { (rest : Rest) → IfOk result (λ u. ended self.new rest ≡ ended self.old (λ b. rest (if spec.is_live b then spec.set (scope_of expanded.now) variable (pure_of value.now) b else b))) }
     {
         if !self.is_live() {
-            return Ok(self);
+            return Ok(());
         }
-        let Line {
-            closed,
-            point,
-            mut draft,
-            exit,
-        } = self;
-        draft.set(expanded, variable, value)?;
-        Ok(Line {
-            closed,
-            point,
-            draft,
-            exit,
-        })
+        self.draft.set(expanded, variable, value)?;
+        Ok(())
     }
 
     /// The element holds the value from here on.
+    #[inline(never)]
     pub fn put(
-        self,
+        &mut self,
         expanded: &Expanded,
         array: ArrayId,
         subscripts: &Vec<Pure>,
         value: &Pure,
         at: Place,
-    ) -> Result<Line, AllocError>
-        ensures { (rest : Rest) → IfOk result (λ line. ended line rest ≡ ended self (λ b. rest (if spec.is_live b then spec.put (scope_of expanded.now) array (pures_of subscripts.now.items) (pure_of value.now) at b else b))) }
+    ) -> Result<(), AllocError>
+        ensures { (rest : Rest) → IfOk result (λ u. ended self.new rest ≡ ended self.old (λ b. rest (if spec.is_live b then spec.put (scope_of expanded.now) array (pures_of subscripts.now.items) (pure_of value.now) at b else b))) }
     {
         if !self.is_live() {
-            return Ok(self);
+            return Ok(());
         }
-        let Line {
-            closed,
-            point,
-            mut draft,
-            exit,
-        } = self;
-        draft.put(expanded, array, subscripts, value, at)?;
-        Ok(Line {
-            closed,
-            point,
-            draft,
-            exit,
-        })
+        self.draft.put(expanded, array, subscripts, value, at)?;
+        Ok(())
     }
 
     /// Ends the block by the test of a loop.
-    pub fn end_by_test(self, test: &Pure) -> Result<Line, AllocError>
-        ensures { (rest : Rest) → IfOk result (λ line. ended line rest ≡ ended self (λ b. rest (spec.ends_by_test (pure_of test.now) b))) }
+    #[inline(never)]
+    pub fn end_by_test(&mut self, test: &Pure) -> Result<(), AllocError>
+        ensures { (rest : Rest) → IfOk result (λ u. ended self.new rest ≡ ended self.old (λ b. rest (spec.ends_by_test (pure_of test.now) b))) }
     {
         if !self.is_live() {
-            return Ok(self);
+            return Ok(());
         }
-        let Line {
-            closed,
-            point,
-            mut draft,
-            ..
-        } = self;
-        let test = draft.condition(test)?;
-        Ok(Line {
-            closed,
-            point,
-            draft,
-            exit: Exit::Branch(test),
-        })
+        let test = self.draft.condition(test)?;
+        self.exit = Exit::Branch(test);
+        Ok(())
     }
 
     /// Ends the block by the test of a fork with these branches.
+    #[inline(never)]
     pub fn end_by_fork(
-        self,
+        &mut self,
         expanded: &Expanded,
         test: &Pure,
         yes: &Vec<Piece>,
         no: &Vec<Piece>,
-    ) -> Result<Line, AllocError>
-        ensures { (rest : Rest) → IfOk result (λ line. ended line rest ≡ ended self (λ b. rest (spec.ends_by_fork (scope_of expanded.now) (pure_of test.now) (pieces_of yes.now.items) (pieces_of no.now.items) b))) }
+    ) -> Result<(), AllocError>
+        ensures { (rest : Rest) → IfOk result (λ u. ended self.new rest ≡ ended self.old (λ b. rest (spec.ends_by_fork (scope_of expanded.now) (pure_of test.now) (pieces_of yes.now.items) (pieces_of no.now.items) b))) }
     {
         if !self.is_live() {
-            return Ok(self);
+            return Ok(());
         }
-        let Line {
-            closed,
-            point,
-            mut draft,
-            ..
-        } = self;
-        let test = draft.condition(test)?;
-        set_before(expanded, &mut draft, yes)?;
-        set_before(expanded, &mut draft, no)?;
-        Ok(Line {
-            closed,
-            point,
-            draft,
-            exit: Exit::Branch(test),
-        })
+        let test = self.draft.condition(test)?;
+        set_before(expanded, &mut self.draft, yes)?;
+        set_before(expanded, &mut self.draft, no)?;
+        self.exit = Exit::Branch(test);
+        Ok(())
     }
 
     /// Ends the block by the cases of a switch.
-    pub fn end_by_cases(self, test: &Pure, labels: &[Label]) -> Result<Line, AllocError>
-        ensures { (rest : Rest) → IfOk result (λ line. ended line rest ≡ ended self (λ b. rest (spec.ends_by_cases (pure_of test.now) labels.now b))) }
+    #[inline(never)]
+    pub fn end_by_cases(&mut self, test: &Pure, labels: &[Label]) -> Result<(), AllocError>
+        ensures { (rest : Rest) → IfOk result (λ u. ended self.new rest ≡ ended self.old (λ b. rest (spec.ends_by_cases (pure_of test.now) labels.now b))) }
     {
         if !self.is_live() {
-            return Ok(self);
+            return Ok(());
         }
-        let Line {
-            closed,
-            point,
-            mut draft,
-            ..
-        } = self;
-        let cases = draft.cases(test, labels)?;
-        Ok(Line {
-            closed,
-            point,
-            draft,
-            exit: Exit::Choose(cases),
-        })
+        let cases = self.draft.cases(test, labels)?;
+        self.exit = Exit::Choose(cases);
+        Ok(())
     }
 
     /// Goes on behind this shape with a block that begins at this point.
-    pub fn then(self, alloc: Global, shape: Shape, point: &Point) -> Result<Line, AllocError>
-        ensures { (rest : Rest) → IfOk result (λ line. ended line rest ≡ ended self (λ b. followed b (shape_of shape) (rest (spec.begun point.now)))) }
+    #[inline(never)]
+    pub fn then(
+        &mut self,
+        alloc: Global,
+        shape: Box<Shape>,
+        point: &Point,
+    ) -> Result<(), AllocError>
+        ensures { (rest : Rest) → IfOk result (λ u. ended self.new rest ≡ ended self.old (λ b. followed b (shape_of shape.value) (rest (spec.begun point.now)))) }
     {
+        let next = Line::at(alloc, point)?;
         let Line {
             closed,
             point: before,
             draft,
             exit,
-        } = self;
+        } = mem::replace(self, next);
         let block = close_block(before, draft, exit)?;
-        Ok(Line {
-            closed: with_block(alloc, closed, block, shape)?,
-            point: point.copy(alloc)?,
-            draft: Draft::new(alloc),
-            exit: Exit::Next,
-        })
+        self.closed = with_block(alloc, closed, block, Box::into_inner(shape))?;
+        Ok(())
     }
 
     /// Closes the block, which is the last.
-    pub fn finish(self, alloc: Global) -> Result<Sequence, AllocError>
-        ensures { IfOk result (λ blocks. sequence_of blocks ≡ ended self last) }
+    #[inline(never)]
+    pub fn finish(alloc: Global, line: Box<Line>) -> Result<Box<Sequence>, AllocError>
+        ensures { IfOk result (λ blocks. sequence_of blocks.value ≡ ended line.value last) }
     {
         let Line {
             closed,
             point,
             draft,
             exit,
-        } = self;
+        } = Box::into_inner(line);
         let block = close_block(point, draft, exit)?;
-        with_last(alloc, closed, block)
+        let blocks = with_last(alloc, closed, block)?;
+        Ok(Box::new(alloc, blocks)?)
     }
 }
 

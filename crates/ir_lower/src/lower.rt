@@ -18,9 +18,10 @@ use crate::copies::with_copies;
 use crate::frame::frame_of;
 use crate::line::Line;
 use crate::points::{converts, first_point, may_overlap, own_step, point_of};
+use crate::shape::{Round, Targets, fork, land, repeat, switch};
 use hls_base::point::Point;
 use hls_base::refusal::impossible;
-use ir_core::tree::{BlockTree, Exit, LandId, Sequence, Shape};
+use ir_core::tree::{BlockTree, Exit, LandId, Sequence};
 use pieces::expanded::Expanded;
 use pieces::piece::{Label, Piece};
 use pieces::pure_expr::Pure;
@@ -36,7 +37,7 @@ pub fn lower(alloc: Global, expanded: &Expanded) -> Result<BlockTree, AllocError
     match lower_side(alloc, expanded, &expanded.pieces, first)? {
         Some(blocks) => Ok(BlockTree {
             frame: frame_of(alloc, expanded)?,
-            blocks,
+            blocks: Box::into_inner(blocks),
             result: expanded.result,
         }),
         None => Err(impossible()),
@@ -48,26 +49,26 @@ pub fn lower(alloc: Global, expanded: &Expanded) -> Result<BlockTree, AllocError
 fn lower_all(
     alloc: Global,
     expanded: &Expanded,
-    line: Line,
+    line: &mut Line,
     pieces: &Vec<Piece>,
-) -> Result<Line, AllocError>
-    ensures { (rest : Rest) → IfOk result (λ now. ended now rest ≡ ended line (spec.lowered (scope_of expanded.now) (pieces_of pieces.now.items) rest)) }
+) -> Result<(), AllocError>
+    ensures { (rest : Rest) → IfOk result (λ u. ended line.new rest ≡ ended line.old (spec.lowered (scope_of expanded.now) (pieces_of pieces.now.items) rest)) }
 {
-    let mut line = line;
     for piece in pieces {
-        line = lower_piece(alloc, expanded, line, piece)?;
+        lower_piece(alloc, expanded, line, piece)?;
     }
-    Ok(line)
+    Ok(())
 }
 
+#[inline(never)]
 #[cycle(sequence)]
 fn lower_piece(
     alloc: Global,
     expanded: &Expanded,
-    line: Line,
+    line: &mut Line,
     piece: &Piece,
-) -> Result<Line, AllocError>
-    ensures { (rest : Rest) → IfOk result (λ now. ended now rest ≡ ended line (spec.lowered_piece (scope_of expanded.now) (piece_of piece.now) rest)) }
+) -> Result<(), AllocError>
+    ensures { (rest : Rest) → IfOk result (λ u. ended line.new rest ≡ ended line.old (spec.lowered_piece (scope_of expanded.now) (piece_of piece.now) rest)) }
 {
     match piece {
         Piece::Set { variable, value } => line.set(expanded, *variable, value),
@@ -80,64 +81,77 @@ fn lower_piece(
         Piece::Fork { .. } => lower_fork(alloc, expanded, line, piece),
         Piece::Repeat { .. } => lower_repeat(alloc, expanded, line, piece),
         Piece::Pick { .. } => lower_pick(alloc, expanded, line, piece),
-        Piece::Break => Ok(line.with_exit(Exit::Break)),
-        Piece::Next => Ok(line.with_exit(Exit::Continue)),
-        Piece::Leave(call) => Ok(line.with_exit(Exit::Leave(LandId(call.0)))),
-        Piece::Land(call, point) => line.then(alloc, Shape::Land(LandId(call.0)), point),
-        Piece::Mark(_) => Ok(line),
+        Piece::Break => {
+            line.leave(Exit::Break);
+            Ok(())
+        }
+        Piece::Next => {
+            line.leave(Exit::Continue);
+            Ok(())
+        }
+        Piece::Leave(call) => {
+            line.leave(Exit::Leave(LandId(call.0)));
+            Ok(())
+        }
+        Piece::Land(call, point) => {
+            let shape = land(alloc, LandId(call.0))?;
+            line.then(alloc, shape, point)
+        },
+        Piece::Mark(_) => Ok(()),
     }
 }
 
+#[inline(never)]
 #[cycle(sequence)]
 fn lower_fork(
     alloc: Global,
     expanded: &Expanded,
-    line: Line,
-    fork: &Piece,
-) -> Result<Line, AllocError>
-    ensures { (rest : Rest) → IfOk result (λ now. ended now rest ≡ ended line (spec.lowered_piece (scope_of expanded.now) (piece_of fork.now) rest)) }
+    line: &mut Line,
+    piece: &Piece,
+) -> Result<(), AllocError>
+    ensures { (rest : Rest) → IfOk result (λ u. ended line.new rest ≡ ended line.old (spec.lowered_piece (scope_of expanded.now) (piece_of piece.now) rest)) }
 {
-    let Piece::Fork { test, yes, no, end } = fork else {
+    let Piece::Fork { test, yes, no, end } = piece else {
         return Err(impossible());
     };
-    let convertible = converts(line.is_live(), fork);
-    let line = line.end_by_fork(expanded, test, yes, no)?;
-    let shape = Shape::Fork {
-        yes: lower_side(alloc, expanded, yes, first_point(yes))?,
-        no: lower_side(alloc, expanded, no, first_point(no))?,
-        convertible,
-    };
+    let convertible = converts(line.is_live(), piece);
+    line.end_by_fork(expanded, test, yes, no)?;
+    let yes = lower_side(alloc, expanded, yes, first_point(yes))?;
+    let no = lower_side(alloc, expanded, no, first_point(no))?;
+    let shape = fork(alloc, yes, no, convertible)?;
     line.then(alloc, shape, end)
 }
 
 /// The blocks of pieces that begin at this point, if there is one.
+#[inline(never)]
 #[cycle(sequence)]
 fn lower_side(
     alloc: Global,
     expanded: &Expanded,
     pieces: &Vec<Piece>,
     first: Option<&Point>,
-) -> Result<Option<Sequence>, AllocError>
-    ensures { IfOk result (λ blocks. side_of (option_map sequence_of blocks) ≡ side_from (λ b. spec.lowered (scope_of expanded.now) (pieces_of pieces.now.items) last b) (pointed first.entry)) }
+) -> Result<Option<Box<Sequence>>, AllocError>
+    ensures { IfOk result (λ blocks. side_of (option_map (λ b. sequence_of b.value) blocks) ≡ side_from (λ b. spec.lowered (scope_of expanded.now) (pieces_of pieces.now.items) last b) (pointed first.entry)) }
 {
     match first {
         Some(point) => {
-            let line = Line::new(alloc, point)?;
-            let line = lower_all(alloc, expanded, line, pieces)?;
-            Ok(Some(line.finish(alloc)?))
+            let mut line = Line::new(alloc, point)?;
+            lower_all(alloc, expanded, &mut line, pieces)?;
+            Ok(Some(Line::finish(alloc, line)?))
         }
         None => Ok(None),
     }
 }
 
+#[inline(never)]
 #[cycle(sequence)]
 fn lower_repeat(
     alloc: Global,
     expanded: &Expanded,
-    line: Line,
-    repeat: &Piece,
-) -> Result<Line, AllocError>
-    ensures { (rest : Rest) → IfOk result (λ now. ended now rest ≡ ended line (spec.lowered_piece (scope_of expanded.now) (piece_of repeat.now) rest)) }
+    line: &mut Line,
+    piece: &Piece,
+) -> Result<(), AllocError>
+    ensures { (rest : Rest) → IfOk result (λ u. ended line.new rest ≡ ended line.old (spec.lowered_piece (scope_of expanded.now) (piece_of piece.now) rest)) }
 {
     let Piece::Repeat {
         post,
@@ -147,48 +161,37 @@ fn lower_repeat(
         step,
         end,
         ..
-    } = repeat
+    } = piece
     else {
         return Err(impossible());
     };
-    let eligible = may_overlap(repeat);
+    let eligible = may_overlap(piece);
     let own = own_step(body, step);
     let start = first_point(body).unwrap_or(end);
     let test = lower_test(alloc, expanded, before, test, end)?;
-    let inner = Line::new(alloc, start)?;
-    let inner = lower_all(alloc, expanded, inner, body)?;
+    let mut inner = Line::new(alloc, start)?;
+    lower_all(alloc, expanded, &mut inner, body)?;
     let body = lower_step(alloc, expanded, inner, step, own)?;
     let step = lower_side(alloc, expanded, step, own)?;
-    let shape = Shape::Loop {
-        post: *post,
-        test: Box::new(alloc, test)?,
-        body: Box::new(alloc, copied_if(alloc, expanded, eligible, body)?)?,
-        step: boxed(alloc, step)?,
-        eligible,
-    };
+    let body = copied_if(alloc, expanded, eligible, body)?;
+    let round = Round { test, body, step };
+    let shape = repeat(alloc, *post, round, eligible)?;
     line.then(alloc, shape, end)
 }
 
-fn boxed(alloc: Global, side: Option<Sequence>) -> Result<Option<Box<Sequence>>, AllocError>
-    ensures { IfOk result (λ boxed. option_map (λ blocks. sequence_of blocks.value) boxed ≡ option_map sequence_of side) }
-{
-    match side {
-        Some(blocks) => Ok(Some(Box::new(alloc, blocks)?)),
-        None => Ok(None),
-    }
-}
-
 /// The body of a loop that may be overlapped has copies.
+#[inline(never)]
 fn copied_if(
     alloc: Global,
     expanded: &Expanded,
     eligible: bool,
-    body: Sequence,
-) -> Result<Sequence, AllocError>
-    ensures { IfOk result (λ copied. sequence_of copied ≡ spec.with_copies eligible (scope_of expanded.now) (sequence_of body)) }
+    body: Box<Sequence>,
+) -> Result<Box<Sequence>, AllocError>
+    ensures { IfOk result (λ copied. sequence_of copied.value ≡ spec.with_copies eligible (scope_of expanded.now) (sequence_of body.value)) }
 {
     if eligible {
-        with_copies(alloc, expanded, body)
+        let copied = with_copies(alloc, expanded, Box::into_inner(body))?;
+        Ok(Box::new(alloc, copied)?)
     } else {
         Ok(body)
     }
@@ -202,13 +205,13 @@ fn lower_test(
     before: &Vec<Piece>,
     test: &Pure,
     end: &Point,
-) -> Result<Sequence, AllocError>
-    ensures { IfOk result (λ blocks. sequence_of blocks ≡ spec.lowered (scope_of expanded.now) (pieces_of before.now.items) (λ b. last (ends_by_test (pure_of test.now) b)) (begun (shapes.or_at end.now (shapes.first_point (pieces_of before.now.items))))) }
+) -> Result<Box<Sequence>, AllocError>
+    ensures { IfOk result (λ blocks. sequence_of blocks.value ≡ spec.lowered (scope_of expanded.now) (pieces_of before.now.items) (λ b. last (ends_by_test (pure_of test.now) b)) (begun (shapes.or_at end.now (shapes.first_point (pieces_of before.now.items))))) }
 {
-    let line = Line::new(alloc, first_point(before).unwrap_or(end))?;
-    let line = lower_all(alloc, expanded, line, before)?;
-    let line = line.end_by_test(test)?;
-    line.finish(alloc)
+    let mut line = Line::new(alloc, first_point(before).unwrap_or(end))?;
+    lower_all(alloc, expanded, &mut line, before)?;
+    line.end_by_test(test)?;
+    Line::finish(alloc, line)
 }
 
 /// The blocks of a loop's body, in the last of which its step goes on where it begins no block of its own.
@@ -216,45 +219,49 @@ fn lower_test(
 fn lower_step(
     alloc: Global,
     expanded: &Expanded,
-    line: Line,
+    line: Box<Line>,
     step: &Vec<Piece>,
     own: Option<&Point>,
-) -> Result<Sequence, AllocError>
-    ensures { IfOk result (λ blocks. sequence_of blocks ≡ ended line (λ b. stepped (λ b1. spec.lowered (scope_of expanded.now) (pieces_of step.now.items) last b1) (pointed own.entry) b)) }
+) -> Result<Box<Sequence>, AllocError>
+    ensures { IfOk result (λ blocks. sequence_of blocks.value ≡ ended line.value (λ b. stepped (λ b1. spec.lowered (scope_of expanded.now) (pieces_of step.now.items) last b1) (pointed own.entry) b)) }
 {
     match own {
-        Some(_) => line.finish(alloc),
-        None => lower_all(alloc, expanded, line, step)?.finish(alloc),
+        Some(_) => Line::finish(alloc, line),
+        None => {
+            let mut line = line;
+            lower_all(alloc, expanded, &mut line, step)?;
+            Line::finish(alloc, line)
+        }
     }
 }
 
+#[inline(never)]
 #[cycle(sequence)]
 fn lower_pick(
     alloc: Global,
     expanded: &Expanded,
-    line: Line,
-    pick: &Piece,
-) -> Result<Line, AllocError>
-    ensures { (rest : Rest) → IfOk result (λ now. ended now rest ≡ ended line (spec.lowered_piece (scope_of expanded.now) (piece_of pick.now) rest)) }
+    line: &mut Line,
+    piece: &Piece,
+) -> Result<(), AllocError>
+    ensures { (rest : Rest) → IfOk result (λ u. ended line.new rest ≡ ended line.old (spec.lowered_piece (scope_of expanded.now) (piece_of piece.now) rest)) }
 {
     let Piece::Pick {
         test,
         labels,
         body,
         end,
-    } = pick
+    } = piece
     else {
         return Err(impossible());
     };
     let labels = labels.as_slice();
-    let line = line.end_by_cases(test, labels)?;
-    let Blocks { dead, arms } = lower_arms(alloc, expanded, labels, body, end)?;
-    let shape = Shape::Choose {
-        dead,
-        targets: targets(alloc, labels, body.len())?,
+    line.end_by_cases(test, labels)?;
+    let blocks = lower_arms(alloc, expanded, labels, body, end)?;
+    let targets = Targets {
+        cases: targets(alloc, labels, body.len())?,
         other: other_target(alloc, labels, body.len())?,
-        arms,
     };
+    let shape = switch(alloc, blocks, targets)?;
     line.then(alloc, shape, end)
 }
 
@@ -290,9 +297,7 @@ fn lower_in_arm(
 ) -> Result<Arms, AllocError>
     ensures { (rest : Rest) (more : ArmTrees) → IfOk result (λ now. ended_arms now rest more ≡ (if begins then ended_arms arms last (more_arms (spec.lowered_piece (scope_of expanded.now) (piece_of piece.now) rest (begun (shapes.or_at end.now (shapes.point_of (piece_of piece.now))))) more) else ended_arms arms (spec.lowered_piece (scope_of expanded.now) (piece_of piece.now) rest) more)) }
 {
-    let Arms { closed, line } = arms.begin(alloc, begins, point_of(piece).unwrap_or(end))?;
-    Ok(Arms {
-        closed,
-        line: lower_piece(alloc, expanded, line, piece)?,
-    })
+    let Arms { closed, mut line } = arms.begin(alloc, begins, point_of(piece).unwrap_or(end))?;
+    lower_piece(alloc, expanded, &mut line, piece)?;
+    Ok(Arms { closed, line })
 }

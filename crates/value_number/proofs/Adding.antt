@@ -1,10 +1,8 @@
 -- One more operation, and one more truth.
-use Rattle.std.proofs.Common.{◌≡◌, ◌∙◌, ◌++◌, List, [], ◌∷◌, map, ap, refl, Bool, true, false, ◌&&◌}
+use Rattle.std.proofs.Common.{◌≡◌, ◌++◌, List, [], ◌∷◌, map, refl, Bool, true, false, ◌&&◌}
 use Rattle.ir_core.specs.declared.body.Op.{Op}
 use Rattle.ir_core.specs.declared.stamp.Untimed.{Untimed}
-use Rattle.ir_core.specs.declared.tree.Part.{Part}
-use Rattle.ir_core.specs.declared.tree.Shape.TheFolds.{fold_out-Part}
-use Rattle.value_number.specs.Settled.{is_settled, all_settled, all_true, is_block_settled, is_part_settled, is_shape_settled, shape_step, part_step, sequence_step}
+use Rattle.value_number.specs.Settled.{is_settled, all_settled, all_true}
 
 both : (a b : Bool) → a ≡ true → b ≡ true → (a && b) ≡ true
 both true b e h = h
@@ -29,14 +27,5 @@ all_true_more f (y ∷ ys) x e h = both (f y) (all_true (map f (ys ++ x ∷ []))
 
 pub both_hold : (a b : Bool) → a ≡ true → b ≡ true → (a && b) ≡ true
 both_hold = both
-
-part_parts : (p : Part) → is_part_settled p ≡ (is_shape_settled p.shape && is_block_settled p.after)
-part_parts p = fold_out-Part Bool Bool Bool shape_step part_step sequence_step p
-
-pub one_more_part : (parts : List Part) (p : Part) (more : List Part) → more ≡ parts ++ p ∷ [] → all_true (map is_part_settled parts) ≡ true
-    → is_shape_settled p.shape ≡ true → is_block_settled p.after ≡ true → all_true (map is_part_settled more) ≡ true
-one_more_part parts p more e before shape after =
-    ap (λ ps. all_true (map is_part_settled ps)) e
-    ∙ all_true_more is_part_settled parts p before (part_parts p ∙ both (is_shape_settled p.shape) (is_block_settled p.after) shape after)
 
 pub ruleset adding = (settled_more, all_true_more, both_hold)

@@ -1,34 +1,21 @@
--- Shapes by their variants, and parts and arms one by one.
-use Rattle.std.proofs.Common.{◌≡◌, ◌∙◌, ℕ, List, [], ◌∷◌, ◌++◌, map, refl, ap, ap₂, sym, Bool, Option, Some, None, Box, Vec, Global}
+-- Parts and arms one by one.
+use Rattle.std.proofs.Common.{◌≡◌, ◌∙◌, List, [], ◌∷◌, ◌++◌, map, refl, ap, ap₂, sym, Vec, Global}
 use Rattle.std.proofs.lemmas.List.{map-append}
-use Rattle.std.specs.Option.{option_map}
 use Rattle.ir_core.specs.declared.tree.Part.{Part}
-use Rattle.ir_core.specs.declared.tree.Sequence.{Sequence}
-use Rattle.ir_core.specs.declared.tree.Shape.TheVariants as v
-use Rattle.ir_core.specs.declared.tree.Shape.TheOpen.{Shape-F}
-use Rattle.ir_core.specs.declared.tree.Shape.TheFolds.{fold_out-Part, fold-roll-Shape}
-use Rattle.ir_core.specs.Trees.{ShapeTree, PartTree, PartTrees, no_part, more_parts, ArmTrees, no_arm, more_arms, SequenceTree, part_row, part_of, shape_of, block_of, shape_step, part_step, sequence_step, fork, loop, switch, side_of, arm_row, sequence_of}
+use Rattle.ir_core.specs.declared.tree.BasicBlock.{BasicBlock}
+use Rattle.ir_core.specs.declared.tree.Sequence.{Sequence, out-Sequence, roll-Sequence}
+use Rattle.ir_core.specs.declared.tree.Shape.TheFolds.{fold_out-Part, fold_out-Sequence, fold-roll-Sequence}
+use Rattle.ir_core.specs.Trees.{ShapeTree, PartTree, PartTrees, no_part, more_parts, ArmTrees, no_arm, more_arms, SequenceTree, sequence, part_row, part_of, shape_of, block_of, shape_step, part_step, sequence_step, arm_row, sequence_of}
 use Rattle.passes.specs.Numbering.{Scope, numbered_block, numbered_sequence, numbered_parts, numbered_shape, numbered_arms}
 
 pub part_out : (p : Part) → part_of p ≡ record { shape = shape_of p.shape; after = block_of p.after }
 part_out p = fold_out-Part ShapeTree PartTree SequenceTree shape_step part_step sequence_step p
 
--- ---- shapes by their variants
+pub sequence_out : (s : Sequence) → sequence_of s ≡ sequence (block_of (out-Sequence s).first) (part_row (map part_of (out-Sequence s).rest.items))
+sequence_out s = fold_out-Sequence ShapeTree PartTree SequenceTree shape_step part_step sequence_step s
 
-pub fork_out : (left_ right_ : Option Sequence) (convertible : Bool) → shape_of (v.Fork left_ right_ convertible) ≡ fork (side_of (option_map sequence_of left_)) (side_of (option_map sequence_of right_)) convertible
-fork_out None None convertible = ap shape_of (sym (v.rolls-Fork None None convertible)) ∙ fold-roll-Shape ShapeTree PartTree SequenceTree shape_step part_step sequence_step (Shape-F.Fork None None convertible)
-fork_out None (Some r) convertible = ap shape_of (sym (v.rolls-Fork None (Some r) convertible)) ∙ fold-roll-Shape ShapeTree PartTree SequenceTree shape_step part_step sequence_step (Shape-F.Fork None (Some r) convertible)
-fork_out (Some l) None convertible = ap shape_of (sym (v.rolls-Fork (Some l) None convertible)) ∙ fold-roll-Shape ShapeTree PartTree SequenceTree shape_step part_step sequence_step (Shape-F.Fork (Some l) None convertible)
-fork_out (Some l) (Some r) convertible = ap shape_of (sym (v.rolls-Fork (Some l) (Some r) convertible)) ∙ fold-roll-Shape ShapeTree PartTree SequenceTree shape_step part_step sequence_step (Shape-F.Fork (Some l) (Some r) convertible)
-
-pub loop_out : (post : Bool) (test body : Box Sequence Global) (step : Option (Box Sequence Global)) (eligible : Bool)
-    → shape_of (v.Loop post test body step eligible) ≡ loop post (sequence_of test.value) (sequence_of body.value) (side_of (option_map (λ part. sequence_of part.value) step)) eligible
-loop_out post test body None eligible = ap shape_of (sym (v.rolls-Loop post test body None eligible)) ∙ fold-roll-Shape ShapeTree PartTree SequenceTree shape_step part_step sequence_step (Shape-F.Loop post test body None eligible)
-loop_out post test body (Some step) eligible = ap shape_of (sym (v.rolls-Loop post test body (Some step) eligible)) ∙ fold-roll-Shape ShapeTree PartTree SequenceTree shape_step part_step sequence_step (Shape-F.Loop post test body (Some step) eligible)
-
-pub switch_out : (dead : Vec Part Global) (targets : Vec ℕ Global) (other : Option ℕ) (arms : Vec Sequence Global)
-    → shape_of (v.Choose dead targets other arms) ≡ switch (part_row (map part_of dead.items)) targets.items other (arm_row (map sequence_of arms.items))
-switch_out dead targets other arms = ap shape_of (sym (v.rolls-Choose dead targets other arms)) ∙ fold-roll-Shape ShapeTree PartTree SequenceTree shape_step part_step sequence_step (Shape-F.Choose dead targets other arms)
+pub sequence_rolled : (first : BasicBlock) (rest : Vec Part Global) → sequence_of (roll-Sequence (record { first = first; rest = rest })) ≡ sequence (block_of first) (part_row (map part_of rest.items))
+sequence_rolled first rest = fold-roll-Sequence ShapeTree PartTree SequenceTree shape_step part_step sequence_step (record { first = first; rest = rest })
 
 -- ---- rows that grow at their ends
 

@@ -2,5 +2,6 @@
 #![tactic(auto)]
 
 pub mod block;
+mod boxes;
 mod key;
 pub mod number;

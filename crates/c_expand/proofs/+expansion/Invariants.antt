@@ -40,6 +40,12 @@ decreases-operators::linked l = l.here.depth
 abbrev pub decreases-operators::operated : goal.decreases-operators::operated
 decreases-operators::operated l = l.here.depth
 
+abbrev pub decreases-operators::operated_in_place : goal.decreases-operators::operated_in_place
+decreases-operators::operated_in_place l = l.here.depth
+
+abbrev pub decreases-operators::chosen_in_place : goal.decreases-operators::chosen_in_place
+decreases-operators::chosen_in_place l = l.here.depth
+
 abbrev pub decreases-operators::forked : goal.decreases-operators::forked
 decreases-operators::forked l = l.here.depth
 
@@ -54,6 +60,9 @@ decreases-operators::chosen l = l.here.depth
 
 abbrev pub decreases-operators::selected : goal.decreases-operators::selected
 decreases-operators::selected l = l.here.depth
+
+abbrev pub decreases-statements::conditional : goal.decreases-statements::conditional
+decreases-statements::conditional l = l.here.depth
 
 abbrev pub decreases-statements::block : goal.decreases-statements::block
 decreases-statements::block l = l.here.depth

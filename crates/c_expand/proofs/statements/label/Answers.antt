@@ -1,9 +1,5 @@
-use Rattle.std.proofs.Common.{ap}
-use Rattle.hls_base.specs.declared.point.Point.{Point}
-use Rattle.pieces.specs.Trees as tree
 use Rattle.piece_making.proofs.Exits.{through, IfOk-weaker, IfRefused-weaker}
 use Rattle.piece_making.proofs.Parts.{made_behind, heavy_at_once, heavy_behind}
-use Rattle.c_expand.proofs.Leading.{piece_made, piece_heavy}
 use Rattle.c_expand.proofs.statements.label.Goals as goal
 
 pub returns-in_err-label-clause-refused : goal.returns-in_err-label-clause-refused
@@ -11,8 +7,8 @@ returns-in_err-label-clause-refused c = through _ c.in_err-label.field-0.0 _ _ c
 
 pub returns-clause-made : goal.returns-clause-made
 returns-clause-made c =
-    IfOk-weaker c.mark.result _ _ (λ v h. made_behind _ _ _ _ _ _ _ c.in_ok-label.ensures.made (piece_made _ _ _ _ _ (ap (λ (p : Point). tree.mark p) c.in_ok-point.ensures) h)) c.mark.ensures.made
+    IfOk-weaker c.mark.result _ _ (λ v h. made_behind _ _ _ _ _ _ _ c.in_ok-label.ensures.made h) c.mark.ensures.made
 
 pub returns-clause-refused : goal.returns-clause-refused
 returns-clause-refused c =
-    IfRefused-weaker c.mark.result _ _ (λ r h. heavy_behind _ _ _ _ _ _ c.in_ok-label.ensures.made (piece_heavy _ _ _ _ (ap (λ (p : Point). tree.mark p) c.in_ok-point.ensures) h)) c.mark.ensures.refused
+    IfRefused-weaker c.mark.result _ _ (λ r h. heavy_behind _ _ _ _ _ _ c.in_ok-label.ensures.made h) c.mark.ensures.refused

@@ -1,5 +1,4 @@
 use Rattle.std.proofs.Common.{◌∙◌, ◌≡◌, min, true, ◌&&◌, length, drop, map, ap, ap₂, sym, arith}
-use Rattle.std.specs.Prelude.{◌==◌}
 use Rattle.std.proofs.lemmas.List.{drop-map, take_rest}
 use Rattle.ir_core.specs.Bodies.{op_of}
 use Rattle.ir_core.specs.TreeRuns.{tested_by}

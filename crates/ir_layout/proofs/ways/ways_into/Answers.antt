@@ -13,12 +13,12 @@ returns-in_ok-cases-in-Choose c =
     let arms = arm_row (map sequence_of c.in-Choose.arms.items) in
     let same : shape_of c.args.shape.now ≡ switch dead c.in-Choose.targets.items c.in-Choose.other arms = ap shape_of c.in-Choose.is ∙ switch_out c.in-Choose.dead c.in-Choose.targets c.in-Choose.other c.in-Choose.arms in
     let place = c.args.base + parts_size dead in
-    let behind : c.args.after ≡ behind_shape c.args.base (switch dead c.in-Choose.targets.items c.in-Choose.other arms) = c.requires ∙ ap (behind_shape c.args.base) same in
-    let counted : c.in_ok-parts_count-in-Choose.field-0 ≡ parts_size dead = search rules in
+    let behind : c.args.after ≡ behind_shape c.args.base (switch dead c.in-Choose.targets.items c.in-Choose.other arms) = c.requires.after ∙ ap (behind_shape c.args.base) same in
+    let counted : c.in_ok-first-in-Choose.first ≡ c.args.base + parts_size dead = search rules in
     let begun : map number c.in_ok-starts-in-Choose.starts.items ≡ arm_starts_from c.in_ok-first-in-Choose.first arms = search rules in
     let cases : map number c.in_ok-cases-in-Choose.cases.items ≡ map (λ (i : ℕ). get_or (map number c.in_ok-starts-in-Choose.starts.items) i c.args.after) c.in-Choose.targets.items = search rules in
     let other : number c.other_node-other.result ≡ other_in (map number c.in_ok-starts-in-Choose.starts.items) c.args.after c.in-Choose.other = search rules in
     cases_lead place c.args.after c.in_ok-first-in-Choose.first (number c.other_node-other.result) arms c.in-Choose.targets.items (map number c.in_ok-cases-in-Choose.cases.items) (map number c.in_ok-starts-in-Choose.starts.items) c.in-Choose.other
-    (omega (arith, behind)) (omega (arith, c.in_ok-first-in-Choose.ensures, counted)) begun cases other
+    (omega (arith, behind)) counted begun cases other
     ∙ ap (λ i. by_case (map (arm_start place arms) c.in-Choose.targets.items) (other_start place i arms c.in-Choose.other)) behind
     ∙ ap (ahead_of c.args.base) (sym same)

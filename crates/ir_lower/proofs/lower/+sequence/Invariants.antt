@@ -10,7 +10,7 @@ use Rattle.ir_lower.proofs.lower.+sequence.Given as goal
 
 abbrev pub invariant-lower_all-loop-piece : goal.invariant-lower_all-loop-piece
 invariant-lower_all-loop-piece l =
-    (rest : Rest) → ended l.line (spec.lowered (scope_of l.expanded) (pieces_of (drop l.piece-index l.pieces.items)) rest) ≡ ended l.fn.line (spec.lowered (scope_of l.expanded) (pieces_of l.pieces.items) rest)
+    (rest : Rest) → ended l.line (spec.lowered (scope_of l.expanded) (pieces_of (drop l.piece-index l.pieces.items)) rest) ≡ ended l.initial.line (spec.lowered (scope_of l.expanded) (pieces_of l.pieces.items) rest)
 
 -- what is left of the body stands behind the open arm, and the arms that are to come behind that
 abbrev pub invariant-lower_arms-loop-i : goal.invariant-lower_arms-loop-i

@@ -9,8 +9,7 @@ abbrev pub invariant-loop-left : goal.invariant-loop-left
 invariant-loop-left l = record {
   nodes : l.self.nodes ≡ l.initial.self.nodes;
   within : l.left ≤ length l.parts;
-  place : l.place ≡ l.base + parts_size (part_row (map part_of (take l.left l.parts)));
-  lands : stacked l.self.lands.items ≡ lands_in l.place (part_row (map part_of (drop l.left l.parts))) (stacked l.initial.self.lands.items);
+  lands : stacked l.self.lands.items ≡ lands_in (l.base + parts_size (part_row (map part_of (take l.left l.parts)))) (part_row (map part_of (drop l.left l.parts))) (stacked l.initial.self.lands.items);
 }
 
 abbrev pub decreases-loop-left : goal.decreases-loop-left

@@ -11,7 +11,7 @@ use Rattle.ir_lower.proofs.line.Line.end_by_fork.Goals as goal
 
 pub returns : goal.returns
 returns c = λ rest.
-    let line = c.args.self in
+    let line = c.args.self.now in
     let b = open_of line in
     let scope = scope_of c.args.expanded.now in
     let test = pure_of c.args.test.now in

@@ -9,7 +9,7 @@ use Rattle.ir_lower.proofs.line.Line.end_by_test.Goals as goal
 
 pub returns : goal.returns
 returns c = λ rest.
-    let line = c.args.self in
+    let line = c.args.self.now in
     let draft = c.condition.new.self in
     let test = pure_of c.args.test.now in
     let alive : c.is_live.result ≡ true = grind (arith, c.if-not-is_live.false) in
