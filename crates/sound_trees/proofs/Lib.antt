@@ -21,3 +21,4 @@ pub mod Sound
 pub mod Overlapped
 pub mod LaidOut
 pub mod Whole
+pub mod ValidPrograms

@@ -4,3 +4,4 @@ pub mod Loops
 pub mod Subscripts
 pub mod Examples
 pub mod Laws
+pub mod ValidPrograms

@@ -1,0 +1,4 @@
+pub mod Operands
+pub mod Operations
+pub mod Nodes
+pub mod Whole
