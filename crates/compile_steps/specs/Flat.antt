@@ -1,6 +1,7 @@
--- Which flat program an expanded program becomes: its pieces are lowered to a tree of blocks, in which equal operations become one, forks and loops are converted, and which is laid out.
+-- Which flat program an expanded program becomes: its pieces are lowered to a tree of blocks, in which equal operations become one, forks and loops are converted, which is laid out, and in which operators are fused.
 use Rattle.std.specs.Prelude.{◌≡◌, ℕ, Bool, false, not, List, map, Some}
 use Rattle.hls_base.specs.declared.point.Point.{Point}
+use Rattle.hls_base.specs.declared.settings.Settings.{Settings}
 use Rattle.c_value.specs.Values.{width}
 use Rattle.pieces.specs.Program.{ExpandedTree}
 use Rattle.ir_core.specs.declared.cfg.Cfg.{Cfg}
@@ -13,6 +14,7 @@ use Rattle.passes.specs.Numbering.{numbered_sequence}
 use Rattle.passes.specs.Conversion.{converted_sequence}
 use Rattle.ir_layout.specs.Nodes.{node_of}
 use Rattle.ir_layout.specs.Layout.{laid_out}
+use Rattle.op_chain.specs.Laws.{IsFusedFrom}
 
 abbrev pub variable_widths : ExpandedTree → List ℕ
 variable_widths e = map width e.variables
@@ -29,9 +31,19 @@ numbered_of e start = numbered_sequence (record { widths = variable_widths e; ap
 abbrev pub converted_of : ExpandedTree → Bool → Point → SequenceTree
 converted_of e plain start = converted_sequence (record { widths = variable_widths e; loops = not plain }) (numbered_of e start)
 
--- the nodes of the program
-pub record IsFlatOf (e : ExpandedTree) (plain : Bool) (cfg : Cfg Untimed) : Type 0 where
+-- what is asked of the passes: whether loops stay as they are, and at which period operators are fused, 0 for none
+pub record Passes : Type 0 where
+  pub plain : Bool
+  pub period : ℕ
+
+abbrev pub passes_of : Settings → Passes
+passes_of settings = record { plain = settings.plain; period = settings.period }
+
+-- the program is laid out from that tree, and then operators are fused
+pub record IsFlatOf (e : ExpandedTree) (passes : Passes) (cfg : Cfg Untimed) : Type 0 where
   pub start : Point
   pub starts : first_point e.pieces ≡ Some start
-  pub first : cfg.first.0 ≡ 0
-  pub nodes : map node_of cfg.nodes.items ≡ laid_out (converted_of e plain start) e.result
+  pub unfused : Cfg Untimed
+  pub first : unfused.first.0 ≡ 0
+  pub nodes : map node_of unfused.nodes.items ≡ laid_out (converted_of e passes.plain start) e.result
+  pub fused : IsFusedFrom passes.period unfused cfg

@@ -14,7 +14,7 @@ use Rattle.ir_core.specs.declared.stamp.Untimed.{Untimed}
 use Rattle.ir_core.specs.declared.timed.Timed.{Timed}
 use Rattle.cycle_report.specs.FormulaValue.{cycles}
 use Rattle.cycle_report.specs.PlainReport.{PlainLoop, PlainReport}
-use Rattle.compile_steps.specs.Flat.{IsFlatOf}
+use Rattle.compile_steps.specs.Flat.{Passes, IsFlatOf}
 use Rattle.compile_steps.specs.Reports.{IsTimed, EachNodeCounts}
 
 -- Each run in C that ends takes at least two cycles by the report's formula, from all contents of file scope and with all arguments.
@@ -24,5 +24,5 @@ RunsAreLong p top report = (kept : FileScope) (scalars : List ℕ) (arrays : Lis
 
 -- So it is where the top function has a body, and the report counts each node of the program with times that the flat program gets.
 abbrev pub EndedRunsAreLong : Type 0
-EndedRunsAreLong = (p : ProgramTree) (top : ℕ) (name : List ℕ) → top_name p top ≡ Some name → (plain : Bool) (untimed : Cfg Untimed) → IsFlatOf (expansion (program_elaborated p top)) plain untimed
+EndedRunsAreLong = (p : ProgramTree) (top : ℕ) (name : List ℕ) → top_name p top ≡ Some name → (passes : Passes) (untimed : Cfg Untimed) → IsFlatOf (expansion (program_elaborated p top)) passes untimed
     → (units : Units) (timed : Cfg Timed) (loops : List PlainLoop) → IsTimed units untimed timed loops → (report : PlainReport) → EachNodeCounts timed.nodes.items report → RunsAreLong p top report

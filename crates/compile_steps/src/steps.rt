@@ -9,7 +9,7 @@ ghost use Rattle.c_expand.specs.Expansion.{expansion, expanded_weight, IsOverwei
 ghost use Rattle.ir_lower.specs.Frames.{frame_view, frame_of};
 ghost use Rattle.cycle_report.specs.PlainReport.{loop_of};
 ghost use Rattle.report_rows.specs.ForwardNodes.{HasForwardBody};
-ghost use Rattle.compile_steps.specs.Flat.{IsFlatOf};
+ghost use Rattle.compile_steps.specs.Flat.{passes_of, IsFlatOf};
 ghost use Rattle.compile_steps.specs.Runs.{IsWithoutFaults, RunsAsProgram};
 ghost use Rattle.compile_steps.specs.Reports.{IsTimed};
 
@@ -26,6 +26,7 @@ use ir_core::stamp::Untimed;
 use ir_core::timed::Timed;
 use ir_layout::layout::lay_out;
 use ir_lower::lower::lower;
+use op_chain::fuse::fuse;
 use pieces::expanded::Expanded;
 use report_rows::nodes::{TimedNodes, timed_nodes};
 use std::alloc::{AllocError, Global};
@@ -42,19 +43,20 @@ pub fn expanded(alloc: Global, checked: &Checked) -> Result<Expanded, Fail>
     expand(alloc, &program)
 }
 
-/// The flat blocks of an expanded program. Loops whose iterations may overlap are nodes of their own, unless the settings are plain.
+/// The flat blocks of an expanded program. Loops whose iterations may overlap are nodes of their own, unless the settings are plain. Operators are fused as far as the period of the settings allows.
 pub fn flat_program(
     alloc: Global,
     expanded: &Expanded,
     settings: &Settings,
 ) -> Result<Cfg<Untimed>, AllocError>
     ensures frame { IfOk result (λ cfg. frame_view cfg.frame ≡ frame_of expanded.now) }
-    ensures flat { IfOk result (λ cfg. IsFlatOf (expanded_of expanded.now) settings.now.plain cfg) }
+    ensures flat { IfOk result (λ cfg. IsFlatOf (expanded_of expanded.now) (passes_of settings.now) cfg) }
 {
     let tree = lower(alloc, expanded)?;
     let tree = number(alloc, tree)?;
     let tree = convert(alloc, tree, !settings.plain)?;
     let cfg = lay_out(alloc, tree)?;
+    let cfg = fuse(alloc, cfg, settings.period)?;
     Ok(cfg)
 }
 

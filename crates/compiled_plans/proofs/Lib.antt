@@ -16,3 +16,4 @@ pub mod LaidNodes
 pub mod NamedNodes
 pub mod Divisions
 pub mod PlanNames
+pub mod ValidNodes

@@ -1,5 +1,5 @@
 -- Plans of compiled programs are compiled.
-use Rattle.std.proofs.Common.{◌≡◌, ℕ, ◌<◌, refl, sym, ap, ◌∙◌, subst, List, [], ◌∷◌, map, length, Option, Some, None}
+use Rattle.std.proofs.Common.{◌≡◌, ℕ, ◌<◌, true, refl, sym, ap, ◌∙◌, subst, List, [], ◌∷◌, map, length, Option, Some, None}
 use Rattle.std.specs.Prelude.{slice_get}
 use Rattle.hls_base.specs.declared.number.Kept.{Kept}
 use Rattle.c_value.specs.Values.{width}
@@ -35,7 +35,12 @@ use Rattle.compiled_plans.proofs.Safe.{within}
 use Rattle.compiled_plans.proofs.Exclusive.{end_exclusive}
 use Rattle.compiled_plans.proofs.Sound.{sound}
 use Rattle.compiled_plans.proofs.Greatest.{counts, waits}
-use Rattle.compiled_plans.proofs.NamedNodes.{nodes_named}
+use Rattle.ir_core.specs.declared.cfg.Frame.{Frame}
+use Rattle.program_validity.specs.Programs.{is_valid, body_in}
+use Rattle.op_chain.proofs.ValidFusing.Whole.{keeps_validity}
+use Rattle.timed_pieces.proofs.FusedPrograms.Nodes.{same_variables, once_alike, nodes_alike, fused_alike}
+use Rattle.compiled_plans.specs.ValidNodes.{NodesSetOnce}
+use Rattle.compiled_plans.proofs.ValidNodes.{valid_named, valid_divide, dividing_once}
 use Rattle.compiled_plans.proofs.Divisions.{nodes_divide}
 use Rattle.compiled_plans.proofs.PlanNames.{names_variables, names_arrays, fits_units, outs_apart}
 
@@ -112,16 +117,33 @@ compiled e choice kept point cfg fine subscripts laid units timed rows times sma
   few : length timed.frame.memories.items ≡ length e.arrays
   few = sym (length_map array_of timed.frame.memories.items) ∙ ap length frame.arrays ∙ length_map plan_array e.arrays
 
+  valid : is_valid cfg ≡ true
+  valid = keeps_validity choice.period laid.unfused cfg laid.valid laid.fused
+
+  unfused_widths : laid.unfused.frame.variables.items ≡ widths_of (scope_of (frame_of e))
+  unfused_widths = ap (λ (s : Shapes). s.widths) laid.laid.shapes
+
+  own_widths : cfg.frame.variables.items ≡ widths_of (scope_of (frame_of e))
+  own_widths = ap (λ (f : Frame). f.variables.items) laid.fused.frame ∙ unfused_widths
+
   widths : timed.frame.variables.items ≡ widths_of (scope_of (frame_of e))
-  widths = ap (λ (f : FrameView). f.variables) times.frame ∙ ap (λ (s : Shapes). s.widths) laid.shapes
+  widths = ap (λ (f : FrameView). f.variables) times.frame ∙ own_widths
 
   many : length timed.frame.variables.items ≡ length e.variables
   many = ap length widths ∙ length_map width e.variables
 
   named : (i : ℕ) (n : Node Untimed) → slice_get cfg.nodes.items i ≡ Some n → NodeNamed (length e.variables) e.arrays (node_of n)
-  named = nodes_named (scope_of (frame_of e)) choice.apart choice.loops e.pieces point e.result cfg.nodes.items fine.typed puts (result_there e.variables e.ret e.result result) laid.nodes
+  named i n at =
+      subst (λ (m : ℕ). NodeNamed m e.arrays (node_of n)) (ap length own_widths ∙ length_map width e.variables)
+      (valid_named cfg e.arrays valid (sym (same_memories timed cfg times.frame) ∙ frame.arrays) i n at)
+
+  unfused_divided : (i : ℕ) (n : Node Untimed) → slice_get laid.unfused.nodes.items i ≡ Some n → NodeDivides (widths_of (scope_of (frame_of e))) words (node_of n)
+  unfused_divided = nodes_divide (scope_of (frame_of e)) choice.apart choice.loops e.pieces point e.result laid.unfused.nodes.items fine.typed subscripts laid.laid.nodes
+
+  once : NodesSetOnce cfg
+  once i n at =
+      let p = nodes_alike laid.unfused.nodes.items cfg.nodes.items (fused_alike choice.period laid.unfused cfg laid.fused) i n at in
+      once_alike (body_in p.other).outs.items (body_in n).outs.items (same_variables p.other n p.same) (dividing_once laid.unfused (widths_of (scope_of (frame_of e))) words unfused_divided i p.other p.there)
 
   divided : (i : ℕ) (n : Node Untimed) → slice_get cfg.nodes.items i ≡ Some n → NodeDivides timed.frame.variables.items words (node_of n)
-  divided i n at =
-      subst (λ (l : List ℕ). NodeDivides l words (node_of n)) (sym widths)
-      (nodes_divide (scope_of (frame_of e)) choice.apart choice.loops e.pieces point e.result cfg.nodes.items fine.typed subscripts laid.nodes i n at)
+  divided i n at = subst (λ (l : List ℕ). NodeDivides l words (node_of n)) (sym (ap (λ (f : FrameView). f.variables) times.frame)) (valid_divide cfg words valid once i n at)

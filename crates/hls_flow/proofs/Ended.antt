@@ -14,7 +14,7 @@ use Rattle.pieces.specs.Program.{ExpandedTree, expanded_of}
 use Rattle.ir_core.specs.declared.cfg.Cfg.{Cfg}
 use Rattle.ir_core.specs.declared.stamp.Untimed.{Untimed}
 use Rattle.ir_core.specs.declared.timed.Timed.{Timed}
-use Rattle.compile_steps.specs.Flat.{IsFlatOf}
+use Rattle.compile_steps.specs.Flat.{passes_of, IsFlatOf}
 use Rattle.compile_steps.specs.Resets.{expanded_frame}
 use Rattle.compile_steps.specs.Reports.{allowed_units}
 use Rattle.source_answers.specs.SourceRuns.{IsFaultless}
@@ -31,7 +31,7 @@ use Rattle.hls_flow.specs.Ending.{IsCompiledTo, EndsInTime, RunsEndInTime, HasEn
 pub runs_end : ClockedRunsEndInTime → (source : List ℕ) (p : ProgramTree) (index : ℕ) (name : List ℕ) → IsFaultless source p index name → expanded_weight (program_elaborated p index) ≤ 8192
     → (x : Expanded) → expanded_of x ≡ expansion (program_elaborated p index) → (settings : Settings) (untimed : Cfg Untimed) (timed : Cfg Timed) → IsCompiledTo (expanded_of x) settings untimed timed → RunsEndInTime p index timed
 runs_end law source p index name faultless within x is settings untimed timed made inputs result arrays ends =
-    law source p index name faultless within x is settings.plain untimed (subst (λ (e : ExpandedTree). IsFlatOf e settings.plain untimed) is made.flat) (allowed_units settings) timed made.rows made.is_timed (made.frame ∙ ap expanded_frame is)
+    law source p index name faultless within x is (passes_of settings) untimed (subst (λ (e : ExpandedTree). IsFlatOf e (passes_of settings) untimed) is made.flat) (allowed_units settings) timed made.rows made.is_timed (made.frame ∙ ap expanded_frame is)
     inputs result arrays ends
 
 -- the run in C that ended

@@ -10,7 +10,7 @@ use Rattle.ir_core.specs.declared.stamp.Untimed.{Untimed}
 use Rattle.ir_core.specs.declared.timed.Timed.{Timed}
 use Rattle.ir_core.specs.FirstContents.{first_words}
 use Rattle.ir_lower.specs.Frames.{frame_view}
-use Rattle.compile_steps.specs.Flat.{IsFlatOf}
+use Rattle.compile_steps.specs.Flat.{passes_of, IsFlatOf}
 use Rattle.compile_steps.specs.Resets.{expanded_frame}
 use Rattle.compile_steps.specs.Reports.{allowed_units, IsTimed}
 use Rattle.source_answers.specs.Laws.{EndsWith}
@@ -24,7 +24,7 @@ pub record IsClockOf (e : ExpandedTree) (settings : Settings) (inputs : Inputs) 
   pub untimed : Cfg Untimed
   pub timed : Cfg Timed
   pub rows : List PlainLoop
-  pub flat : IsFlatOf e settings.plain untimed
+  pub flat : IsFlatOf e (passes_of settings) untimed
   pub is_timed : IsTimed (allowed_units settings) untimed timed rows
   pub frame : frame_view timed.frame ≡ expanded_frame e
   pub ends : EndsAfter e timed inputs edges result arrays

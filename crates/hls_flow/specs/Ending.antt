@@ -12,7 +12,7 @@ use Rattle.ir_core.specs.declared.cfg.Cfg.{Cfg}
 use Rattle.ir_core.specs.declared.stamp.Untimed.{Untimed}
 use Rattle.ir_lower.specs.Frames.{frame_view}
 use Rattle.ir_core.specs.declared.timed.Timed.{Timed}
-use Rattle.compile_steps.specs.Flat.{IsFlatOf}
+use Rattle.compile_steps.specs.Flat.{passes_of, IsFlatOf}
 use Rattle.compile_steps.specs.Resets.{expanded_frame}
 use Rattle.compile_steps.specs.Reports.{allowed_units, IsTimed}
 use Rattle.source_answers.specs.SourceRuns.{IsFaultless}
@@ -21,7 +21,7 @@ use Rattle.promises.specs.EndedMachines.{EndsInC, EndsInEdges}
 -- The expanded program is compiled with these settings to this one, with these times.
 pub record IsCompiledTo (e : ExpandedTree) (settings : Settings) (untimed : Cfg Untimed) (timed : Cfg Timed) : Type 0 where
   pub rows : List PlainLoop
-  pub flat : IsFlatOf e settings.plain untimed
+  pub flat : IsFlatOf e (passes_of settings) untimed
   pub is_timed : IsTimed (allowed_units settings) untimed timed rows
   pub frame : frame_view timed.frame ≡ expanded_frame e
 

@@ -13,7 +13,7 @@ use Rattle.ir_core.specs.declared.stamp.Untimed.{Untimed}
 use Rattle.ir_core.specs.declared.timed.Timed.{Timed}
 use Rattle.pieces.specs.Program.{ExpandedTree}
 use Rattle.ir_lower.specs.Frames.{frame_view}
-use Rattle.compile_steps.specs.Flat.{IsFlatOf}
+use Rattle.compile_steps.specs.Flat.{passes_of, IsFlatOf}
 use Rattle.compile_steps.specs.Resets.{expanded_frame, reset_cycles}
 use Rattle.compile_steps.specs.Reports.{allowed_units, IsTimed, EachNodeCounts, ReportsDesign, IsReportOf, KeepsSettings}
 use Rattle.source_answers.specs.CompiledAnswers.{AnswersAlways}
@@ -52,7 +52,7 @@ pub record IsScheduledReport (settings : Settings) (expanded : ExpandedTree) (re
   pub timed : Cfg Timed
   pub frame : frame_view timed.frame ≡ expanded_frame expanded
   pub init : report.init ≡ reset_cycles (expanded_frame expanded)
-  pub flat : IsFlatOf expanded settings.plain untimed
+  pub flat : IsFlatOf expanded (passes_of settings) untimed
   pub is_timed : IsTimed (allowed_units settings) untimed timed report.loops
   pub reported : IsReportOf report settings timed design
   pub longer : EachNodeCounts timed.nodes.items report

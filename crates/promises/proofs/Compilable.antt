@@ -1,5 +1,5 @@
 -- The flat programs of sources without faults are compiled, and a circuit can be made of each with its times.
-use Rattle.std.proofs.Common.{◌≡◌, ◌≤◌, ◌∙◌, ℕ, Bool, true, List, sym, subst}
+use Rattle.std.proofs.Common.{refl, ◌≡◌, ◌≤◌, ◌∙◌, ℕ, Bool, true, List, sym, subst}
 use Rattle.std.proofs.lemmas.Option.{same_Some}
 use Rattle.hls_base.specs.declared.settings.Units.{Units}
 use Rattle.c_tree.specs.Tree.{ProgramTree}
@@ -16,27 +16,24 @@ use Rattle.program_validity.proofs.Parts.{first_of_both}
 use Rattle.timed_pieces.proofs.TimedValidity.Whole.{times_keep}
 use Rattle.circuit_context.specs.Programs.{IsBuildable}
 use Rattle.ir_lower.specs.Frames.{frame_view}
-use Rattle.compile_steps.specs.Flat.{IsFlatOf}
+use Rattle.compile_steps.specs.Flat.{Passes, IsFlatOf}
 use Rattle.compile_steps.specs.Reports.{IsTimed}
 use Rattle.compile_steps.specs.Resets.{expanded_frame}
 use Rattle.source_answers.proofs.CompiledAnswers.Whole.{choice_of, laid_from}
 use Rattle.source_answers.specs.SourceRuns.{IsFaultless, expanded}
 use Rattle.source_validity.proofs.AddressedFrames.Frames.{expanded_addressable}
-use Rattle.source_validity.proofs.AcceptedPrograms.Whole.{accepted_valid}
+use Rattle.source_validity.proofs.AcceptedPrograms.Flat.{flat_valid, fused_parts}
 use Rattle.source_validity.proofs.SourceMachines.SmallTimes.Whole.{times_small}
 use Rattle.source_validity.proofs.NearOuts.Whole.{sources_near}
 use Rattle.promises.specs.Compilable.{IsCompilable, BecomesCompilable}
 
 -- a source without faults, whose weight is within the limit, becomes programs that are compiled
 source_programs : (source : List ℕ) (p : ProgramTree) (top : ℕ) (name : List ℕ) → IsFaultless source p top name → expanded_weight (program_elaborated p top) ≤ 8192
-    → (plain : Bool) (cfg : Cfg Untimed) → IsFlatOf (expanded p top) plain cfg → frame_view cfg.frame ≡ expanded_frame (expanded p top) → IsCompilable cfg
-source_programs source p top name s light plain cfg flat frame =
-    let e : ExpandedTree = expanded p top in
-    let found = accepted_valid source p top name s light in
-    let same : flat.start ≡ found.0 = same_Some flat.start found.0 (sym flat.starts ∙ found.1) in
-    let laid = laid_from e plain cfg found.0 flat same frame in
-    let is = found.2 (choice_of plain) cfg laid frame in
-    record { valid = is.0; small = is.1; forward = is.2; near = sources_near source p top name s found.0 (choice_of plain) cfg laid }
+    → (passes : Passes) (cfg : Cfg Untimed) → IsFlatOf (expanded p top) passes cfg → frame_view cfg.frame ≡ expanded_frame (expanded p top) → IsCompilable cfg
+source_programs source p top name s light passes cfg flat frame =
+    let laid = laid_from (expanded p top) passes cfg flat.start flat refl frame (flat_valid source p top name s light passes cfg flat frame) in
+    let is = fused_parts source p top name s light passes cfg flat frame in
+    record { valid = is.0; small = is.1; forward = is.2; near = sources_near source p top name s flat.start (choice_of passes) cfg laid }
 
 source_compilable : (source : List ℕ) (p : ProgramTree) (top : ℕ) (name : List ℕ) → IsFaultless source p top name → expanded_weight (program_elaborated p top) ≤ 8192 → BecomesCompilable (expanded p top)
 source_compilable source p top name s light = record {

@@ -1,5 +1,5 @@
 -- The circuit of a program that a source is compiled to agrees with the box of its C function.
-use Rattle.std.specs.Prelude.{◌≡◌, ℕ, Bool, List, Some, slice_get}
+use Rattle.std.specs.Prelude.{◌≡◌, ℕ, List, Some, slice_get, true}
 use Rattle.hls_base.specs.declared.point.Point.{Point}
 use Rattle.hls_base.specs.declared.settings.Units.{Units}
 use Rattle.c_tree.specs.Tree.{FunctionTree, ProgramTree}
@@ -19,7 +19,8 @@ use Rattle.rtl_core.specs.Agreement.{Agrees}
 use Rattle.cycle_report.specs.PlainReport.{PlainLoop, PlainReport}
 use Rattle.report_rows.specs.Costs.{AreRowsOf}
 use Rattle.report_rows.specs.Initial.{initial_cycles}
-use Rattle.compile_steps.specs.Flat.{IsFlatOf}
+use Rattle.program_validity.specs.Programs.{is_valid}
+use Rattle.compile_steps.specs.Flat.{Passes, IsFlatOf}
 use Rattle.compile_steps.specs.Resets.{expanded_frame}
 use Rattle.compile_steps.specs.Reports.{IsTimed}
 use Rattle.timed_pieces.specs.FlatRuns.{Choice, IsLaidOut}
@@ -40,7 +41,7 @@ PlansFitFrames = (e : ExpandedTree) (choice : Choice) (start : Point) (untimed :
 -- Of a source without faults, with this top function: a valid netlist that is the circuit of the plan of its program with times agrees with the box of the function, with the answers of C in the cycles of the report, where the report is at base 1, its rows are the costs of the program, and its initial cycles are those of the frame.
 abbrev pub SourceCircuitsKeepPromise : Type 0
 SourceCircuitsKeepPromise = (source : List ℕ) (p : ProgramTree) (top : ℕ) (name : List ℕ) → IsFaultless source p top name → (function : FunctionTree) → function_at (slice_get p.items top) ≡ Some function
-    → (plain : Bool) (untimed : Cfg Untimed) → IsFlatOf (expanded p top) plain untimed
+    → (passes : Passes) (untimed : Cfg Untimed) (flat_ : IsFlatOf (expanded p top) passes untimed) → is_valid flat_.unfused ≡ true
     → (units : Units) (timed : Cfg Timed) (loops : List PlainLoop) → IsTimed units untimed timed loops → frame_view timed.frame ≡ expanded_frame (expanded p top)
     → (report : PlainReport) → report.base ≡ 1 → AreRowsOf timed.nodes.items report.rows → report.init ≡ initial_cycles timed.frame
     → (registers : Registers) (savings : Savings) → IsCompiled (plan_of timed registers savings)

@@ -22,7 +22,7 @@ use Rattle.ir_core.specs.FlatRuns.{flat_run}
 use Rattle.flat_programs.specs.Machine.Rest.{IsWhole, EndsSo}
 use Rattle.flat_programs.specs.Machine.Nearing.{whole_run_steps}
 use Rattle.clock_machine.specs.Starts.{IsNamed}
-use Rattle.compile_steps.specs.Flat.{IsFlatOf}
+use Rattle.compile_steps.specs.Flat.{Passes, IsFlatOf}
 use Rattle.compile_steps.specs.Resets.{expanded_frame}
 use Rattle.compile_steps.specs.Reports.{IsTimed}
 use Rattle.timed_pieces.specs.StartedWords.Contents.{host_words}
@@ -59,7 +59,7 @@ pub record EndsInSteps (e : ExpandedTree) (cfg : Cfg Untimed) (inputs : Inputs) 
 -- Of each source without faults that weighs at most 8,192 once its calls are expanded, and of what the compiler expands it to: so ends the run of its flat program, where its run in C ends.
 abbrev pub FlatRunsEndInTime : Type 0
 FlatRunsEndInTime = (source : List ℕ) (p : ProgramTree) (top : ℕ) (name : List ℕ) → IsFaultless source p top name → expanded_weight (program_elaborated p top) ≤ 8192
-    → (x : Expanded) → expanded_of x ≡ expanded p top → (plain : Bool) (cfg : Cfg Untimed) → IsFlatOf (expanded p top) plain cfg → frame_view cfg.frame ≡ expanded_frame (expanded p top)
+    → (x : Expanded) → expanded_of x ≡ expanded p top → (passes : Passes) (cfg : Cfg Untimed) → IsFlatOf (expanded p top) passes cfg → frame_view cfg.frame ≡ expanded_frame (expanded p top)
     → (inputs : Inputs) (result : Option ℕ) (arrays : List (List ℕ)) → EndsInC p top inputs result arrays → EndsInSteps (expanded p top) cfg inputs result arrays
 
 -- ---- cycle by cycle
@@ -76,6 +76,6 @@ pub record EndsInEdges (e : ExpandedTree) (timed : Cfg Timed) (inputs : Inputs) 
 -- So ends the clocked run of this flat program with its times, on any units.
 abbrev pub ClockedRunsEndInTime : Type 0
 ClockedRunsEndInTime = (source : List ℕ) (p : ProgramTree) (top : ℕ) (name : List ℕ) → IsFaultless source p top name → expanded_weight (program_elaborated p top) ≤ 8192
-    → (x : Expanded) → expanded_of x ≡ expanded p top → (plain : Bool) (cfg : Cfg Untimed) → IsFlatOf (expanded p top) plain cfg
+    → (x : Expanded) → expanded_of x ≡ expanded p top → (passes : Passes) (cfg : Cfg Untimed) → IsFlatOf (expanded p top) passes cfg
     → (units : Units) (timed : Cfg Timed) (loops : List PlainLoop) → IsTimed units cfg timed loops → frame_view timed.frame ≡ expanded_frame (expanded p top)
     → (inputs : Inputs) (result : Option ℕ) (arrays : List (List ℕ)) → EndsInC p top inputs result arrays → EndsInEdges (expanded p top) timed inputs result arrays

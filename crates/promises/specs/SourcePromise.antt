@@ -1,5 +1,5 @@
 -- The circuits of sources without faults.
-use Rattle.std.specs.Prelude.{◌≡◌, ℕ, Bool, List, Some, slice_get}
+use Rattle.std.specs.Prelude.{◌≡◌, ℕ, List, Some, slice_get, true}
 use Rattle.hls_base.specs.declared.settings.Units.{Units}
 use Rattle.c_tree.specs.Tree.{FunctionTree, ProgramTree}
 use Rattle.c_meaning.specs.Run.{function_at, first_contents}
@@ -18,7 +18,8 @@ use Rattle.rtl_core.specs.Agreement.{Agrees}
 use Rattle.cycle_report.specs.PlainReport.{PlainLoop, PlainReport}
 use Rattle.report_rows.specs.Costs.{AreRowsOf}
 use Rattle.report_rows.specs.Initial.{initial_cycles}
-use Rattle.compile_steps.specs.Flat.{IsFlatOf}
+use Rattle.program_validity.specs.Programs.{is_valid}
+use Rattle.compile_steps.specs.Flat.{Passes, IsFlatOf}
 use Rattle.compile_steps.specs.Resets.{expanded_frame}
 use Rattle.compile_steps.specs.Reports.{IsTimed}
 use Rattle.datapath.specs.Plans.{Plan, plan_of}
@@ -31,14 +32,14 @@ use Rattle.source_answers.specs.SourceRuns.{IsFaultless, expanded}
 
 -- Of a source without faults: the plan of its program with times is compiled, where the numbers of the program are small and its values have registers.
 abbrev pub SourcePlansAreCompiled : Type 0
-SourcePlansAreCompiled = (source : List ℕ) (p : ProgramTree) (top : ℕ) (name : List ℕ) → IsFaultless source p top name → (plain : Bool) (untimed : Cfg Untimed) → IsFlatOf (expanded p top) plain untimed
+SourcePlansAreCompiled = (source : List ℕ) (p : ProgramTree) (top : ℕ) (name : List ℕ) → IsFaultless source p top name → (passes : Passes) (untimed : Cfg Untimed) (flat_ : IsFlatOf (expanded p top) passes untimed) → is_valid flat_.unfused ≡ true
     → (units : Units) (timed : Cfg Timed) (loops : List PlainLoop) → IsTimed units untimed timed loops → frame_view timed.frame ≡ expanded_frame (expanded p top) → HasSmallNumbers timed
     → (live : Live) (registers : Registers) → IsAssignment timed live registers → IsCompiled (plan_of timed registers (savings_of timed live))
 
 -- Of a source without faults, with this top function: a valid netlist that is the circuit of this plan agrees with the box of the function, with the answers of C in the cycles of the report, where the report is at base 1, its rows are the costs of the program, and its initial cycles are those of the frame.
 abbrev pub SourcesKeepPromise : Type 0
 SourcesKeepPromise = (source : List ℕ) (p : ProgramTree) (top : ℕ) (name : List ℕ) → IsFaultless source p top name → (function : FunctionTree) → function_at (slice_get p.items top) ≡ Some function
-    → (plain : Bool) (untimed : Cfg Untimed) → IsFlatOf (expanded p top) plain untimed
+    → (passes : Passes) (untimed : Cfg Untimed) (flat_ : IsFlatOf (expanded p top) passes untimed) → is_valid flat_.unfused ≡ true
     → (units : Units) (timed : Cfg Timed) (loops : List PlainLoop) → IsTimed units untimed timed loops → frame_view timed.frame ≡ expanded_frame (expanded p top) → HasSmallNumbers timed
     → (report : PlainReport) → report.base ≡ 1 → AreRowsOf timed.nodes.items report.rows → report.init ≡ initial_cycles timed.frame
     → (live : Live) (registers : Registers) → IsAssignment timed live registers

@@ -6,7 +6,7 @@ ghost use Rattle.rtl_core.specs.Netlist.{netlist_of};
 ghost use Rattle.cycle_report.specs.PlainReport.{plain_of};
 ghost use Rattle.report_rows.specs.Resources.{IsReportable};
 ghost use Rattle.circuit_context.specs.Programs.{IsBuildable};
-ghost use Rattle.compile_steps.specs.Flat.{IsFlatOf};
+ghost use Rattle.compile_steps.specs.Flat.{passes_of, IsFlatOf};
 ghost use Rattle.compile_steps.specs.Resets.{expanded_frame, reset_cycles};
 ghost use Rattle.compile_steps.specs.Reports.{allowed_units, IsTimed, EachNodeCounts, IsReportOf, KeepsSettings};
 ghost use Rattle.promises.specs.Circuits.{HasCircuit};
@@ -123,7 +123,7 @@ pub fn compile_expanded(
     ensures timed { IfOk result (λ c. IsTimed (allowed_units settings.now) c.untimed c.timed (plain_of c.report).loops) }
     ensures kept { IfOk result (λ c. KeepsSettings (plain_of c.report) settings.now) }
     ensures longer { IfOk result (λ c. EachNodeCounts c.timed.nodes.items (plain_of c.report)) }
-    ensures flat { IfOk result (λ c. IsFlatOf (expanded_of expanded.now) settings.now.plain c.untimed) }
+    ensures flat { IfOk result (λ c. IsFlatOf (expanded_of expanded.now) (passes_of settings.now) c.untimed) }
     ensures frame { IfOk result (λ c. frame_view c.timed.frame ≡ expanded_frame (expanded_of expanded.now)) }
     ensures init { IfOk result (λ c. (plain_of c.report).init ≡ reset_cycles (expanded_frame (expanded_of expanded.now))) }
 {

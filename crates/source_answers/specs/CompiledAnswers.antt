@@ -1,5 +1,5 @@
 -- What compiled programs answer, and in how many cycles.
-use Rattle.std.specs.Prelude.{◌≡◌, ℕ, Bool, List, Option}
+use Rattle.std.specs.Prelude.{◌≡◌, ℕ, true, List, Option}
 use Rattle.hls_base.specs.FileScope.{FileScope}
 use Rattle.hls_base.specs.declared.point.Point.{Point}
 use Rattle.hls_base.specs.declared.settings.Units.{Units}
@@ -18,7 +18,8 @@ use Rattle.report_rows.specs.Costs.{AreRowsOf}
 use Rattle.ir_core.specs.Bodies.{Words}
 use Rattle.clock_ir.specs.ClockRuns.{timed_program, clock_run}
 use Rattle.clock_runs.specs.Laws.{IsEnded}
-use Rattle.compile_steps.specs.Flat.{IsFlatOf}
+use Rattle.program_validity.specs.Programs.{is_valid}
+use Rattle.compile_steps.specs.Flat.{Passes, IsFlatOf}
 use Rattle.compile_steps.specs.Resets.{expanded_frame}
 use Rattle.compile_steps.specs.Reports.{IsTimed}
 use Rattle.timed_pieces.specs.StartedWords.Contents.{Begins}
@@ -38,6 +39,6 @@ AnswersAlways p top timed rows = (kept : FileScope) (scalars : List ℕ) (arrays
 
 -- Of a source without faults: the program with times that its flat program gets, in the frame of the expanded program, answers as the source does, in the cycles of the report's rows.
 abbrev pub CompiledProgramsAnswer : Type 0
-CompiledProgramsAnswer = (source : List ℕ) (p : ProgramTree) (top : ℕ) (name : List ℕ) → IsFaultless source p top name → (plain : Bool) (untimed : Cfg Untimed) → IsFlatOf (expanded p top) plain untimed
+CompiledProgramsAnswer = (source : List ℕ) (p : ProgramTree) (top : ℕ) (name : List ℕ) → IsFaultless source p top name → (passes : Passes) (untimed : Cfg Untimed) (flat_ : IsFlatOf (expanded p top) passes untimed) → is_valid flat_.unfused ≡ true
     → (units : Units) (timed : Cfg Timed) (loops : List PlainLoop) → IsTimed units untimed timed loops → frame_view timed.frame ≡ expanded_frame (expanded p top)
     → (rows : List Cost) → AreRowsOf timed.nodes.items rows → AnswersAlways p top timed rows

@@ -17,7 +17,7 @@ use Rattle.ir_layout.specs.Sizes.{sequence_size}
 use Rattle.passes.specs.Totals.{operations, sequence_total}
 use Rattle.ir_lower.specs.Frames.{frame_view}
 use Rattle.compile_steps.specs.Resets.{expanded_frame}
-use Rattle.timed_pieces.specs.FlatRuns.{Choice, IsLaidOut}
+use Rattle.timed_pieces.specs.FlatRuns.{Choice, IsUnfused}
 use Rattle.program_validity.specs.Programs.{is_valid}
 use Rattle.report_rows.specs.ForwardNodes.{HasForwardBody}
 use Rattle.program_sizes.specs.CompiledSizes.{IsSmallProgram}
@@ -27,7 +27,7 @@ use Rattle.source_answers.specs.SourceRuns.{IsFaultless, expanded}
 abbrev pub AcceptedSourcesCompileToValid : Type 0
 AcceptedSourcesCompileToValid = (source : List ℕ) (p : ProgramTree) (top : ℕ) (name : List ℕ) → IsFaultless source p top name → expanded_weight (program_elaborated p top) ≤ 8192
     → (start : Point) × (first_point (expanded p top).pieces ≡ Some start)
-    × ((choice : Choice) (cfg : Cfg Untimed) → IsLaidOut (frame_of (expanded p top)) choice (expanded p top).pieces start (expanded p top).result cfg
+    × ((choice : Choice) (cfg : Cfg Untimed) → IsUnfused (frame_of (expanded p top)) choice (expanded p top).pieces start (expanded p top).result cfg
     → frame_view cfg.frame ≡ expanded_frame (expanded p top) → (is_valid cfg ≡ true) × IsSmallProgram cfg × All HasForwardBody cfg.nodes.items)
 
 -- the tree of blocks that a source is lowered to, which begins at this point

@@ -11,7 +11,7 @@ use Rattle.compile_steps.specs.Resets.{expanded_frame}
 use Rattle.passes.specs.Lowering.Shapes.{first_point}
 use Rattle.pass_runs.specs.LowerRuns.Suits.{scope_of}
 use Rattle.pass_runs.specs.ConvertRuns.LoweredConversions.Suiting.{PiecesSuit}
-use Rattle.timed_pieces.specs.FlatRuns.{Choice, IsLaidOut}
+use Rattle.timed_pieces.specs.FlatRuns.{Choice, IsUnfused}
 use Rattle.timed_pieces.specs.StartedWords.Contents.{ResultIsThere}
 use Rattle.timed_pieces.specs.FormulaCycles.Ends.{LoopsLeadToTheirEnds}
 use Rattle.sound_trees.specs.Subscripts.{PiecesSubscriptsFit}
@@ -24,7 +24,7 @@ use Rattle.source_answers.specs.SourceRuns.{IsFaultless, expanded}
 
 -- The flat program that pieces are compiled to is valid: of pieces that are proper and have the types of what they name, beside a valid frame that is that of the expanded program, where there are numbers enough for its nodes and operations.
 abbrev pub LaidOutExpansionsAreValid : Type 0
-LaidOutExpansionsAreValid = (e : ExpandedTree) (choice : Choice) (point : Point) (cfg : Cfg Untimed) → IsLaidOut (frame_of e) choice e.pieces point e.result cfg → frame_view cfg.frame ≡ expanded_frame e
+LaidOutExpansionsAreValid = (e : ExpandedTree) (choice : Choice) (point : Point) (cfg : Cfg Untimed) → IsUnfused (frame_of e) choice e.pieces point e.result cfg → frame_view cfg.frame ≡ expanded_frame e
     → PiecesSuit (scope_of (frame_of e)) e.pieces → PiecesSubscriptsFit e.arrays e.pieces → PiecesAreProper e.arrays e.pieces → ResultIsThere e.variables e.ret e.result → LoopsLeadToTheirEnds cfg
     → is_frame cfg.frame ≡ true → HasNumbers cfg → is_valid cfg ≡ true
 
@@ -32,5 +32,5 @@ LaidOutExpansionsAreValid = (e : ExpandedTree) (choice : Choice) (point : Point)
 abbrev pub SourcesCompileToValid : Type 0
 SourcesCompileToValid = (source : List ℕ) (p : ProgramTree) (top : ℕ) (name : List ℕ) → IsFaultless source p top name
     → (start : Point) × (first_point (expanded p top).pieces ≡ Some start)
-    × ((choice : Choice) (cfg : Cfg Untimed) → IsLaidOut (frame_of (expanded p top)) choice (expanded p top).pieces start (expanded p top).result cfg
+    × ((choice : Choice) (cfg : Cfg Untimed) → IsUnfused (frame_of (expanded p top)) choice (expanded p top).pieces start (expanded p top).result cfg
     → frame_view cfg.frame ≡ expanded_frame (expanded p top) → NamesAreFew cfg.frame → HasNumbers cfg → is_valid cfg ≡ true)

@@ -6,3 +6,4 @@ pub mod AcceptedPrograms
 pub mod NearOuts
 pub mod LeadingHosts
 pub mod AddressedFrames
+pub mod FusedPrograms

@@ -4,6 +4,7 @@
 pub mod accepted_programs;
 pub mod addressed_frames;
 pub mod compiled_validity;
+pub mod fused_programs;
 pub mod kept_tables;
 pub mod leading_hosts;
 pub mod near_outs;

@@ -5,3 +5,4 @@ pub mod SoundPrograms
 pub mod TimedValidity
 pub mod StartedWords
 pub mod FormulaCycles
+pub mod FusedPrograms

@@ -1,6 +1,6 @@
 -- What all passes on blocks together keep.
 pub mod Runs
-use Rattle.std.specs.Prelude.{◌≡◌, ◌&&◌, ℕ, Bool, [], map, Option, Some}
+use Rattle.std.specs.Prelude.{◌≡◌, ◌&&◌, ℕ, Bool, true, [], map, Option, Some}
 use Rattle.std.specs.Option.{option_map}
 use Rattle.hls_base.specs.declared.number.VarId.{VarId}
 use Rattle.hls_base.specs.declared.point.Point.{Point}
@@ -30,12 +30,15 @@ use Rattle.pass_runs.specs.LowerRuns.Holding.{Holds, none_hidden, ArraysAreShort
 use Rattle.pass_runs.specs.LowerRuns.Suiting.{shut, BeginSuits}
 use Rattle.ir_layout.specs.Nodes.{node_of}
 use Rattle.ir_layout.specs.Layout.{laid_out}
+use Rattle.program_validity.specs.Programs.{is_valid}
+use Rattle.op_chain.specs.Laws.{IsFusedFrom}
 use Rattle.timed_pieces.specs.FlatRuns.Runs.{IsRunOf}
 
--- What passes are asked to do beside what they must: numbering keeps its blocks apart where they are to stay, and loops may become loop nodes.
+-- What passes are asked to do beside what they must: numbering keeps its blocks apart where they are to stay, loops may become loop nodes, and operators are fused at a period, if it is not 0.
 pub record Choice : Type 0 where
   pub apart : Bool
   pub loops : Bool
+  pub period : ℕ
 
 abbrev pub numbering_of : Frame → Choice → n.Scope
 numbering_of f choice = record { widths = typing.widths_of (scope_of f); apart = choice.apart }
@@ -60,10 +63,17 @@ pub record IsFine (f : Frame) (kept : Point → Bool) (pieces : PieceTrees) (poi
   pub points : AreApart (live_points (tree_of f pieces point))
 
 -- the flat program is laid out from the converted, numbered and lowered tree
-pub record IsLaidOut (f : Frame) (choice : Choice) (pieces : PieceTrees) (point : Point) (returned : Option VarId) (cfg : Cfg Untimed) : Type 0 where
+pub record IsUnfused (f : Frame) (choice : Choice) (pieces : PieceTrees) (point : Point) (returned : Option VarId) (cfg : Cfg Untimed) : Type 0 where
   pub shapes : flat.shapes_of cfg.frame ≡ shapes_of f
   pub nodes : map node_of cfg.nodes.items ≡ laid_out (converted_sequence (conversion_of f choice) (numbered_of f choice pieces point)) returned
   pub first : cfg.first.0 ≡ 0
+
+-- In such a program, if it is valid, operators are fused.
+pub record IsLaidOut (f : Frame) (choice : Choice) (pieces : PieceTrees) (point : Point) (returned : Option VarId) (cfg : Cfg Untimed) : Type 0 where
+  pub unfused : Cfg Untimed
+  pub laid : IsUnfused f choice pieces point returned unfused
+  pub valid : is_valid unfused ≡ true
+  pub fused : IsFusedFrom choice.period unfused cfg
 
 -- the points that have nodes
 abbrev pub has_node : Frame → Choice → (Point → Bool) → PieceTrees → Point → Point → Bool

@@ -3,6 +3,7 @@
 
 pub mod flat_runs;
 pub mod formula_cycles;
+pub mod fused_programs;
 pub mod laws;
 pub mod schedule_runs;
 pub mod sound_programs;

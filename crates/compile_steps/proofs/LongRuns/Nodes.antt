@@ -1,5 +1,6 @@
 -- The first node of the program that pieces are compiled to begins where the pieces do.
-use Rattle.std.proofs.Common.{◌≡◌, ◌∙◌, ℕ, Bool, sym, subst, refl, List, [], ◌∷◌, map, Option, Some, None}
+use Rattle.std.proofs.lemmas.Bool.{false≢true}
+use Rattle.std.proofs.Common.{◌≡◌, ◌∙◌, ℕ, Bool, sym, ap, subst, refl, List, [], ◌∷◌, map, Option, Some, None}
 use Rattle.std.specs.List.{Contains}
 use Rattle.std.proofs.lemmas.List.Elements.{All-head, All-contains_itself}
 use Rattle.hls_base.specs.declared.number.VarId.{VarId}
@@ -28,7 +29,9 @@ use Rattle.ir_core.specs.declared.timed.Timed.{Timed}
 use Rattle.cycle_report.specs.PlainReport.{PlainLoop}
 use Rattle.report_rows.specs.Costs.{node_point}
 use Rattle.report_rows.specs.Timing.{AreTimed}
-use Rattle.compile_steps.specs.Flat.{tree_of, numbered_of, converted_of, IsFlatOf}
+use Rattle.op_chain.specs.Skeletons.{Skeleton, skeleton}
+use Rattle.op_chain.proofs.ValidFusing.Skeletons.{skeletons_stay}
+use Rattle.compile_steps.specs.Flat.{tree_of, numbered_of, converted_of, Passes, IsFlatOf}
 use Rattle.compile_steps.specs.Reports.{IsTimed}
 
 -- ---- trees
@@ -91,9 +94,21 @@ timed_begin memories units q (n.Plain block ∷ nodes) (n.Plain own ∷ timed) r
     let first : Node Timed = n.Plain own in
     (first, (All-head (Contains (first ∷ timed)) first timed (All-contains_itself (first ∷ timed)), h.1.1.1.0.1.1.1.point ∙ b))
 
-pub node_there : (e : ExpandedTree) (is_plain : Bool) (untimed : Cfg Untimed) (units : Units) (timed : Cfg Timed) (loops : List PlainLoop) (is : IsFlatOf e is_plain untimed) → IsTimed units untimed timed loops
+-- nodes begin where others do that have the same skeletons
+begin_kept : (q : Point) (xs ys : List NodeTree) → map skeleton xs ≡ map skeleton ys → BeginAt q ys → BeginAt q xs
+begin_kept q xs [] same b = absurd b
+begin_kept q xs (looped point body next ∷ ys) same b = absurd b
+begin_kept q [] (plain point body end_ ∷ ys) same b = absurd (cc)
+begin_kept q (plain p c e ∷ xs) (plain point body end_ ∷ ys) same b =
+    let heads : skeleton (plain p c e) ≡ skeleton (plain point body end_) = cc in ap (λ (s : Skeleton). s.point) heads ∙ b
+begin_kept q (looped p c next ∷ xs) (plain point body end_ ∷ ys) same b =
+    let heads : skeleton (looped p c next) ≡ skeleton (plain point body end_) = cc in absurd (false≢true (sym (ap (λ (s : Skeleton). s.loop) heads)))
+
+pub node_there : (e : ExpandedTree) (passes : Passes) (untimed : Cfg Untimed) (units : Units) (timed : Cfg Timed) (loops : List PlainLoop) (is : IsFlatOf e passes untimed) → IsTimed units untimed timed loops
     → HasNodeAt is.start timed.nodes.items
-node_there e is_plain untimed units timed loops is times =
-    let blocks = converted_of e is_plain is.start in
-    let begins = subst (λ q. BeginAt q (laid_out blocks e.result)) (start_kept e is_plain is.start) (laid_begin blocks e.result) in
-    timed_begin untimed.frame.memories.items units is.start untimed.nodes.items timed.nodes.items times.nodes.found times.nodes.each (subst (BeginAt is.start) (sym is.nodes) begins)
+node_there e passes untimed units timed loops is times =
+    let blocks = converted_of e passes.plain is.start in
+    let begins = subst (λ q. BeginAt q (laid_out blocks e.result)) (start_kept e passes.plain is.start) (laid_begin blocks e.result) in
+    let same : map skeleton (map node_of untimed.nodes.items) ≡ map skeleton (laid_out blocks e.result) =
+    ap (map skeleton) is.fused.nodes ∙ skeletons_stay passes.period _ (map node_of is.unfused.nodes.items) ∙ ap (map skeleton) is.nodes in
+    timed_begin untimed.frame.memories.items units is.start untimed.nodes.items timed.nodes.items times.nodes.found times.nodes.each (begin_kept is.start (map node_of untimed.nodes.items) (laid_out blocks e.result) same begins)

@@ -42,13 +42,13 @@ begins_at p top at None is e = absurd cc
 begins_at p top at (Some fn) is e = expanded_point (program_elaborated p top) fn is ∙ ap (λ q. Some (begin_at q [])) (same_Some fn.at at e)
 
 pub runs_long : EndedRunsAreLong
-runs_long p top name named plain untimed flat_ units timed loops times report counts kept scalars arrays n result last left trace ends =
+runs_long p top name named passes untimed flat_ units timed loops times report counts kept scalars arrays n result last left trace ends =
     let body = body_there (slice_get p.items top) name named in
     let f = body.0 in
     let begin = begin_at f.at [] in
     let first = first_passed p top f kept scalars arrays n result last left trace (ap function_at body.1.0) ends in
     let begins = begins_at p top f.at (top_of (program_elaborated p top)) refl (top_place p top f body.1.0 body.1.1) in
     let start : flat_.start ≡ begin = same_Some flat_.start begin (sym flat_.starts ∙ begins) in
-    let node = node_there (expansion (program_elaborated p top)) plain untimed units timed loops flat_ times in
+    let node = node_there (expansion (program_elaborated p top)) passes untimed units timed loops flat_ times in
     let passed : 1 ≤ count_in (tally_of trace) begin = subst (λ (points : List Point). 1 ≤ count_in (tally_of points) begin) (sym first.1) (counted begin first.0) in
     counts node.0 (tally_of trace) node.1.0 (subst (λ (q : Point). 1 ≤ count_in (tally_of trace) q) (sym (node.1.1 ∙ start)) passed)

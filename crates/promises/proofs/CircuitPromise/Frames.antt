@@ -1,5 +1,5 @@
 -- Plans of programs that are laid out from an expanded program fit their frames.
-use Rattle.std.proofs.Common.{◌≡◌, ◌≢◌, ◌∙◌, ◌<◌, ◌≤◌, ◌^◌, ℕ, zero, suc, refl, sym, ap, subst, arith, List, [], ◌∷◌, map, slice_get, Option, Some, None}
+use Rattle.std.proofs.Common.{◌≡◌, ◌≢◌, ◌∙◌, ◌<◌, ◌≤◌, ◌^◌, ℕ, zero, suc, refl, sym, ap, subst, arith, List, [], ◌∷◌, length, map, slice_get, Option, Some, None}
 use Rattle.std.proofs.lemmas.Option.{none-some, same_Some}
 use Rattle.hls_base.specs.declared.number.VarId.{VarId}
 use Rattle.hls_base.specs.declared.point.Point.{Point}
@@ -34,7 +34,7 @@ use Rattle.source_answers.proofs.SourceDesigns.PlanWords.Frames.{array_in}
 use Rattle.source_answers.proofs.SourceDesigns.PlanWords.Whole.{arrays_same}
 use Rattle.circuit_agreement.specs.Standing.{FitsFrame}
 use Rattle.promises.specs.CircuitPromise.{PlansFitFrames}
-use Rattle.promises.proofs.CircuitPromise.Returning.{HasNone, laid_none, none_returned}
+use Rattle.promises.proofs.CircuitPromise.Returning.{HasNone, laid_none, fused_none, none_returned}
 
 -- where there is a variable of the result, it has some bits
 result_there : (variables : List CType) (ret : Option CType) (result : Option VarId) → ResultIsThere variables ret result → (result ≡ None → ⊥) → result_width ret ≢ 0
@@ -55,7 +55,8 @@ module _ (e : ExpandedTree) (choice : Choice) (start : Point) (untimed : Cfg Unt
 
   nothing_returned : e.result ≡ None → Each HasNone (map node_of untimed.nodes.items)
   nothing_returned none =
-      subst (Each HasNone) (sym laid.nodes) (laid_none (record { leave = None; again = None; lands = []; returned = e.result }) finish 0 (converted_sequence (conversion_of (frame_of e) choice) (numbered_of (frame_of e) choice e.pieces start)) none)
+      subst (Each HasNone) (sym laid.fused.nodes) (fused_none choice.period (length laid.unfused.frame.variables.items) (map node_of laid.unfused.nodes.items)
+      (subst (Each HasNone) (sym laid.laid.nodes) (laid_none (record { leave = None; again = None; lands = []; returned = e.result }) finish 0 (converted_sequence (conversion_of (frame_of e) choice) (numbered_of (frame_of e) choice e.pieces start)) none)))
 
   returns_ : (i : ℕ) (body : TimedBody) (x : Operand) → slice_get plan.program.nodes i ≡ Some (clock.block body (end.Return (Some x))) → plan.result ≢ 0
   returns_ i body x at =

@@ -1,7 +1,7 @@
 -- A program without a result returns no word.
 use Rattle.std.specs.Prelude.{slice_get}
 use Rattle.std.specs.Option.{option_map}
-use Rattle.std.proofs.Common.{◌≡◌, ◌∙◌, ℕ, zero, suc, ◌+◌, refl, sym, ap, subst, List, [], ◌∷◌, ◌++◌, map, Option, Some, None}
+use Rattle.std.proofs.Common.{◌≡◌, ◌∙◌, ℕ, zero, suc, ◌+◌, refl, sym, ap, subst, Bool, List, [], ◌∷◌, ◌++◌, map, Option, Some, None}
 use Rattle.std.proofs.lemmas.Option.{none-some, same_Some}
 use Rattle.ir_core.specs.declared.body.Operand.{Operand}
 use Rattle.ir_core.specs.declared.body.Out.{Out}
@@ -22,6 +22,10 @@ use Rattle.clock_ir.specs.ClockRuns as clock
 use Rattle.clock_ir.specs.ClockRuns.{TimedNode, timed_node}
 use Rattle.clock_ir.specs.WellTimed.{IsWellTimedNode, AreWellTimed}
 use Rattle.clock_runs.specs.Premises.{Each}
+use Rattle.std.specs.Option.{option_map}
+use Rattle.op_chain.specs.Subscripts.{reaching}
+use Rattle.op_chain.specs.Pairs.{scope_of}
+use Rattle.op_chain.specs.Fusing.{moved, moved_end, made_in, fused_node, fused_nodes}
 
 -- ---- trees
 
@@ -103,6 +107,24 @@ mutual
   arms_none around place (more_arms first rest) r =
       both (laid around (onto (place + sequence_size first)) place first) (laid_arms around (place + sequence_size first) rest) (laid_none around (onto (place + sequence_size first)) place first r)
       (arms_none around (place + sequence_size first) rest r)
+
+-- ---- fused programs
+
+moved_none : (now : List ℕ) (e : EndTree) → EndHasNone e → EndHasNone (moved_end now e)
+moved_none now (jumps node) h = tt
+moved_none now (branches test yes_ no_) h = tt
+moved_none now (chooses cases other) h = tt
+moved_none now (returns value) h = ap (option_map (moved now)) h
+
+nodes_none : (period : ℕ) (marks : List Bool) (nodes : List NodeTree) → Each HasNone nodes → Each HasNone (map (fused_node period marks) nodes)
+nodes_none period marks [] h = tt
+nodes_none period marks (plain point body end_ ∷ nodes) h = (moved_none (made_in (scope_of period marks (plain point body end_)) body).now end_ h.0, nodes_none period marks nodes h.1)
+nodes_none period marks (looped point body node ∷ nodes) h = (tt, nodes_none period marks nodes h.1)
+
+-- a program that returns no word returns none once operators are fused
+pub fused_none : (period variables : ℕ) (nodes : List NodeTree) → Each HasNone nodes → Each HasNone (fused_nodes period variables nodes)
+fused_none zero variables nodes h = h
+fused_none (suc period) variables nodes h = nodes_none (suc period) (reaching variables nodes) nodes h
 
 -- ---- nodes with times
 

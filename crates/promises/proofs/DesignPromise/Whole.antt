@@ -21,12 +21,12 @@ arrays_sound p k = record {
 }
 
 pub promise_kept : DesignsKeepPromise
-promise_kept source p top name s function is plain untimed flat units timed loops times frame report settings d of circuit =
+promise_kept source p top name s function is passes untimed flat valid_ units timed loops times frame report settings d of circuit =
     let plan : Plan = plan_of timed circuit.registers (savings_of timed circuit.live) in
-    let compiled : IsCompiled plan = plans_compiled source p top name s plain untimed flat units timed loops times frame circuit.small circuit.live circuit.registers circuit.assigned in
+    let compiled : IsCompiled plan = plans_compiled source p top name s passes untimed flat valid_ units timed loops times frame circuit.small circuit.live circuit.registers circuit.assigned in
     record {
       named = circuit.named ∙ ap module_name (ap (λ (f : FrameView). f.name) frame ∙ expanded_named source p top name s);
-      agrees = sources_kept source p top name s function is plain untimed flat units timed loops times frame circuit.small report of.base of.rows
+      agrees = sources_kept source p top name s function is passes untimed flat valid_ units timed loops times frame circuit.small report of.base of.rows
           (of.init (frames_addressed (terminals s.replaced) s.end p top name s.derives s.faultless timed.frame frame))
           circuit.live circuit.registers circuit.assigned d (circuit.built.circuit (arrays_sound plan compiled)) circuit.built.memories circuit.valid;
     }

@@ -45,7 +45,7 @@ use Rattle.timed_pieces.proofs.FlatRuns.Whole.{flat_runs}
 use Rattle.timed_pieces.specs.Laws.{HasTimes, node_count}
 use Rattle.expanded_pieces.specs.BegunPieces.Points.{begins_at}
 use Rattle.clock_runs.specs.Laws.{run_cycles}
-use Rattle.flat_programs.specs.Laws.{LayoutIsWhole}
+use Rattle.program_validity.proofs.Whole.{whole}
 use Rattle.flat_programs.specs.There.{SequenceThere}
 use Rattle.valid_trees.proofs.WholeTrees.Program as trees
 use Rattle.sound_trees.specs.Laws.{tree_in}
@@ -55,11 +55,11 @@ use Rattle.clock_machine.specs.Starts.{IsNamed}
 use Rattle.timed_pieces.specs.StartedWords.Contents.{host_words, file_words}
 use Rattle.timed_pieces.proofs.StartedWords.Starting.{started_words_hold}
 use Rattle.timed_pieces.proofs.StartedWords.Ending.{ended_words_show}
-use Rattle.compile_steps.specs.Flat.{IsFlatOf}
+use Rattle.compile_steps.specs.Flat.{Passes, IsFlatOf}
 use Rattle.compile_steps.specs.Resets.{expanded_frame}
 use Rattle.compile_steps.specs.Reports.{IsTimed}
 use Rattle.source_answers.proofs.CompiledAnswers.Whole.{choice_of, laid_from, fine_from}
-use Rattle.source_validity.proofs.AcceptedPrograms.Whole.{accepted_valid}
+use Rattle.source_validity.proofs.AcceptedPrograms.Flat.{flat_valid, fused_parts}
 use Rattle.source_answers.specs.SourceRuns.{IsFaultless, expanded}
 use Rattle.source_answers.proofs.SourceRuns.Whole.{ends_as, ended_defined, same_answer}
 use Rattle.source_answers.specs.Laws.{AnswersAs}
@@ -96,16 +96,6 @@ frame_of_source e frame same = record {
   variables = ap (λ (v : FrameView). length v.variables) same ∙ length-map e.variables width;
 }
 
--- a program that is laid out from fine pieces names what is there
-laid_whole : LayoutIsWhole → (e : ExpandedTree) (choice : Choice) (start : Point) (cfg : Cfg Untimed) → IsFine (frame_of e) (begins_at e.pieces) e.pieces start → IsLaidOut (frame_of e) choice e.pieces start e.result cfg → IsNamed cfg.frame → IsWhole cfg
-laid_whole layout e choice start cfg fine laid named =
-    let scope : Scope = scope_of (frame_of e) in
-    let dims : length (memory_dims cfg) ≡ length scope.arrays = ap (λ (s : Shapes). length s.dims) laid.shapes ∙ length-map (frame_of e).arrays (λ (a : ArrayTree). a.lengths) in
-    let variables : length scope.variables ≡ length cfg.frame.variables.items = sym (length-map (frame_of e).variables width) ∙ sym (ap (λ (s : Shapes). length s.widths) laid.shapes) in
-    let there = trees.there scope (memory_dims cfg) choice.apart choice.loops e.pieces start dims fine.typed in
-    layout cfg (tree_in scope choice.apart choice.loops e.pieces start) e.result laid.nodes
-    (subst (λ v. SequenceThere v (memory_dims cfg) (tree_in scope choice.apart choice.loops e.pieces start)) variables there) named.kept named.params
-
 -- ---- runs
 
 run_is : {S A : Type 0} (r : Ran S A) (trace : List Point) (o : Outcome S A) → r.trace ≡ trace → r.outcome ≡ o → r ≡ ran trace o
@@ -117,7 +107,7 @@ ends_so cfg t trace n word result words count ends same = (trace, 0, ap (flat_ru
 -- ---- programs
 
 module _ (source : List ℕ) (p : ProgramTree) (top : ℕ) (name : List ℕ) (s : IsFaultless source p top name) (light : expanded_weight (program_elaborated p top) ≤ 8192) (x : Expanded) (is : expanded_of x ≡ expanded p top)
-    (plain : Bool) (cfg : Cfg Untimed) (flat_ : IsFlatOf (expanded p top) plain cfg) (frame : frame_view cfg.frame ≡ expanded_frame (expanded p top))
+    (passes : Passes) (cfg : Cfg Untimed) (flat_ : IsFlatOf (expanded p top) passes cfg) (frame : frame_view cfg.frame ≡ expanded_frame (expanded p top))
     (inputs : Inputs) (result : Option ℕ) (arrays : List (List ℕ)) (c : EndsInC p top inputs result arrays) where
   abbrev e : ExpandedTree
   e = expanded p top
@@ -125,33 +115,29 @@ module _ (source : List ℕ) (p : ProgramTree) (top : ℕ) (name : List ℕ) (s 
   abbrev start : Point
   start = flat_.start
 
-  laid : IsLaidOut (frame_of e) (choice_of plain) e.pieces start e.result cfg
-  laid = laid_from e plain cfg start flat_ refl frame
+  laid : IsLaidOut (frame_of e) (choice_of passes) e.pieces start e.result cfg
+  laid = laid_from e passes cfg start flat_ refl frame (flat_valid source p top name s light passes cfg flat_ frame)
 
   fine : IsFine (frame_of e) (begins_at e.pieces) e.pieces start
   fine = fine_from source p top name s start flat_.starts
 
   shape : IsSmallProgram cfg × All HasForwardBody cfg.nodes.items
-  shape =
-      let found = accepted_valid source p top name s light in
-      let same = same_Some start found.0 (sym flat_.starts ∙ found.1) in
-      let parts = found.2 (choice_of plain) cfg (laid_from e plain cfg found.0 flat_ same frame) frame in
-      (parts.1, parts.2)
+  shape = let parts = fused_parts source p top name s light passes cfg flat_ frame in (parts.1, parts.2)
 
   -- how often the run comes to points that have nodes
   abbrev count : ℕ
-  count = node_count (frame_of e) (choice_of plain) (begins_at e.pieces) e.pieces start c.trace
+  count = node_count (frame_of e) (choice_of passes) (begins_at e.pieces) e.pieces start c.trace
 
   few : count ≤ 1000000000
-  few = (let kept = filter_low (has_node (frame_of e) (choice_of plain) (begins_at e.pieces) e.pieces start) c.trace in let passed = few_passed source p top name s inputs result arrays c in omega (arith, kept, passed))
+  few = (let kept = filter_low (has_node (frame_of e) (choice_of passes) (begins_at e.pieces) e.pieces start) c.trace in let passed = few_passed source p top name s inputs result arrays c in omega (arith, kept, passed))
 
   -- ---- block by block
 
   ended_same : (a b : Option ℕ) (rows lines : List (List ℕ)) (kept left : FileScope) (trace : List Point) → ended a rows kept trace ≡ ended b lines left trace → (a ≡ b) × (rows ≡ lines)
   ended_same a b rows lines kept left trace h = (cc, cc)
 
-  pub in_steps : LayoutIsWhole → EndsInSteps e cfg inputs result arrays
-  in_steps layout =
+  pub in_steps : EndsInSteps e cfg inputs result arrays
+  in_steps =
       let t = first_words cfg.frame inputs in
       let fitting = fit source p top name s inputs result arrays c in
       let fits = widths source p top name s inputs result arrays c x is cfg.frame frame in
@@ -163,15 +149,15 @@ module _ (source : List ℕ) (p : ProgramTree) (top : ℕ) (name : List ℕ) (s 
       (ended_defined (c_run p top (first_contents p) inputs.scalars inputs.arrays c.points) result arrays c.kept c.trace c.ends) in
       let y = ends_as e run.trace run.outcome result arrays c.kept c.trace (same ∙ c.ends) in
       let ran_ = run_is run c.trace (went y.way y.store y.left) y.trace_is y.at in
-      let kept = flat_runs (frame_of e) (choice_of plain) (begins_at e.pieces) e.pieces start e.result cfg fine laid (started e first (first_contents p) inputs.scalars inputs.arrays) t found.2 fits in
+      let kept = flat_runs (frame_of e) (choice_of passes) (begins_at e.pieces) e.pieces start e.result cfg fine laid (started e first (first_contents p) inputs.scalars inputs.arrays) t found.2 fits in
       let z = kept.ends c.points y.left c.trace y.way y.store ran_ in
       let shown = ended_words_show e y.way y.store z.0 z.1 [] 0 fine.short has.0.kept has.0.result z.2 in
       let told = ended_same (result_word e e.ret e.result y.store) z.0 (host_arrays e.arrays 0 y.store) (host_words e.arrays 0 z.1.memories) (kept_of e y.store) (file_words e z.1) [] shown in
       let word : z.0 ≡ result = sym told.0 ∙ y.result_is in
-      let trace = filter (has_node (frame_of e) (choice_of plain) (begins_at e.pieces) e.pieces start) c.trace in
+      let trace = filter (has_node (frame_of e) (choice_of passes) (begins_at e.pieces) e.pieces start) c.trace in
       let none : count ≡ length trace + 0 = omega arith in
       record {
-        whole = laid_whole layout e (choice_of plain) start cfg fine laid (frames_named source p top name s cfg.frame (frame_of_source e cfg.frame frame));
+        whole = whole cfg (fused_parts source p top name s light passes cfg flat_ frame).0;
         points = count;
         few = few_steps cfg count shape.0 few;
         words = z.1;
@@ -186,7 +172,7 @@ module _ (source : List ℕ) (p : ProgramTree) (top : ℕ) (name : List ℕ) (s 
     timed_frame = times.frame ∙ frame
 
     small : HasSmallTimes timed
-    small = times_small units cfg timed loops shape.0 shape.1 (sources_near source p top name s start (choice_of plain) cfg laid) times
+    small = times_small units cfg timed loops shape.0 shape.1 (sources_near source p top name s start (choice_of passes) cfg laid) times
 
     has_times : HasTimes units cfg timed loops
     has_times = record { frame = times.frame; first = times.first; nodes = times.nodes }
@@ -194,12 +180,12 @@ module _ (source : List ℕ) (p : ProgramTree) (top : ℕ) (name : List ℕ) (s 
     pub in_edges : SourceProgramsAreReady → EndsInEdges e timed inputs result arrays
     in_edges ready =
         let t = first_words timed.frame inputs in
-        let a : AnswersAs p top (choice_of plain) start cfg timed (first_contents p) inputs.scalars inputs.arrays t =
-        source_answers source p top name s start flat_.starts (choice_of plain) cfg laid units timed loops has_times (first_contents p) inputs.scalars inputs.arrays t
+        let a : AnswersAs p top (choice_of passes) start cfg timed (first_contents p) inputs.scalars inputs.arrays t =
+        source_answers source p top name s start flat_.starts (choice_of passes) cfg laid units timed loops has_times (first_contents p) inputs.scalars inputs.arrays t
         (fit source p top name s inputs result arrays c) (begins source p top name s inputs result arrays c x is timed.frame timed_frame) (widths source p top name s inputs result arrays c x is timed.frame timed_frame) in
         let low = run_low cfg timed t count (nodes_short cfg.frame.memories.items units cfg.nodes.items timed.nodes.items times.nodes.found shape.1 small.nodes times.nodes.each) in
         record {
-          ready = ready source p top name s (choice_of plain) start cfg flat_.starts laid units timed loops has_times;
+          ready = ready source p top name s (choice_of passes) start cfg flat_.starts laid units timed loops has_times;
           named = frames_named source p top name s timed.frame (frame_of_source e timed.frame timed_frame);
           edges = 1 + run_cycles cfg timed t count;
           few = omega (arith, low, few);
@@ -207,9 +193,9 @@ module _ (source : List ℕ) (p : ProgramTree) (top : ℕ) (name : List ℕ) (s 
           ends = a.finite c.points result arrays c.kept c.trace c.ends;
         }
 
-pub flat_end : LayoutIsWhole → FlatRunsEndInTime
-flat_end layout source p top name s light x is plain cfg flat_ frame inputs result arrays c = in_steps source p top name s light x is plain cfg flat_ frame inputs result arrays c layout
+pub flat_end : FlatRunsEndInTime
+flat_end source p top name s light x is passes cfg flat_ frame inputs result arrays c = in_steps source p top name s light x is passes cfg flat_ frame inputs result arrays c
 
 pub clocked_end : SourceProgramsAreReady → ClockedRunsEndInTime
-clocked_end ready source p top name s light x is plain cfg flat_ units timed loops times frame inputs result arrays c =
-    in_edges source p top name s light x is plain cfg flat_ (sym times.frame ∙ frame) inputs result arrays c units timed loops times ready
+clocked_end ready source p top name s light x is passes cfg flat_ units timed loops times frame inputs result arrays c =
+    in_edges source p top name s light x is passes cfg flat_ (sym times.frame ∙ frame) inputs result arrays c units timed loops times ready

@@ -28,7 +28,7 @@ arrays_kept [] = refl
 arrays_kept (a ∷ arrays) = ap (λ l. plan_array a ∷ l) (arrays_kept arrays)
 
 pub plans_compiled : SourcePlansAreCompiled
-plans_compiled source p top name s plain untimed flat_ units timed loops times frame small live registers assigned =
+plans_compiled source p top name s passes untimed flat_ valid_ units timed loops times frame small live registers assigned =
     let e : ExpandedTree = expanded p top in
     let saved = savings_of timed live in
     let numbers = numbers_fit source s.tokens s.replaced s.spelled s.becomes in
@@ -38,11 +38,11 @@ plans_compiled source p top name s plain untimed flat_ units timed loops times f
     let sound = elaborated_sound tokens s.end p top name numbers s.derives s.named s.faultless in
     let same : HasFrame e (plan_of timed registers saved) = has_frame e timed registers saved (expanded_frame e) frame refl refl (arrays_kept e.arrays) in
     let times_ : HasTimes units untimed timed loops = record { frame = times.frame; first = times.first; nodes = times.nodes } in
-    compiled e (choice_of plain) (begins_at e.pieces) flat_.start untimed (fine_from source p top name s flat_.start flat_.starts) subscripts (laid_from e plain untimed flat_.start flat_ refl (sym times.frame ∙ frame))
+    compiled e (choice_of passes) (begins_at e.pieces) flat_.start untimed (fine_from source p top name s flat_.start flat_.starts) subscripts (laid_from e passes untimed flat_.start flat_ refl (sym times.frame ∙ frame) valid_)
     units timed loops times_ small (frames_addressed tokens s.end p top name s.derives s.faultless timed.frame frame) live registers assigned
     same has.contents (hosts_first (program_elaborated p top) sound) has.kept has.result (checked_kept tokens s.end p top name numbers s.derives s.named s.faultless)
 
 pub sources_kept : SourcesKeepPromise
-sources_kept source p top name s function is plain untimed flat_ units timed loops times frame small report base rows init live registers assigned d circuit memories valid =
-    promise_kept source p top name s function is plain untimed flat_ units timed loops times frame report base rows init registers (savings_of timed live)
-    (plans_compiled source p top name s plain untimed flat_ units timed loops times frame small live registers assigned) d circuit memories valid
+sources_kept source p top name s function is passes untimed flat_ valid_ units timed loops times frame small report base rows init live registers assigned d circuit memories valid =
+    promise_kept source p top name s function is passes untimed flat_ valid_ units timed loops times frame report base rows init registers (savings_of timed live)
+    (plans_compiled source p top name s passes untimed flat_ valid_ units timed loops times frame small live registers assigned) d circuit memories valid

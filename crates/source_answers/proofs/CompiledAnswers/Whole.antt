@@ -1,6 +1,6 @@
 -- From the compiler's promises to the answers of the clocked run.
 use Rattle.std.proofs.Common.{◌≡◌, ℕ, Bool, List, [], ◌∷◌, map, Option, Some, None, refl, sym, ap, ap₂, ◌∙◌, subst}
-use Rattle.std.specs.Prelude.{false, not}
+use Rattle.std.specs.Prelude.{true, false, not}
 use Rattle.std.proofs.lemmas.Option.{same_Some}
 use Rattle.hls_base.specs.FileScope.{FileScope}
 use Rattle.hls_base.specs.declared.point.Point.{Point}
@@ -26,7 +26,8 @@ use Rattle.ir_core.specs.Bodies.{Words, Shapes}
 use Rattle.ir_core.specs.FlatRuns as flat
 use Rattle.pass_runs.specs.LowerRuns.Suits as suits
 use Rattle.passes.specs.Lowering.Shapes.{first_point}
-use Rattle.timed_pieces.specs.FlatRuns.{Choice, IsFine, IsLaidOut}
+use Rattle.program_validity.specs.Programs.{is_valid}
+use Rattle.timed_pieces.specs.FlatRuns.{Choice, IsFine, IsUnfused, IsLaidOut}
 use Rattle.expanded_pieces.specs.BegunPieces.Points.{begins_at}
 use Rattle.timed_pieces.specs.Laws.{HasTimes}
 use Rattle.source_answers.proofs.SourceRuns.SourceTypes.Whole.{sources_fine}
@@ -41,7 +42,7 @@ use Rattle.compile_steps.proofs.BegunPrograms.Programs.{checked_begins}
 use Rattle.source_answers.specs.SourceRuns.{IsFaultless, expanded}
 use Rattle.source_answers.specs.Laws.{HaveWidths, IsCounted, AnswersAs}
 use Rattle.source_answers.proofs.Whole.{answers}
-use Rattle.compile_steps.specs.Flat.{IsFlatOf}
+use Rattle.compile_steps.specs.Flat.{Passes, IsFlatOf}
 use Rattle.compile_steps.specs.Resets.{array_memory, expanded_frame}
 use Rattle.compile_steps.specs.Reports.{IsTimed}
 use Rattle.source_answers.specs.CompiledAnswers.{AnswersAlways, CompiledProgramsAnswer}
@@ -69,13 +70,17 @@ same_shapes e cfg h =
 
 -- ---- the flat program
 
-abbrev pub choice_of : Bool → Choice
-choice_of plain = record { apart = false; loops = not plain }
+abbrev pub choice_of : Passes → Choice
+choice_of passes = record { apart = false; loops = not passes.plain; period = passes.period }
 
-pub laid_from : (e : ExpandedTree) (plain : Bool) (cfg : Cfg Untimed) (start : Point) (f : IsFlatOf e plain cfg) → f.start ≡ start → frame_view cfg.frame ≡ expanded_frame e
-    → IsLaidOut (frame_of e) (choice_of plain) e.pieces start e.result cfg
-laid_from e plain cfg start f same frame =
-    subst (λ s. IsLaidOut (frame_of e) (choice_of plain) e.pieces s e.result cfg) same (record { shapes = same_shapes e cfg frame; nodes = f.nodes; first = f.first })
+pub unfused_from : (e : ExpandedTree) (passes : Passes) (cfg : Cfg Untimed) (start : Point) (f : IsFlatOf e passes cfg) → f.start ≡ start → frame_view cfg.frame ≡ expanded_frame e
+    → IsUnfused (frame_of e) (choice_of passes) e.pieces start e.result f.unfused
+unfused_from e passes cfg start f same frame =
+    subst (λ s. IsUnfused (frame_of e) (choice_of passes) e.pieces s e.result f.unfused) same (record { shapes = same_shapes e f.unfused (ap frame_view (sym f.fused.frame) ∙ frame); nodes = f.nodes; first = f.first })
+
+pub laid_from : (e : ExpandedTree) (passes : Passes) (cfg : Cfg Untimed) (start : Point) (f : IsFlatOf e passes cfg) → f.start ≡ start → frame_view cfg.frame ≡ expanded_frame e → is_valid f.unfused ≡ true
+    → IsLaidOut (frame_of e) (choice_of passes) e.pieces start e.result cfg
+laid_from e passes cfg start f same frame valid = record { unfused = f.unfused; laid = unfused_from e passes cfg start f same frame; valid = valid; fused = f.fused }
 
 -- the pieces of a source without faults are fine from where they begin
 pub fine_from : (source : List ℕ) (p : ProgramTree) (top : ℕ) (name : List ℕ) → IsFaultless source p top name → (start : Point) → first_point (expanded p top).pieces ≡ Some start
@@ -86,31 +91,31 @@ fine_from source p top name s start first =
     subst (λ (q : Point). IsFine (frame_of e) (begins_at e.pieces) e.pieces q) (same_Some found.0 start (sym found.1.first ∙ first)) found.1
 
 -- the points of the program are passed as the formula of its report counts them
-pub counted : (source : List ℕ) (p : ProgramTree) (top : ℕ) (name : List ℕ) → IsFaultless source p top name → (plain : Bool) (untimed : Cfg Untimed) (start : Point) → first_point (expanded p top).pieces ≡ Some start
-    → IsLaidOut (frame_of (expanded p top)) (choice_of plain) (expanded p top).pieces start (expanded p top).result untimed
-    → (kept : FileScope) (scalars : List ℕ) (arrays : List (List ℕ)) → IsCounted p top (choice_of plain) start untimed kept scalars arrays
-counted source p top name s plain untimed start first laid kept scalars arrays =
+pub counted : (source : List ℕ) (p : ProgramTree) (top : ℕ) (name : List ℕ) → IsFaultless source p top name → (passes : Passes) (untimed : Cfg Untimed) (start : Point) → first_point (expanded p top).pieces ≡ Some start
+    → IsLaidOut (frame_of (expanded p top)) (choice_of passes) (expanded p top).pieces start (expanded p top).result untimed
+    → (kept : FileScope) (scalars : List ℕ) (arrays : List (List ℕ)) → IsCounted p top (choice_of passes) start untimed kept scalars arrays
+counted source p top name s passes untimed start first laid kept scalars arrays =
     let e = expanded p top in
     let fine = fine_from source p top name s start first in
     let differ : AreApart (all_points e.pieces) = source_points source s.tokens s.replaced s.end p top s.spelled s.becomes s.derives in
     record {
-      loops = loops_lead (frame_of e) (choice_of plain) e.pieces start e.result untimed laid (points_differ (frame_of e) (choice_of plain) (begins_at e.pieces) e.pieces start e.result untimed fine laid differ) (loops_end (program_elaborated p top));
-      passes = λ begun typed. passes_kept (frame_of e) (choice_of plain) (begins_at e.pieces) e.pieces start e.result untimed fine laid differ (started e begun kept scalars arrays);
+      loops = loops_lead (frame_of e) (choice_of passes) e.pieces start e.result untimed laid (points_differ (frame_of e) (choice_of passes) (begins_at e.pieces) e.pieces start e.result untimed fine laid differ) (loops_end (program_elaborated p top));
+      passes = λ begun typed. passes_kept (frame_of e) (choice_of passes) (begins_at e.pieces) e.pieces start e.result untimed fine laid differ (started e begun kept scalars arrays);
     }
 
 -- ---- the whole
 
 pub answer : CompiledProgramsAnswer
-answer source p top name s plain untimed flat_ units timed loops times frame rows are kept scalars arrays t fit begins widths =
+answer source p top name s passes untimed flat_ valid units timed loops times frame rows are kept scalars arrays t fit begins widths =
     let e = expanded p top in
     let start = flat_.start in
     let numbers = numbers_fit source s.tokens s.replaced s.spelled s.becomes in
     let subscripts = checked_fit (terminals s.replaced) s.end p top name numbers s.derives s.named s.faultless in
     let has = checked_begins (terminals s.replaced) s.end p top name numbers s.derives s.named s.faultless in
-    let laid : IsLaidOut (frame_of e) (choice_of plain) e.pieces start e.result untimed = laid_from e plain untimed start flat_ refl (sym times.frame ∙ frame) in
+    let laid : IsLaidOut (frame_of e) (choice_of passes) e.pieces start e.result untimed = laid_from e passes untimed start flat_ refl (sym times.frame ∙ frame) valid in
     let timed_ : HasTimes units untimed timed loops = record { frame = times.frame; first = times.first; nodes = times.nodes } in
-    let a : AnswersAs p top (choice_of plain) start untimed timed kept scalars arrays t =
-    answers source p top name s start (fine_from source p top name s start flat_.starts) subscripts has.0 (choice_of plain) untimed laid units timed loops timed_ kept scalars arrays t fit begins widths in record {
-      finite = λ n result last left trace h. a.counted (counted source p top name s plain untimed start flat_.starts laid kept scalars arrays) rows are n result last left trace h;
+    let a : AnswersAs p top (choice_of passes) start untimed timed kept scalars arrays t =
+    answers source p top name s start (fine_from source p top name s start flat_.starts) subscripts has.0 (choice_of passes) untimed laid units timed loops timed_ kept scalars arrays t fit begins widths in record {
+      finite = λ n result last left trace h. a.counted (counted source p top name s passes untimed start flat_.starts laid kept scalars arrays) rows are n result last left trace h;
       endless = a.endless;
     }

@@ -22,7 +22,10 @@ use Rattle.pass_runs.specs.ConvertRuns.LoweredConversions.PiecePoints.{from_poin
 use Rattle.pass_runs.proofs.ConvertRuns.LoweredConversions.Points.{points}
 use Rattle.pass_runs.specs.LowerRuns.Suits.{scope_of}
 use Rattle.pass_runs.specs.LowerRuns.Holding.{none_hidden}
-use Rattle.timed_pieces.specs.FlatRuns.{Choice, IsFine, IsLaidOut, numbering_of, conversion_of, tree_of, numbered_of, has_node}
+use Rattle.timed_pieces.specs.FormulaCycles.{PointsDiffer}
+use Rattle.timed_pieces.proofs.FusedPrograms.Nodes.{points_stay, fused_alike}
+use Rattle.timed_pieces.proofs.FusedPrograms.Whole as fused
+use Rattle.timed_pieces.specs.FlatRuns.{Choice, IsFine, IsUnfused, numbering_of, conversion_of, tree_of, numbered_of, has_node}
 use Rattle.expanded_pieces.specs.ApartPoints.Apart.{AreApart}
 use Rattle.expanded_pieces.specs.ApartPoints.Points.{all_points}
 use Rattle.expanded_pieces.proofs.ApartPoints.Apart.{IsIn, Taken, away_at}
@@ -66,7 +69,7 @@ none_times q (p ∷ trace) h = ap (λ b. if b then times trace q + 1 else times 
 
 -- ---- programs
 
-module _ (f : Frame) (choice : Choice) (kept : Point → Bool) (pieces : PieceTrees) (point : Point) (returned : Option VarId) (cfg : Cfg Untimed) (fine : IsFine f kept pieces point) (laid : IsLaidOut f choice pieces point returned cfg) (differ : AreApart (all_points pieces)) where
+module _ (f : Frame) (choice : Choice) (kept : Point → Bool) (pieces : PieceTrees) (point : Point) (returned : Option VarId) (cfg : Cfg Untimed) (fine : IsFine f kept pieces point) (laid : IsUnfused f choice pieces point returned cfg) (differ : AreApart (all_points pieces)) where
   abbrev first : SequenceTree
   first = tree_of f pieces point
 
@@ -113,9 +116,14 @@ module _ (f : Frame) (choice : Choice) (kept : Point → Bool) (pieces : PieceTr
       by (inl h) = inl (ap₂ (λ a b. a && b) (live_kept q h.1) h.0)
       by (inr j) = inr (none_passes q j s n)
 
+pub unfused_differ : (f : Frame) (choice : Choice) (kept : Point → Bool) (pieces : PieceTrees) (point : Point) (returned : Option VarId) (cfg : Cfg Untimed) → IsFine f kept pieces point → IsUnfused f choice pieces point returned cfg → AreApart (all_points pieces) → PointsDiffer cfg.nodes.items
+unfused_differ f choice kept pieces point returned cfg fine laid differ = one_node cfg.nodes.items ((nodes_taken f choice kept pieces point returned cfg fine laid differ).apart differ)
+
 pub points_differ : LaidOutPointsDiffer
-points_differ f choice kept pieces point returned cfg fine laid differ = one_node cfg.nodes.items ((nodes_taken f choice kept pieces point returned cfg fine laid differ).apart differ)
+points_differ f choice kept pieces point returned cfg fine laid differ = fused.points_differ choice.period laid.unfused cfg laid.fused (unfused_differ f choice kept pieces point returned laid.unfused fine laid.laid differ)
 
 pub passes_kept : LaidOutPassesKept
 passes_kept f choice kept pieces point returned cfg fine laid differ s n i a e =
-    kept_there f choice kept pieces point returned cfg fine laid differ (node_point a) (subst (IsIn (node_point a)) (nodes_are f choice kept pieces point returned cfg fine laid differ) (node_in cfg.nodes.items i a e)) s n
+    let stay = points_stay laid.unfused.nodes.items cfg.nodes.items (fused_alike choice.period laid.unfused cfg laid.fused) in
+    kept_there f choice kept pieces point returned laid.unfused fine laid.laid differ (node_point a)
+    (subst (IsIn (node_point a)) (sym stay ∙ nodes_are f choice kept pieces point returned laid.unfused fine laid.laid differ) (node_in cfg.nodes.items i a e)) s n

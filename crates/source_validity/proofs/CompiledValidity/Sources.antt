@@ -15,9 +15,9 @@ use Rattle.source_answers.proofs.SourceRuns.ElaboratedSubscripts.Programs.{check
 use Rattle.compile_steps.proofs.BegunPrograms.Programs.{checked_begins}
 use Rattle.source_validity.proofs.KeptTables.Programs.{checked_proper}
 use Rattle.timed_pieces.specs.FormulaCycles.Ends.{LoopsLeadToTheirEnds}
-use Rattle.timed_pieces.proofs.FormulaCycles.LaidOut.{loops_lead}
+use Rattle.timed_pieces.proofs.FormulaCycles.LaidOut.{unfused_lead}
 use Rattle.source_answers.proofs.EndedLoops.Whole.{loops_end}
-use Rattle.source_answers.proofs.NodePoints.Whole.{points_differ}
+use Rattle.source_answers.proofs.NodePoints.Whole.{unfused_differ}
 use Rattle.source_validity.proofs.ValidFrames.Whole.{frame_valid}
 use Rattle.source_answers.specs.SourceRuns.{expanded}
 use Rattle.source_validity.specs.CompiledValidity.{SourcesCompileToValid}
@@ -42,6 +42,6 @@ sources_valid source p top name s =
       fine.1.first,
       λ choice cfg laid same few many.
           (let lead : LoopsLeadToTheirEnds cfg =
-          loops_lead (frame_of e) choice e.pieces fine.0 e.result cfg laid (points_differ (frame_of e) choice (begins_at e.pieces) e.pieces fine.0 e.result cfg fine.1 laid differ) (loops_end core) in
+          unfused_lead (frame_of e) choice e.pieces fine.0 e.result cfg laid (unfused_differ (frame_of e) choice (begins_at e.pieces) e.pieces fine.0 e.result cfg fine.1 laid differ) (loops_end core) in
           laid_out_valid e choice fine.0 cfg laid same fine.1.typed subscripts proper ends.result lead (frame_valid e cfg.frame same ends.contents ends.kept (sound_params core sound) arrays few) many),
     )

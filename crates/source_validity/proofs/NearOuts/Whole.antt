@@ -26,6 +26,7 @@ use Rattle.source_answers.proofs.SourceRuns.ElaboratedSubscripts.Programs.{check
 use Rattle.source_answers.proofs.SourceRuns.SourceTypes.Whole.{sources_fine}
 use Rattle.source_answers.specs.SourceRuns.{expanded}
 use Rattle.source_validity.specs.NearOuts.{LaidOutOutsAreNear, SourcesHaveNearOuts}
+use Rattle.source_validity.proofs.FusedPrograms.Near.{outs_stay_near}
 use Rattle.source_validity.proofs.NearOuts.Laid.{program_has}
 use Rattle.source_validity.proofs.NearOuts.Iterations.{BodyOutsAreNear, BodyTestIsNear, own_outs, iteration_outs, tests_fit}
 
@@ -54,4 +55,4 @@ sources_near source p top name s start choice cfg laid =
     let numbers = numbers_fit source s.tokens s.replaced s.spelled s.becomes in
     let fine = sources_fine source s.tokens s.replaced s.end p top name s.spelled s.becomes s.derives s.named s.faultless in
     let subscripts = checked_fit (terminals s.replaced) s.end p top name numbers s.derives s.named s.faultless in
-    laid_out_near (scope_of (frame_of e)) choice.apart choice.loops e.pieces start e.result cfg fine.1.typed subscripts laid.nodes
+    outs_stay_near choice.period laid.unfused cfg laid.fused (laid_out_near (scope_of (frame_of e)) choice.apart choice.loops e.pieces start e.result laid.unfused fine.1.typed subscripts laid.laid.nodes)

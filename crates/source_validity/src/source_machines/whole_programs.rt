@@ -2,8 +2,6 @@
 ghost use Rattle.source_validity.specs.SourceMachines.WholePrograms.{WellTimedIsReady, ScheduledIsReady};
 ghost use Rattle.source_validity.specs.SourceMachines.WholePrograms.Machines.{MachineHaltsAtEnd, EndedRunsEndMachines, RunsEndOnce, ScheduledMachinesKeepRuns};
 
-use flat_programs::layout_runs::layout_is_whole;
-
 /// A sound program that names what is there has, with times that keep its rules, all that a clock machine takes for granted.
 pub fn well_timed_is_ready()
     ensures { WellTimedIsReady }
@@ -12,9 +10,7 @@ pub fn well_timed_is_ready()
 /// So has each program that is laid out and scheduled from fine pieces, where each element has as many subscripts as its array has dimensions.
 pub fn scheduled_is_ready()
     ensures { ScheduledIsReady }
-{
-    layout_is_whole();
-}
+{}
 
 /// A machine that stands in a clocked run has halted exactly where the run has ended.
 pub fn machine_halts_at_end()

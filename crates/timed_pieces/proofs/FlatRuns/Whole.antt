@@ -1,5 +1,5 @@
 -- A flat program has the run of its pieces.
-use Rattle.std.proofs.Common.{◌≡◌, ◌∙◌, ℕ, ◌+◌, sym, ap, subst, Bool, List, length, filter, Option}
+use Rattle.std.proofs.Common.{◌≡◌, ◌∙◌, ℕ, ◌+◌, sym, ap, subst, Bool, List, ◌++◌, length, filter, Option, append_assoc}
 use Rattle.std.specs.Option.{option_map}
 use Rattle.hls_base.specs.declared.point.Point.{Point}
 use Rattle.hls_base.specs.Steps.{Outcome, went, undefined, waiting, Ran}
@@ -28,8 +28,19 @@ use Rattle.pass_runs.proofs.ConvertRuns.ConvertedTrees.Converted as converted
 use Rattle.pass_runs.proofs.ConvertRuns.MergedBlocks.Whole as merged
 use Rattle.flat_programs.proofs.Whole.{layout_kept}
 use Rattle.pass_runs.proofs.LowerRuns.LoweredRuns.Whole.{lowered_runs}
+use Rattle.hls_base.specs.declared.number.VarId.{VarId}
+use Rattle.pieces.specs.Trees.{PieceTrees}
+use Rattle.c_meaning.specs.PieceRuns.Values.{Store}
+use Rattle.c_meaning.specs.PieceRuns.Pieces.{Frame}
+use Rattle.ir_core.specs.declared.cfg.Cfg.{Cfg}
+use Rattle.ir_core.specs.declared.stamp.Untimed.{Untimed}
+use Rattle.pass_runs.specs.LowerRuns.Holding.{Holds, none_hidden}
+use Rattle.op_chain.specs.Laws as fusing
+use Rattle.op_chain.specs.Laws.{IsKeptBy}
+use Rattle.op_chain.proofs.Kept.{runs_kept}
+use Rattle.op_chain.proofs.ValidFusing.Forward.{valid_forward}
 use Rattle.timed_pieces.specs.FlatRuns.Runs.{IsRunOf}
-use Rattle.timed_pieces.specs.FlatRuns.{numbering_of, conversion_of, tree_of, numbered_of, has_node, AreDone, FlatProgramsKeepRuns}
+use Rattle.timed_pieces.specs.FlatRuns.{Choice, IsFine, IsUnfused, numbering_of, conversion_of, tree_of, numbered_of, has_node, AreDone, FlatProgramsKeepRuns}
 use Rattle.timed_pieces.proofs.FlatRuns.Composing.{with_end, Shown, composed}
 
 -- ---- runs that are given in another way
@@ -58,8 +69,11 @@ same_second {S} {T} {A} {B} kept shows shows1 first r q e weaker h = record {
 
 -- ---- the whole
 
-pub flat_runs : FlatProgramsKeepRuns
-flat_runs f choice kept pieces point returned cfg fine laid s t holds fits =
+unfused_runs : (f : Frame) (choice : Choice) (kept : Point → Bool) (pieces : PieceTrees) (point : Point) (returned : Option VarId) (cfg : Cfg Untimed)
+    → IsFine f kept pieces point → IsUnfused f choice pieces point returned cfg
+    → (s : Store) (t : Words) → Holds f none_hidden s t → Fits (typing.widths_of (scope_of f)) (typing.words_of (scope_of f)) t
+    → IsRunOf (has_node f choice kept pieces point) (AreDone f returned) (λ n. pieces_run f pieces s n) (λ n. flat_run cfg t n)
+unfused_runs f choice kept pieces point returned cfg fine laid s t holds fits =
     let scope = scope_of f in
     let words = typing.words_of scope in
     let tree = tree_of f pieces point in
@@ -80,3 +94,32 @@ flat_runs f choice kept pieces point returned cfg fine laid s t holds fits =
     (λ way store value u h. (h.1.0, h.3, h.1.2, h.2))
     (composed kept stays (control.AreDone f) known tell first second third (lowered_runs f kept pieces point fine.short fine.first fine.fit fine.begins s t holds)
     (same_first stays known (λ n. sequence_run (shapes_of f) small t n) second third numbers converts))
+
+-- ---- fused programs
+
+undefined_too : {S A : Type 0} (o : Outcome S A) → fusing.IsUndefined o → IsUndefined o
+undefined_too (went v s n) h = h
+undefined_too (undefined rule at) h = tt
+undefined_too waiting h = h
+
+begins_too : (xs ys zs : List Point) → Begins xs ys → fusing.Begins ys zs → Begins xs zs
+begins_too xs ys zs h g = (h.0 ++ g.0, g.1 ∙ ap (λ l. l ++ g.0) h.1 ∙ append_assoc xs h.0 g.0)
+
+undefined_before : {S A : Type 0} (o : Outcome S A) → IsUndefined o → fusing.IsUndefined o
+undefined_before (went v s n) h = h
+undefined_before (undefined rule at) h = tt
+undefined_before waiting h = h
+
+kept_through : {S T A B : Type 0} (kept : Point → Bool) (shows : A → S → B → T → Type 0) (first : ℕ → Ran S A) (second third : ℕ → Ran T B) → IsRunOf kept shows first second → IsKeptBy second third → IsRunOf kept shows first third
+kept_through {S} {T} {A} {B} kept shows first second third h k = record {
+  comes = λ n. let x = h.comes n in (x.0, begins_too (filter kept (first n).trace) (second x.0).trace (third x.0).trace x.1 (k.comes x.0));
+  ends = λ n left trace v s is.
+      let x = h.ends n left trace v s is in (x.0, x.1, x.2, λ m. k.ends (length (filter kept trace) + m) m (filter kept trace) x.0 x.1 (x.3 m));
+  goes_on = λ w n. k.waits n (h.goes_on w n);
+  faults = λ n u. h.faults n (undefined_too (second n).outcome (k.faults n (undefined_before (third n).outcome u)));
+}
+
+pub flat_runs : FlatProgramsKeepRuns
+flat_runs f choice kept pieces point returned cfg fine laid s t holds fits =
+    kept_through (has_node f choice kept pieces point) (AreDone f returned) (λ n. pieces_run f pieces s n) (flat_run laid.unfused t) (flat_run cfg t)
+    (unfused_runs f choice kept pieces point returned laid.unfused fine laid.laid s t holds fits) (runs_kept choice.period laid.unfused cfg (valid_forward laid.unfused laid.valid) laid.fused t)

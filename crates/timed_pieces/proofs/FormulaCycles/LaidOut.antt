@@ -21,8 +21,12 @@ use Rattle.report_rows.specs.Costs.{end_of}
 use Rattle.timed_pieces.specs.FormulaCycles.Ends.{targets, followers, Among, LoopsLeadToTheirEnds}
 use Rattle.hls_base.specs.declared.number.VarId.{VarId}
 use Rattle.passes.specs.Conversion.{converted_sequence}
-use Rattle.timed_pieces.specs.FlatRuns.{numbering_of, conversion_of, tree_of, numbered_of}
-use Rattle.timed_pieces.specs.FormulaCycles.Loops.{LoopsEnd}
+use Rattle.pieces.specs.Trees.{PieceTrees}
+use Rattle.c_meaning.specs.PieceRuns.Pieces.{Frame}
+use Rattle.timed_pieces.proofs.FusedPrograms.Nodes.{fused_alike}
+use Rattle.timed_pieces.proofs.FusedPrograms.Whole.{points_alike, lead_to_ends}
+use Rattle.timed_pieces.specs.FlatRuns.{Choice, IsUnfused, numbering_of, conversion_of, tree_of, numbered_of}
+use Rattle.timed_pieces.specs.FormulaCycles.Loops.{LoopsEnd, PiecesLoopsEnd}
 use Rattle.passes.specs.Lowering.Blocks.{begun}
 use Rattle.passes.specs.Lowering.{last}
 use Rattle.pass_runs.specs.LowerRuns.Suits.{scope_of}
@@ -99,7 +103,13 @@ lead cfg blocks returned laid_ first differ ends =
       alone = λ l region e i a at among. alone nodes l region (fit l (node.Looped region) e) (there l (node.Looped region) e) i a (fit i a at) among;
     }
 
-pub loops_lead : LaidOutLoopsLeadToTheirEnds
-loops_lead f choice pieces point returned cfg laid_ differ ends =
+pub unfused_lead : (f : Frame) (choice : Choice) (pieces : PieceTrees) (point : Point) (returned : Option VarId) (cfg : Cfg Untimed) → IsUnfused f choice pieces point returned cfg → PointsDiffer cfg.nodes.items → PiecesLoopsEnd pieces → LoopsLeadToTheirEnds cfg
+unfused_lead f choice pieces point returned cfg laid_ differ ends =
     lead cfg (converted_sequence (conversion_of f choice) (numbered_of f choice pieces point)) returned laid_.nodes laid_.first differ
     (converted_ends (conversion_of f choice) (numbered_of f choice pieces point) (numbered_ends (numbering_of f choice) (tree_of f pieces point) ((lowered_ends (scope_of f) pieces last ends last_ends).ends (begun point))))
+
+pub loops_lead : LaidOutLoopsLeadToTheirEnds
+loops_lead f choice pieces point returned cfg laid_ differ ends =
+    let alike = fused_alike choice.period laid_.unfused cfg laid_.fused in
+    lead_to_ends choice.period laid_.unfused cfg laid_.fused
+    (unfused_lead f choice pieces point returned laid_.unfused laid_.laid (points_alike cfg.nodes.items laid_.unfused.nodes.items (sym alike) differ) ends)

@@ -46,5 +46,5 @@ returns-clause-made c =
       within = c.in_ok-expanded.ensures.within;
       scheduled = made.scheduled;
       valid = made.circuit.valid;
-      promise = promise_of c.args.source.now soak_settings program index c.in_ok-checked.ensures.found faultless named report circuit made;
+      promise = promise_of c.args.source.now soak_settings program index c.in_ok-checked.ensures.found faultless named c.in_ok-expanded.ensures.within report circuit made;
     }

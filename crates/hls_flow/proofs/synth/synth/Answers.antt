@@ -79,7 +79,7 @@ texts_of-requires-clause-valid c = c.in_ok-compiled.ensures.made.circuit.valid
 pub texts_of-requires-clause-names : goal.texts_of-requires-clause-names
 texts_of-requires-clause-names c =
     let compiled = c.in_ok-compiled.compiled in
-    names_printable c.args.source.now c.args.settings.now (program_of c.in_ok-checked.checked.program) c.in_ok-checked.checked.top c.in_ok-checked.ensures.found c.in_ok-checked.ensures.faultless c.in_ok-checked.ensures.top
+    names_printable c.args.source.now c.args.settings.now (program_of c.in_ok-checked.checked.program) c.in_ok-checked.checked.top c.in_ok-checked.ensures.found c.in_ok-checked.ensures.faultless c.in_ok-checked.ensures.top c.in_ok-expanded.ensures.within
     (expanded_of c.in_ok-expanded.expanded) c.in_ok-expanded.ensures.made (plain_of compiled.report) (netlist_of compiled.design) c.in_ok-compiled.ensures.made
 
 pub texts_of-requires-clause-settings : goal.texts_of-requires-clause-settings

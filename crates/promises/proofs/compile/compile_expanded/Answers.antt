@@ -3,6 +3,7 @@ use Rattle.rtl_core.specs.Netlist.{netlist_of}
 use Rattle.cycle_report.specs.PlainReport.{plain_of, loop_of}
 use Rattle.pieces.specs.Program.{expanded_of}
 use Rattle.ir_lower.specs.Frames.{frame_view}
+use Rattle.compile_steps.specs.Flat.{passes_of}
 use Rattle.compile_steps.specs.Resets.{expanded_frame}
 use Rattle.compile_steps.proofs.Counting.{each_node_counts}
 use Rattle.compile_steps.proofs.Resets.{frame_is, reset_is}
@@ -11,12 +12,12 @@ use Rattle.promises.proofs.compile.compile_expanded.Goals as goal
 
 pub timed_program-requires : goal.timed_program-requires
 timed_program-requires c =
-    (c.requires.programs c.args.settings.now.plain c.in_ok-untimed.untimed c.in_ok-untimed.ensures.flat (c.in_ok-untimed.ensures.frame ∙ frame_is c.args.expanded.now)).forward
+    (c.requires.programs (passes_of c.args.settings.now) c.in_ok-untimed.untimed c.in_ok-untimed.ensures.flat (c.in_ok-untimed.ensures.frame ∙ frame_is c.args.expanded.now)).forward
 
 pub circuit_of-requires : goal.circuit_of-requires
 circuit_of-requires c =
     timed_buildable c.units_of-units.result c.in_ok-untimed.untimed c.in_ok-timed.field-0.timed (map loop_of c.in_ok-timed.field-0.loops.items) c.in_ok-timed.ensures
-    (c.requires.programs c.args.settings.now.plain c.in_ok-untimed.untimed c.in_ok-untimed.ensures.flat (c.in_ok-untimed.ensures.frame ∙ frame_is c.args.expanded.now))
+    (c.requires.programs (passes_of c.args.settings.now) c.in_ok-untimed.untimed c.in_ok-untimed.ensures.flat (c.in_ok-untimed.ensures.frame ∙ frame_is c.args.expanded.now))
 
 pub returns-clause-longer : goal.returns-clause-longer
 returns-clause-longer c =

@@ -16,7 +16,6 @@ use Rattle.clock_machine.specs.Standing.{IsWholeBody, body_at}
 use Rattle.clock_machine.proofs.Orderly.{steady_of}
 use Rattle.clock_runs.specs.Premises.{Each, IsSoundNode, IsSoundProgram}
 use Rattle.clock_runs.proofs.Lists.{each_get}
-use Rattle.flat_programs.specs.Laws.{LayoutIsWhole}
 use Rattle.timed_pieces.proofs.ScheduleRuns.Programs.{scheduled_well}
 use Rattle.timed_pieces.proofs.SoundPrograms.Whole.{sound}
 use Rattle.source_validity.specs.SourceMachines.WholePrograms.{IsReady, WellTimedIsReady, ScheduledIsReady}
@@ -46,6 +45,6 @@ module _ (cfg : Cfg Untimed) (timed : Cfg Timed) (sound : IsSoundProgram cfg) (w
 pub well_timed_ready : WellTimedIsReady
 well_timed_ready cfg timed whole sound well = ready_of cfg timed sound well (λ i n is. (whole.outs i n is, whole.arrays i n is))
 
-pub scheduled_ready : LayoutIsWhole → ScheduledIsReady
-scheduled_ready layout f choice kept pieces point returned cfg fine subscripts laid units timed rows times =
-    ready_of cfg timed (sound f choice kept pieces point returned cfg fine subscripts laid) (scheduled_well units cfg timed rows times.frame times.first times.nodes) (laid_there layout f choice kept pieces point returned cfg fine laid)
+pub scheduled_ready : ScheduledIsReady
+scheduled_ready f choice kept pieces point returned cfg fine subscripts laid units timed rows times =
+    ready_of cfg timed (sound f choice kept pieces point returned cfg fine subscripts laid) (scheduled_well units cfg timed rows times.frame times.first times.nodes) (laid_there f choice pieces point returned cfg laid)

@@ -2,4 +2,4 @@ use Rattle.source_validity.proofs.SourceMachines.WholePrograms.Whole.{scheduled_
 use Rattle.source_validity.proofs.source_machines.whole_programs.scheduled_is_ready.Goals as goal
 
 pub returns : goal.returns
-returns c = scheduled_ready c.layout_is_whole.ensures
+returns c = scheduled_ready

@@ -1,0 +1,13 @@
+pub mod Trees
+pub mod Bridge
+pub mod Choices
+pub mod Kept
+pub mod Moved
+pub mod States
+pub mod Fused
+pub mod Making
+pub mod Outs
+pub mod Programs
+pub mod Skeletons
+pub mod Forward
+pub mod Whole

@@ -1,0 +1,10 @@
+pub mod Reads
+pub mod Subscripts
+pub mod Pairs
+pub mod Fusing
+pub mod Views
+pub mod Forward
+pub mod Laws
+pub mod Reaching
+pub mod ValidFusing
+pub mod Skeletons
