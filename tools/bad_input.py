@@ -86,7 +86,7 @@ def words():
         ["link", "s.v", "2", "s.v"], ["link", "o.v", "2", "s.v", "t.v", "s.v"],
         ["synth", "x", "x", "y", "--top", "f"],
     ]
-    for option, most in (("--mul", 8), ("--div", 4), ("--ports", 2)):
+    for option, most in (("--mul", 8), ("--div", 4), ("--ports", 2), ("--period", 1000)):
         wrong += [[*SYNTH, option, value] for value in ("0", str(most + 1), "-1", "x", "", "1.0", "99999999999999999999999")] + [[*SYNTH, option]]
         wrong.append([*SYNTH, option, "1", option, "1"])
         yield Case(f"words {option} {most}", 0, "made hls_f", words=[*SYNTH, option, str(most)])

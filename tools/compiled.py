@@ -77,7 +77,7 @@ class Arguments:
             self.folder = value
         elif name in own:
             self.own[name] = value
-        elif name in ("--mul", "--div", "--ports", *RUN_OPTIONS):
+        elif name in ("--mul", "--div", "--ports", "--period", *RUN_OPTIONS):
             self.options += [name, value]
         else:
             sys.exit(usage)

@@ -16,7 +16,7 @@ import sys
 
 ROOT = pathlib.Path(__file__).resolve().parent.parent
 COMMANDS = {
-    "synth": "synth SRC MOD REP --top NAME [--mul 1..8] [--div 1..4] [--ports 1..2] [--plain]",
+    "synth": "synth SRC MOD REP --top NAME [--mul 1..8] [--div 1..4] [--ports 1..2] [--period 1..1000] [--plain]",
     "cosim": "cosim SRC MOD REP RUN --top NAME [--points N] [--cycles N]",
     "soak": "soak NUMBER",
     "timing": "timing MOD",
@@ -26,7 +26,7 @@ COMMANDS = {
 FILES = {"synth": ("SRC", "MOD", "REP"), "cosim": ("SRC", "MOD", "REP", "RUN"), "timing": ("MOD",), "blast": ("MOD", "AIG")}
 WRITTEN = {"synth": ("MOD", "REP"), "blast": ("AIG",), "link": ("OUT",)}
 RANGES = {
-    "synth": {"--mul": (1, 8), "--div": (1, 4), "--ports": (1, 2)},
+    "synth": {"--mul": (1, 8), "--div": (1, 4), "--ports": (1, 2), "--period": (1, 1000)},
     "cosim": {"--points": (1, 10**9), "--cycles": (1, 10**9)},
 }
 HELP = """hls: compiles a C function to a clocked Verilog module, and reports its exact cycles
@@ -45,6 +45,7 @@ Options of synth
     --mul 1..8      multipliers of each width (1)
     --div 1..4      dividers of each width (1)
     --ports 1..2    ports of each memory (1)
+    --period N      makes two operators one where their delays are at most N (1 to 1000)
     --plain         pipelines no loop
 Options of cosim
     --top NAME      the function that was compiled

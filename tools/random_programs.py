@@ -342,7 +342,7 @@ class Writer:
 
     def drawn_options(self):
         words = []
-        for option, most, share in (("--mul", 8, 0.4), ("--div", 4, 0.3), ("--ports", 2, 0.4)):
+        for option, most, share in (("--mul", 8, 0.4), ("--div", 4, 0.3), ("--ports", 2, 0.4), ("--period", 130, 0.4)):
             words += [option, str(self.draw.randint(1, most))] if self.chance(share) else []
         return words + (["--plain"] if self.chance(0.25) else [])
 

@@ -29,7 +29,7 @@ with_rules name rules = fold with_rule (new_app name) rules
 abbrev pub synth_app : App
 synth_app = with_rules (codes "synth")
     (positional (codes "source") ∷ positional (codes "module") ∷ positional (codes "report")
-    ∷ required_option (codes "top") ∷ option (codes "mul") ∷ option (codes "div") ∷ option (codes "ports") ∷ flag (codes "plain") ∷ [])
+    ∷ required_option (codes "top") ∷ option (codes "mul") ∷ option (codes "div") ∷ option (codes "ports") ∷ option (codes "period") ∷ flag (codes "plain") ∷ [])
 
 abbrev pub cosim_app : App
 cosim_app = with_rules (codes "cosim")

@@ -27,6 +27,7 @@ options_in rows = record {
   mul = first_of (codes "mul") rows;
   div = first_of (codes "div") rows;
   ports = first_of (codes "ports") rows;
+  period = first_of (codes "period") rows;
   points = first_of (codes "points") rows;
   cycles = first_of (codes "cycles") rows;
   plain = is_set (codes "plain") rows;

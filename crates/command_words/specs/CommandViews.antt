@@ -9,7 +9,7 @@ use Rattle.command_words.specs.declared.command.Command.TheVariants as command
 use Rattle.command_words.specs.Commands as spec
 
 abbrev pub synth_view : Synth → spec.Synth
-synth_view s = record { source = s.source.now; module_file = s.module_file.now; report = s.report.now; top = s.top.now; mul = s.mul; div = s.div; ports = s.ports; plain = s.plain }
+synth_view s = record { source = s.source.now; module_file = s.module_file.now; report = s.report.now; top = s.top.now; mul = s.mul; div = s.div; ports = s.ports; period = s.period; plain = s.plain }
 
 abbrev pub cosim_view : Cosim → spec.Cosim
 cosim_view c = record { source = c.source.now; module_file = c.module_file.now; report = c.report.now; run = c.run.now; top = c.top.now; points = c.points; cycles = c.cycles }
@@ -36,6 +36,7 @@ pub record HasRange (s : spec.Synth) : Type 0 where
   pub div_high : s.div ≤ 4
   pub ports_low : 1 ≤ s.ports
   pub ports_high : s.ports ≤ 2
+  pub period_high : s.period ≤ 1000
 
 -- no two of its files are one
 pub record NamesThreeFiles (s : spec.Synth) : Type 0 where

@@ -15,6 +15,7 @@ pub record Synth : Type 0 where
   pub mul : ℕ
   pub div : ℕ
   pub ports : ℕ
+  pub period : ℕ
   pub plain : Bool
 
 -- the names of the four files, that of the top function, and the limits
@@ -51,14 +52,19 @@ abbrev pub all_differ : List (List ℕ) → Bool
 all_differ [] = true
 all_differ (n ∷ ns) = not (list_any (bytes_eq n) ns) && all_differ ns
 
+-- the period, 0 where there is none
+abbrev pub period_of : Option (List ℕ) → Option ℕ
+period_of None = Some 0
+period_of (Some word) = number_in 1 1000 word
+
 abbrev pub synth_numbers : Synth → Options → Option Synth
 synth_numbers s o =
-    option_and_then (λ mul. option_and_then (λ div. option_map (λ ports. record s { mul = mul; div = div; ports = ports }) (number_or 1 2 1 o.ports)) (number_or 1 4 1 o.div)) (number_or 1 8 1 o.mul)
+    option_and_then (λ mul. option_and_then (λ div. option_and_then (λ ports. option_map (λ period. record s { mul = mul; div = div; ports = ports; period = period }) (period_of o.period)) (number_or 1 2 1 o.ports)) (number_or 1 4 1 o.div)) (number_or 1 8 1 o.mul)
 
 abbrev pub synth_with : List ℕ → List ℕ → List ℕ → Options → Option Command
 synth_with source module_file report o =
     if is_some o.points || is_some o.cycles then None
-    else option_and_then (λ top. option_map synth (synth_numbers (record { source = source; module_file = module_file; report = report; top = top; mul = 1; div = 1; ports = 1; plain = o.plain }) o)) o.top
+    else option_and_then (λ top. option_map synth (synth_numbers (record { source = source; module_file = module_file; report = report; top = top; mul = 1; div = 1; ports = 1; period = 0; plain = o.plain }) o)) o.top
 
 abbrev pub greatest_limit : ℕ
 greatest_limit = 1000000000
@@ -69,7 +75,7 @@ cosim_numbers c o =
 
 abbrev pub cosim_with : List ℕ → List ℕ → List ℕ → List ℕ → Options → Option Command
 cosim_with source module_file report run o =
-    if is_some o.mul || (is_some o.div || (is_some o.ports || o.plain)) then None
+    if is_some o.mul || (is_some o.div || (is_some o.ports || (is_some o.period || o.plain))) then None
     else option_and_then (λ top. option_map cosim (cosim_numbers (record { source = source; module_file = module_file; report = report; run = run; top = top; points = 1; cycles = 1 }) o)) o.top
 
 abbrev pub blast_with : List ℕ → List ℕ → Option Command

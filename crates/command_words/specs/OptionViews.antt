@@ -6,7 +6,7 @@ use Rattle.command_words.specs.declared.options.Reading.{Reading}
 use Rattle.command_words.specs.Options as spec
 
 abbrev pub options_view : Options → spec.Options
-options_view o = record { top = option_map (λ w. w.now) o.top; mul = option_map (λ w. w.now) o.mul; div = option_map (λ w. w.now) o.div; ports = option_map (λ w. w.now) o.ports; points = option_map (λ w. w.now) o.points; cycles = option_map (λ w. w.now) o.cycles; plain = o.plain }
+options_view o = record { top = option_map (λ w. w.now) o.top; mul = option_map (λ w. w.now) o.mul; div = option_map (λ w. w.now) o.div; ports = option_map (λ w. w.now) o.ports; period = option_map (λ w. w.now) o.period; points = option_map (λ w. w.now) o.points; cycles = option_map (λ w. w.now) o.cycles; plain = o.plain }
 
 -- the options that words give behind those that were read
 abbrev pub reading_behind : Option Reading → List (List ℕ) → Option spec.Options

@@ -9,12 +9,13 @@ pub record Options : Type 0 where
   pub mul : Option (List ℕ)
   pub div : Option (List ℕ)
   pub ports : Option (List ℕ)
+  pub period : Option (List ℕ)
   pub points : Option (List ℕ)
   pub cycles : Option (List ℕ)
   pub plain : Bool
 
 abbrev pub no_options : Options
-no_options = record { top = None; mul = None; div = None; ports = None; points = None; cycles = None; plain = false }
+no_options = record { top = None; mul = None; div = None; ports = None; period = None; points = None; cycles = None; plain = false }
 
 -- an option that has a value takes no other
 abbrev pub filled : Option (List ℕ) → Options → Option Options
@@ -28,9 +29,10 @@ given o name value =
     else (if bytes_eq name (codes "--mul") then filled o.mul (record o { mul = Some value })
     else (if bytes_eq name (codes "--div") then filled o.div (record o { div = Some value })
     else (if bytes_eq name (codes "--ports") then filled o.ports (record o { ports = Some value })
+    else (if bytes_eq name (codes "--period") then filled o.period (record o { period = Some value })
     else (if bytes_eq name (codes "--points") then filled o.points (record o { points = Some value })
     else (if bytes_eq name (codes "--cycles") then filled o.cycles (record o { cycles = Some value })
-    else None)))))
+    else None))))))
 
 abbrev pub flagged : Options → Option Options
 flagged o = if o.plain then None else Some (record o { plain = true })

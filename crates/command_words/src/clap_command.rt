@@ -54,6 +54,7 @@ fn synth_app<'a>(alloc: Global) -> Result<Command<'a>, AllocError>
         .arg(option(alloc, "mul"))?
         .arg(option(alloc, "div"))?
         .arg(option(alloc, "ports"))?
+        .arg(option(alloc, "period"))?
         .arg(flag(alloc, "plain"))
 }
 

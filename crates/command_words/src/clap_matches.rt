@@ -43,6 +43,7 @@ fn options_in<'a>(matches: &ArgMatches<'a>) -> Options<'a>
         mul: value_of(matches, "mul"),
         div: value_of(matches, "div"),
         ports: value_of(matches, "ports"),
+        period: value_of(matches, "period"),
         points: value_of(matches, "points"),
         cycles: value_of(matches, "cycles"),
         plain: is_set(matches, "plain"),

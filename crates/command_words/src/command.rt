@@ -22,6 +22,8 @@ pub struct Synth<'a> {
     pub mul: u8,
     pub div: u8,
     pub ports: u8,
+    /// 1 to 1,000, and 0 where no operators are to be fused.
+    pub period: u32,
     pub plain: bool,
 }
 
@@ -91,6 +93,22 @@ fn limit(word: Option<&str>) -> Option<u64>
     number_or(1, GREATEST_LIMIT, LIMIT, word)
 }
 
+/// The greatest period.
+const GREATEST_PERIOD: u64 = 1_000;
+
+fn period_of(word: Option<&str>) -> Option<u32>
+    ensures value { result ≡ spec.period_of (option_map (λ w. w.now) word.entry) }
+    ensures range { IfSome result (λ n. n ≤ 1000) }
+{
+    match word {
+        None => Some(0),
+        Some(word) => match number_in(1, GREATEST_PERIOD, word) {
+            Some(n) => Some(n as u32),
+            None => None,
+        },
+    }
+}
+
 fn depth_of(word: &str) -> Option<u16>
     ensures value { result ≡ number_in 1 spec.greatest_depth word.now }
     ensures range { IfSome result (λ n. (1 ≤ n) × (n ≤ spec.greatest_depth)) }
@@ -110,10 +128,12 @@ fn synth_numbers<'a>(command: Synth<'a>, options: &Options<'a>) -> Option<Synth<
     let mul = small_or_one(8, options.mul)?;
     let div = small_or_one(4, options.div)?;
     let ports = small_or_one(2, options.ports)?;
+    let period = period_of(options.period)?;
     let mut all = command;
     all.mul = mul;
     all.div = div;
     all.ports = ports;
+    all.period = period;
     Some(all)
 }
 
@@ -153,6 +173,7 @@ pub(crate) fn synth_with<'a>(
         mul: 1,
         div: 1,
         ports: 1,
+        period: 0,
         plain: options.plain,
     };
     synth_numbers(command, options)
@@ -169,7 +190,12 @@ pub(crate) fn cosim_with<'a>(
     ensures value { option_map spec.cosim (option_map cosim_view result) ≡ spec.cosim_with source.now module_file.now report.now run.now (options_view options.now) }
     ensures limits { IfSome result (λ c. HasLimits (cosim_view c)) }
 {
-    if options.mul.is_some() || options.div.is_some() || options.ports.is_some() || options.plain {
+    if options.mul.is_some()
+        || options.div.is_some()
+        || options.ports.is_some()
+        || options.period.is_some()
+        || options.plain
+    {
         return None;
     }
     let top = options.top?;

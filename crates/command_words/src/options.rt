@@ -14,6 +14,7 @@ pub struct Options<'a> {
     pub mul: Option<&'a str>,
     pub div: Option<&'a str>,
     pub ports: Option<&'a str>,
+    pub period: Option<&'a str>,
     pub points: Option<&'a str>,
     pub cycles: Option<&'a str>,
     pub plain: bool,
@@ -24,6 +25,7 @@ const NONE: Options<'static> = Options {
     mul: None,
     div: None,
     ports: None,
+    period: None,
     points: None,
     cycles: None,
     plain: false,
@@ -46,6 +48,9 @@ fn given<'a>(options: Options<'a>, name: &str, value: &'a str) -> Option<Options
     } else if is_word(name, "--ports") {
         all.ports = Some(value);
         options.ports
+    } else if is_word(name, "--period") {
+        all.period = Some(value);
+        options.period
     } else if is_word(name, "--points") {
         all.points = Some(value);
         options.points

@@ -23,8 +23,8 @@ fn shown_link(alloc: Global, link: &Link<'_>) -> Result<String, AllocError> {
 fn shown_words(alloc: Global, words: &[String]) -> Result<String, AllocError> {
     match read_words(alloc, words)? {
         Some(Command::Synth(s)) => format!(in alloc;
-            "synth {} {} {} {} {} {} {} {}",
-            s.source, s.module_file, s.report, s.top, s.mul, s.div, s.ports, s.plain
+            "synth {} {} {} {} {} {} {} {} {}",
+            s.source, s.module_file, s.report, s.top, s.mul, s.div, s.ports, s.period, s.plain
         ),
         Some(Command::Cosim(c)) => format!(in alloc;
             "cosim {} {} {} {} {} {} {}",
@@ -46,14 +46,18 @@ fn shown(alloc: Global, line: &str) -> Result<String, AllocError> {
 #[test]
 fn plain_form(rt: HostRuntime) -> Result<(), AllocError> {
     for (line, want) in [
-        ("synth c v r --top f", "synth c v r f 1 1 1 false"),
+        ("synth c v r --top f", "synth c v r f 1 1 1 0 false"),
         (
             "synth c v r --plain --mul 008 --top f",
-            "synth c v r f 8 1 1 true",
+            "synth c v r f 8 1 1 0 true",
+        ),
+        (
+            "synth c v r --period 64 --top f",
+            "synth c v r f 1 1 1 64 false",
         ),
         (
             "synth c v r --top f --ports 2 --div 4",
-            "synth c v r f 1 4 2 false",
+            "synth c v r f 1 4 2 0 false",
         ),
         (
             "cosim c v r run --cycles 10 --top f",
@@ -79,17 +83,17 @@ fn plain_form(rt: HostRuntime) -> Result<(), AllocError> {
 #[test]
 fn other_forms(rt: HostRuntime) -> Result<(), AllocError> {
     for (line, want) in [
-        ("synth --top=f c v r", "synth c v r f 1 1 1 false"),
+        ("synth --top=f c v r", "synth c v r f 1 1 1 0 false"),
         (
             "synth c --mul=3 v --plain r --top f",
-            "synth c v r f 3 1 1 true",
+            "synth c v r f 3 1 1 0 true",
         ),
         (
             "synth --top f --ports 2 -- -c -v --top",
-            "synth -c -v --top f 1 1 2 false",
+            "synth -c -v --top f 1 1 2 0 false",
         ),
-        ("synth c v --top f -- r", "synth c v r f 1 1 1 false"),
-        ("synth c v r --top=-f", "synth c v r -f 1 1 1 false"),
+        ("synth c v --top f -- r", "synth c v r f 1 1 1 0 false"),
+        ("synth c v r --top=-f", "synth c v r -f 1 1 1 0 false"),
         (
             "cosim --points=7 c v --top=f r run",
             "cosim c v r run f 7 1000000",
@@ -141,7 +145,8 @@ fn no_command(rt: HostRuntime) -> Result<(), AllocError> {
         "synth c v r --top f --mul 9",
         "synth c v r --top f --mul=0",
         "synth c v r --top f --points 1",
-        "synth c v r --top f --period 5",
+        "synth c v r --top f --period 0",
+        "synth c v r --top f --period 1001",
         "synth c v r --to f",
         "synth c v r --top f more",
         "--top f synth c v r",

@@ -37,4 +37,4 @@ abbrev pub IsOnModules : List (List ℕ) → Type 0
 IsOnModules words = ((m : List ℕ) × IsTimingOf words m) ⊎ (((c : Blast) × IsBlastOf words c) ⊎ ((c : Link) × IsLinkOf words c))
 
 abbrev pub settings_of : Synth → Settings
-settings_of c = record { top = c.top; mul = c.mul; div = c.div; ports = c.ports; plain = c.plain; period = 0 }
+settings_of c = record { top = c.top; mul = c.mul; div = c.div; ports = c.ports; plain = c.plain; period = c.period }

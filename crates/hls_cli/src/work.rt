@@ -51,7 +51,7 @@ fn settings_of(alloc: Global, command: &Synth) -> Result<Settings, AllocError>
         div: command.div,
         ports: command.ports,
         plain: command.plain,
-        period: 0,
+        period: command.period,
     })
 }
 

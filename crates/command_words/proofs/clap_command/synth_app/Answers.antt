@@ -11,7 +11,8 @@ returns-clause-app c =
     let app-5 = rule_added _ _ _ _ _ c.in_ok-arg-5.ensures c.option.ensures.local c.option.ensures.rule app-4 in
     let app-6 = rule_added _ _ _ _ _ c.in_ok-arg-6.ensures c.option-2.ensures.local c.option-2.ensures.rule app-5 in
     let app-7 = rule_added _ _ _ _ _ c.in_ok-arg-7.ensures c.option-3.ensures.local c.option-3.ensures.rule app-6 in
-    IfOk-weaker c.arg-8.result _ _ (λ last added. rule_added _ last _ _ _ added c.flag.ensures.local c.flag.ensures.rule app-7) c.arg-8.ensures
+    let app-8 = rule_added _ _ _ _ _ c.in_ok-arg-8.ensures c.option-4.ensures.local c.option-4.ensures.rule app-7 in
+    IfOk-weaker c.arg-9.result _ _ (λ last added. rule_added _ last _ _ _ added c.flag.ensures.local c.flag.ensures.rule app-8) c.arg-9.ensures
 
 pub returns-clause-local : goal.returns-clause-local
 returns-clause-local c =
@@ -22,4 +23,5 @@ returns-clause-local c =
     let local-5 = stays_local _ _ _ c.in_ok-arg-5.ensures c.option.ensures.local local-4 in
     let local-6 = stays_local _ _ _ c.in_ok-arg-6.ensures c.option-2.ensures.local local-5 in
     let local-7 = stays_local _ _ _ c.in_ok-arg-7.ensures c.option-3.ensures.local local-6 in
-    IfOk-weaker c.arg-8.result _ _ (λ last added. stays_local _ last _ added c.flag.ensures.local local-7) c.arg-8.ensures
+    let local-8 = stays_local _ _ _ c.in_ok-arg-8.ensures c.option-4.ensures.local local-7 in
+    IfOk-weaker c.arg-9.result _ _ (λ last added. stays_local _ last _ added c.flag.ensures.local local-8) c.arg-9.ensures

@@ -1,0 +1,1 @@
+unsigned f(unsigned a,unsigned b,unsigned c){return a^b^c;}
